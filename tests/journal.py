@@ -27,7 +27,7 @@ class Entry(NamedTuple):
 
 
 # The number of parts before a line of the wire, which is the last part and may hold spaces.
-LINES = {"ask": 3, "put": 2, "got": 1}
+LINES = {"lead": 2, "ask": 3, "put": 2, "got": 1}
 
 
 class Journal(NamedTuple):
@@ -47,7 +47,7 @@ class Journal(NamedTuple):
 
     def written(self, child):
         """The lines that the host wrote to the child."""
-        lines = [entry.line for entry in self.of("ask", "put") if entry.child == child]
+        lines = [entry.line for entry in self.of("lead", "ask", "put") if entry.child == child]
         return lines[: len([entry for entry in self.of("sent") if entry.child == child])]
 
     def heard(self, child):

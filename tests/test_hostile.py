@@ -330,6 +330,6 @@ class Trial:
         for child, (_, heard, said) in zip(starts, logs):
             fed = journal.heard(child)
             expect(fed, said[:len(fed)], f"{self}: what child {child} said")
-            owed = [entry.line for entry in journal.of("ask", "put") if entry.child == child]
+            owed = [entry.line for entry in journal.of("lead", "ask", "put") if entry.child == child]
             expect(heard, owed[:len(heard)], f"{self}: what child {child} heard")
 

@@ -10,11 +10,12 @@ use Rattle.annex_model.proofs.Parts.{both}
 use Rattle.annex_model.proofs.TalksGrow.{Conv-push, said-push, replied-push, from_remote}
 
 -- a request has a line
-asks_some : (q : HostMessage) (more : List (Side × List ℕ)) → [] ≡ of_host (request_lines q) ++ more → ⊥
-asks_some q more h = cc
+asks_some : (lead : List (List ℕ)) (q : HostMessage) (more : List (Side × List ℕ)) → [] ≡ of_host (request_lines lead q) ++ more → ⊥
+asks_some [] q more h = cc
+asks_some (line ∷ lead) q more h = cc
 
 not_empty : (replies : ℕ → List (List ℕ)) (q : HostMessage) (part : List Item) → IsReplied replies q part → part ≡ [] → ⊥
-not_empty replies q part h e = asks_some q (flat_map (with_replies replies) (remote_items part)) (sym (ap (map shown) e) ∙ h)
+not_empty replies q part h e = asks_some h.lead q (flat_map (with_replies replies) (remote_items part)) (sym (ap (map shown) e) ∙ h.lines)
 
 -- ---- what ends an answer of each shape
 

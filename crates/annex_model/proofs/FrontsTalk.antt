@@ -4,7 +4,7 @@ use Rattle.std.specs.Prelude.{IsSome, ◌&&◌, map, filter}
 use Rattle.std.specs.List.{flat_map, last_or}
 use Rattle.std.proofs.lemmas.List.Elements.{filter-append}
 use Rattle.annex_model.specs.Messages.{RemoteMessage, HostMessage, remote_reading}
-use Rattle.annex_model.specs.Talks.{Item, Conv, ConvFront, Talking, IsReplied, shown, of_host, request_lines, is_remote, remote_items, said, with_replies, final_of, awaits, item_is_aside, is_final_item, begins_with_remote}
+use Rattle.annex_model.specs.Talks.{Item, Conv, ConvFront, Talking, AreReplied, IsReplied, shown, of_host, request_lines, is_remote, remote_items, said, with_replies, final_of, awaits, item_is_aside, is_final_item, begins_with_remote}
 use Rattle.annex_model.proofs.Awaiting.{before_awaits}
 use Rattle.annex_model.proofs.Cutting.{Shown, hosts_of, blocks, cut, begins}
 use Rattle.annex_model.proofs.TalksGrow.{map-append, flat_map-append}
@@ -58,20 +58,24 @@ module _ (replies : ℕ → List (List ℕ)) (q : HostMessage) where
           before_awaits q (said part) m ms
           (subst (λ (xs : List (Option RemoteMessage)). IsSome (final_of q xs)) (said-append part (i ∷ rest) ∙ ap (λ (xs : List (Option RemoteMessage)). said part ++ xs) says) c.answer)
 
-  replied_before : (part : List Item) (i : Item) (rest : List Item) → is_remote i.side ≡ true
-      → IsReplied replies q (part ++ i ∷ rest) → IsReplied replies q part
-  replied_before part i rest remote h =
-      let lines : List Shown = of_host (request_lines q) in
+  lines_before : (lead : List (List ℕ)) (part : List Item) (i : Item) (rest : List Item) → is_remote i.side ≡ true
+      → AreReplied replies lead q (part ++ i ∷ rest) → AreReplied replies lead q part
+  lines_before lead part i rest remote h =
+      let lines : List Shown = of_host (request_lines lead q) in
       let z : List Shown = shown i ∷ map shown rest in
       let w : List Shown = blocks replies (i ∷ rest) in
       let parted : map shown part ++ z ≡ lines ++ (blocks replies part ++ w) =
       sym (map-append shown part (i ∷ rest)) ∙ h
       ∙ ap (λ (ss : List Shown). lines ++ ss)
       (ap (flat_map (with_replies replies)) (remote_items-append part (i ∷ rest)) ∙ flat_map-append (with_replies replies) (remote_items part) (remote_items (i ∷ rest))) in
-      cut replies part lines z w (hosts_of (request_lines q)) remote (begin remote) parted
+      cut replies part lines z w (hosts_of (request_lines lead q)) remote (begin remote) parted
     where
       begin : is_remote i.side ≡ true → begins (blocks replies (i ∷ rest)) ≡ true
       begin e = ap (λ (b : Bool). begins (flat_map (with_replies replies) (cond b (i ∷ remote_items rest) (remote_items rest)))) e ∙ e
+
+  replied_before : (part : List Item) (i : Item) (rest : List Item) → is_remote i.side ≡ true
+      → IsReplied replies q (part ++ i ∷ rest) → IsReplied replies q part
+  replied_before part i rest remote h = record { lead = h.lead; leads = h.leads; lines = lines_before h.lead part i rest remote h.lines }
 
   pub front_talks : (part : List Item) → ConvFront replies q part → Talking replies q part ⊎ Conv replies q part
   front_talks part f = by_more part f.begun f.more f.goes_on f.replied

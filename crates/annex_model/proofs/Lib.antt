@@ -3,6 +3,7 @@ pub mod Classes
 pub mod Cutting
 pub mod Fronts
 pub mod FrontsTalk
+pub mod Leads
 pub mod Parts
 pub mod Readings
 pub mod Rows

@@ -2,10 +2,10 @@
 use Rattle.std.proofs.Common.{◌≡◌, ℕ, List, [], ◌∷◌, ◌++◌, refl, sym, ap, subst, ◌∙◌, append_assoc, append-nil, Bool, true, false, Some, None, Option, ◌⊎◌, inl, inr}
 use Rattle.std.specs.Prelude.{IsSome, if◌then◌else◌}
 use Rattle.annex_model.specs.declared.final_line.Final.{Final}
-use Rattle.annex_model.specs.Messages.{RemoteMessage, HostMessage, IsAskable, remote_reading, host_reading, host_line}
-use Rattle.annex_model.specs.Talks.{Item, Side, Host, Conv, ConvFront, Talking, IsReplied, shown, said, is_aside, spells_aside, final_of, awaits, item_is_aside}
+use Rattle.annex_model.specs.Messages.{RemoteMessage, HostMessage, IsAskable, remote_reading}
+use Rattle.annex_model.specs.Talks.{Item, Conv, ConvFront, Talking, IsReplied, said, is_aside, spells_aside, final_of, awaits, item_is_aside}
 use Rattle.annex_model.specs.Hearings.{Aside, Strange, by_answer, hearing_of, hearing, request_in}
-use Rattle.annex_model.proofs.Readings.{canonical_read}
+use Rattle.annex_model.proofs.Leads.{part_asks}
 use Rattle.annex_model.proofs.Awaiting.{before_awaits}
 use Rattle.annex_model.proofs.Fronts.{front_of}
 use Rattle.annex_model.proofs.FrontsTalk.{front_talks, said-append}
@@ -35,23 +35,12 @@ module _ (replies : ℕ → List (List ℕ)) (q : HostMessage) (part : List Item
       go (inl t) = t.replied
       go (inr c) = c.replied
 
-  -- the request that the part begins with is this one
-  asked : IsAskable q → IsReplied replies q part → request_in part ≡ Some q
-  asked askable replied = go part replied
-    where
-      go : (p : List Item) → IsReplied replies q p → request_in p ≡ Some q
-      go [] h = absurd cc
-      go (i ∷ rest) h = ap host_reading (text_is i rest h) ∙ canonical_read q askable
-        where
-          text_is : (i : Item) (rest : List Item) → IsReplied replies q (i ∷ rest) → i.text ≡ host_line q
-          text_is i rest h = let e : shown i ≡ (Host, host_line q) = cc in ap (λ (s : Side × List ℕ). s.1) e
-
   module _ (at : ℕ) (text : List ℕ) (m : RemoteMessage) where
     plain_hearing : IsAskable q → ConvFront replies q part → is_aside m ≡ false
         → hearing part m ≡ by_answer (final_of q (said part ++ Some m ∷ [])) (awaits q (said part ++ Some m ∷ []))
     plain_hearing askable front plain =
         ap (λ (b : Bool). if b then Aside else hearing_of (request_in part) (said part ++ Some m ∷ [])) plain
-        ∙ ap (λ (r : Option HostMessage). hearing_of r (said part ++ Some m ∷ [])) (asked askable (replied_of front))
+        ∙ ap (λ (r : Option HostMessage). hearing_of r (said part ++ Some m ∷ [])) (part_asks replies q part askable (replied_of front))
 
     line_is_plain : remote_reading text ≡ Some m → is_aside m ≡ false → item_is_aside (from_remote at text) ≡ false
     line_is_plain reads plain = ap spells_aside reads ∙ plain

@@ -4,7 +4,7 @@ use Rattle.std.specs.Prelude.{IsSome, map, filter}
 use Rattle.std.specs.List.{flat_map, last_or}
 use Rattle.std.proofs.lemmas.List.Elements.{filter-append}
 use Rattle.annex_model.specs.Messages.{RemoteMessage, HostMessage, remote_reading}
-use Rattle.annex_model.specs.Talks.{Item, Host, Remote, awaits, Conv, Talking, IsReplied, shown, of_host, request_lines, remote_items, said, with_replies, final_of, item_is_aside, is_remote}
+use Rattle.annex_model.specs.Talks.{Item, Host, Remote, awaits, Conv, Talking, AreReplied, IsReplied, shown, of_host, request_lines, remote_items, said, with_replies, final_of, item_is_aside, is_remote}
 
 pub map-append : {X Y : Type 0} (f : X → Y) (xs ys : List X) → map f (xs ++ ys) ≡ map f xs ++ map f ys
 map-append f [] ys = refl
@@ -32,19 +32,23 @@ said-push part at text plain =
     ∙ ap (map (λ (x : Item). remote_reading x.text)) (filter-append (λ (x : Item). not (item_is_aside x)) (remote_items part) (i ∷ []) ∙ ap (λ (xs : List Item). filter (λ (x : Item). not (item_is_aside x)) (remote_items part) ++ xs) kept)
     ∙ map-append (λ (x : Item). remote_reading x.text) (filter (λ (x : Item). not (item_is_aside x)) (remote_items part)) (i ∷ [])
 
-pub replied-push : (replies : ℕ → List (List ℕ)) (q : HostMessage) (part : List Item) (at : ℕ) (text : List ℕ)
-    → item_is_aside (from_remote at text) ≡ false → IsReplied replies q part → IsReplied replies q (part ++ from_remote at text ∷ [])
-replied-push replies q part at text plain h =
+lines-push : (replies : ℕ → List (List ℕ)) (lead : List (List ℕ)) (q : HostMessage) (part : List Item) (at : ℕ) (text : List ℕ)
+    → item_is_aside (from_remote at text) ≡ false → AreReplied replies lead q part → AreReplied replies lead q (part ++ from_remote at text ∷ [])
+lines-push replies lead q part at text plain h =
     let i = from_remote at text in
     let items : remote_items (part ++ i ∷ []) ≡ remote_items part ++ i ∷ [] = filter-append (λ (x : Item). is_remote x.side) part (i ∷ []) in
     let one : flat_map (with_replies replies) (i ∷ []) ≡ shown i ∷ [] = rw plain refl in
     map-append shown part (i ∷ [])
     ∙ ap (λ xs. xs ++ shown i ∷ []) h
-    ∙ append_assoc (of_host (request_lines q)) (flat_map (with_replies replies) (remote_items part)) (shown i ∷ [])
-    ∙ ap (λ xs. of_host (request_lines q) ++ xs)
+    ∙ append_assoc (of_host (request_lines lead q)) (flat_map (with_replies replies) (remote_items part)) (shown i ∷ [])
+    ∙ ap (λ xs. of_host (request_lines lead q) ++ xs)
     (ap (λ xs. flat_map (with_replies replies) (remote_items part) ++ xs) (sym one)
     ∙ sym (flat_map-append (with_replies replies) (remote_items part) (i ∷ []))
     ∙ ap (flat_map (with_replies replies)) (sym items))
+
+pub replied-push : (replies : ℕ → List (List ℕ)) (q : HostMessage) (part : List Item) (at : ℕ) (text : List ℕ)
+    → item_is_aside (from_remote at text) ≡ false → IsReplied replies q part → IsReplied replies q (part ++ from_remote at text ∷ [])
+replied-push replies q part at text plain h = record { lead = h.lead; leads = h.leads; lines = lines-push replies h.lead q part at text plain h.lines }
 
 -- a last line makes a conversation of what is one so far
 pub Conv-push : (replies : ℕ → List (List ℕ)) (q : HostMessage) (part : List Item) (at : ℕ) (text : List ℕ)
@@ -88,14 +92,19 @@ Talking-aside replies q part at text rs aside replied h =
     ∙ ap (map (λ (x : Item). remote_reading x.text)) (filter-append (λ (x : Item). not (item_is_aside x)) (remote_items part) (i ∷ []) ∙ ap (λ (xs : List Item). filter (λ (x : Item). not (item_is_aside x)) (remote_items part) ++ xs) dropped ∙ append-nil (filter (λ (x : Item). not (item_is_aside x)) (remote_items part))) in
     let one : shown i ∷ map shown (map from_host rs) ≡ flat_map (with_replies replies) (i ∷ []) =
     rw aside (ap (λ xs. shown i ∷ xs) (shown_hosts rs ∙ ap (map (λ line. (Host, line))) replied) ∙ sym (append-nil (shown i ∷ map (λ line. (Host, line)) (replies at)))) in
+    let lead : List (List ℕ) = h.replied.lead in
     record {
-      replied =
-          map-append shown part (i ∷ map from_host rs)
-          ∙ ap (λ xs. xs ++ (shown i ∷ map shown (map from_host rs))) h.replied
-          ∙ append_assoc (of_host (request_lines q)) (flat_map (with_replies replies) (remote_items part)) (shown i ∷ map shown (map from_host rs))
-          ∙ ap (λ xs. of_host (request_lines q) ++ xs)
-          (ap (λ xs. flat_map (with_replies replies) (remote_items part) ++ xs) one
-          ∙ sym (flat_map-append (with_replies replies) (remote_items part) (i ∷ []))
-          ∙ ap (flat_map (with_replies replies)) (sym items));
+      replied = record {
+        lead = lead;
+        leads = h.replied.leads;
+        lines =
+            map-append shown part (i ∷ map from_host rs)
+            ∙ ap (λ xs. xs ++ (shown i ∷ map shown (map from_host rs))) h.replied.lines
+            ∙ append_assoc (of_host (request_lines lead q)) (flat_map (with_replies replies) (remote_items part)) (shown i ∷ map shown (map from_host rs))
+            ∙ ap (λ xs. of_host (request_lines lead q) ++ xs)
+            (ap (λ xs. flat_map (with_replies replies) (remote_items part) ++ xs) one
+            ∙ sym (flat_map-append (with_replies replies) (remote_items part) (i ∷ []))
+            ∙ ap (flat_map (with_replies replies)) (sym items));
+      };
       waits = subst (λ (ms : List (Option RemoteMessage)). awaits q ms ≡ true) (sym told) h.waits;
     }

@@ -4,7 +4,7 @@ use Rattle.std.specs.Prelude.{ℕ, ◌≡◌, ◌&&◌, not, Bool, true, false, 
 use Rattle.std.specs.List.{flat_map, last_or, list_all}
 use Rattle.annex_model.specs.declared.final_line.Final.{Final}
 use Rattle.annex_model.specs.declared.final_line.Final.TheVariants.{Done, Failed, Absent, Unknown, Unsupported}
-use Rattle.annex_model.specs.Messages.{RemoteMessage, Extensions, UnsupportedRequest, Progress, Debug, Info, Dirhash, DirhashLower, Getconfig, Setconfig, Getcreds, Setcreds, Getuuid, Getgitdir, Getgitremotename, Getwanted, Setwanted, Getstate, Setstate, Seturlpresent, Seturlmissing, Geturls, PrepareSuccess, PrepareFailure, InitremoteSuccess, InitremoteFailure, TransferSuccess, TransferFailure, CheckpresentSuccess, CheckpresentFailure, CheckpresentUnknown, RemoveSuccess, RemoveFailure, Config, Configend, Cost, Availability, Infofield, Infovalue, Infoend, WhereisSuccess, WhereisFailure, ExportsupportedSuccess, ExportsupportedFailure, RenameexportSuccess, RenameexportFailure, HostMessage, AskExtensions, Prepare, Initremote, Transfer, Checkpresent, Remove, Listconfigs, Getcost, Getavailability, Getinfo, Whereis, Exportsupported, Transferexport, Checkpresentexport, Removeexport, Renameexport, remote_reading, host_line}
+use Rattle.annex_model.specs.Messages.{RemoteMessage, Extensions, UnsupportedRequest, Progress, Debug, Info, Dirhash, DirhashLower, Getconfig, Setconfig, Getcreds, Setcreds, Getuuid, Getgitdir, Getgitremotename, Getwanted, Setwanted, Getstate, Setstate, Seturlpresent, Seturlmissing, Geturls, PrepareSuccess, PrepareFailure, InitremoteSuccess, InitremoteFailure, TransferSuccess, TransferFailure, CheckpresentSuccess, CheckpresentFailure, CheckpresentUnknown, RemoveSuccess, RemoveFailure, Config, Configend, Cost, Availability, Infofield, Infovalue, Infoend, WhereisSuccess, WhereisFailure, ExportsupportedSuccess, ExportsupportedFailure, RenameexportSuccess, RenameexportFailure, HostMessage, AskExtensions, Prepare, Initremote, Transfer, Checkpresent, Remove, Listconfigs, Getcost, Getavailability, Getinfo, Whereis, Exportsupported, Export, Transferexport, Checkpresentexport, Removeexport, Renameexport, remote_reading, host_line}
 
 -- who says a line
 pub data Side : Type 0 where
@@ -199,17 +199,44 @@ shown i = (i.side, i.text)
 abbrev pub of_host : List (List ℕ) → List (Side × List ℕ)
 of_host lines = map (λ line. (Host, line)) lines
 
+-- a request of a file that is exported is said in two lines: first EXPORT with the name of that file, then its own
+abbrev pub has_lead : HostMessage → Bool
+has_lead (Transferexport store key file) = true
+has_lead (Checkpresentexport key) = true
+has_lead (Removeexport key) = true
+has_lead (Renameexport key onto) = true
+has_lead q = false
+
+-- the one line says a name
+abbrev pub SaysName : List (List ℕ) → Type 0
+SaysName lines = (name : List ℕ) × (lines ≡ host_line (Export name) ∷ [])
+
+-- what the host says before the request's own line: a name where the request has a lead, and else nothing. A name alone asks nothing.
+abbrev pub IsLead : HostMessage → List (List ℕ) → Type 0
+IsLead (Transferexport store key file) lines = SaysName lines
+IsLead (Checkpresentexport key) lines = SaysName lines
+IsLead (Removeexport key) lines = SaysName lines
+IsLead (Renameexport key onto) lines = SaysName lines
+IsLead (Export name) lines = ⊥
+IsLead q lines = lines ≡ []
+
 -- the lines that the host says for a request
-abbrev pub request_lines : HostMessage → List (List ℕ)
-request_lines q = host_line q ∷ []
+abbrev pub request_lines : List (List ℕ) → HostMessage → List (List ℕ)
+request_lines lead q = lead ++ host_line q ∷ []
 
 -- an item of the remote, and the replies that it is owed
 abbrev pub with_replies : (ℕ → List (List ℕ)) → Item → List (Side × List ℕ)
 with_replies replies i = shown i ∷ (if item_is_aside i then of_host (replies i.at) else [])
 
--- the part, places aside, is the request's lines and then what the remote says, each aside with exactly its replies behind it
-abbrev pub IsReplied : (ℕ → List (List ℕ)) → HostMessage → List Item → Type 0
-IsReplied replies q part = map shown part ≡ of_host (request_lines q) ++ flat_map (with_replies replies) (remote_items part)
+-- the part, places aside, is the request's lines and then what the remote says, each aside followed by exactly its replies
+abbrev pub AreReplied : (ℕ → List (List ℕ)) → List (List ℕ) → HostMessage → List Item → Type 0
+AreReplied replies lead q part = map shown part ≡ of_host (request_lines lead q) ++ flat_map (with_replies replies) (remote_items part)
+
+-- so it is, with such a lead as the request has
+pub record IsReplied (replies : ℕ → List (List ℕ)) (q : HostMessage) (part : List Item) : Type 0 where
+  pub lead : List (List ℕ)
+  pub leads : IsLead q lead
+  pub lines : AreReplied replies lead q part
 
 -- the last item is the remote's, and no aside
 abbrev pub is_final_item : Option Item → Bool

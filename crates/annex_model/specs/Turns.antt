@@ -17,13 +17,13 @@ turn_of Getcost = Later
 turn_of Getavailability = Later
 turn_of Getinfo = Later
 turn_of (Whereis key) = Later
--- no job of a host asks about exports yet
-turn_of Exportsupported = Never
+turn_of Exportsupported = Later
+turn_of (Transferexport store key file) = Later
+turn_of (Checkpresentexport key) = Later
+turn_of (Removeexport key) = Later
+turn_of (Renameexport key onto) = Later
+-- a name alone asks nothing
 turn_of (Export name) = Never
-turn_of (Transferexport store key file) = Never
-turn_of (Checkpresentexport key) = Never
-turn_of (Removeexport key) = Never
-turn_of (Renameexport key onto) = Never
 turn_of (Value value) = Never
 turn_of (Creds user password) = Never
 turn_of (HostError text) = Never

@@ -9,7 +9,7 @@ pub enum Turn {
     Second,
     /// A later one.
     Later,
-    /// None: it is a reply.
+    /// None: it is a reply, or only a name.
     Never,
 }
 

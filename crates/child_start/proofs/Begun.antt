@@ -3,14 +3,15 @@ use Rattle.std.proofs.Common.{◌≡◌, ◌≢◌, ℕ, ◌+◌, ◌<◌, List,
 use Rattle.std.specs.Prelude.{◌&&◌, ◌||◌, filter, IfSome, is_some}
 use Rattle.std.specs.List.{list_all, cons_option}
 use Rattle.std.proofs.lemmas.List.Elements.{filter-append}
+use Rattle.std.proofs.lemmas.List.Folds.{list_all-append}
 use Rattle.journal_model.specs.declared.verdict.Verdict.TheVariants.{Ended}
 use Rattle.journal_model.specs.declared.entry.What.{What}
-use Rattle.journal_model.specs.declared.entry.What.TheVariants.{Start, Mute, Got, End, Lost}
+use Rattle.journal_model.specs.declared.entry.What.TheVariants.{Start, Lead, Ask, Mute, Got, End, Lost}
 use Rattle.journal_model.specs.declared.entry.Entry.{Entry}
 use Rattle.journal_model.specs.declared.opening.Opening.{Opening}
 use Rattle.journal_model.specs.Journal.{any, starts, ends, offers, got_from, line_from, is_started, is_ended, has_spoken, got_lines, open_jobs}
 use Rattle.journal_model.specs.Due.{due_by, due_by_got, due_after, made_by}
-use Rattle.journal_model.specs.Legality.{Legal, MayStand, owed_from, owed_after, may_come, count, is_start}
+use Rattle.journal_model.specs.Legality.{Legal, IsDue, MayStand, led_by, still_owed, owed_from, owed_after, may_come, count, is_start}
 use Rattle.journal_model.proofs.Growing.{Legal-induction, StandsFrom-split}
 use Rattle.journal_model.proofs.Looks.{entry, both, same, same_number, differ, any-append, each_of-append}
 use Rattle.journal_model.proofs.Soft.{is_soft, soft_got, soft_mute, soft_verdicts}
@@ -42,10 +43,44 @@ due_soft o past by (End child why) = soft_entries by (due_by o past (End child w
 due_soft o past by (Mute child) = soft_entries by (due_by o past (Mute child)) (soft_mute o past child)
 due_soft o past by w = refl
 
-owed_soft : (o : Opening) (past owed xs : List Entry) → list_all (λ (e : Entry). is_soft e.what) owed ≡ true → list_all (λ (e : Entry). is_soft e.what) (owed_from o past owed xs) ≡ true
-owed_soft o past owed [] h = h
-owed_soft o past [] (e ∷ xs) h = owed_soft o (past ++ e ∷ []) (due_after o past e) xs (due_soft o past e.by e.what)
-owed_soft o past (d ∷ ds) (e ∷ xs) h = owed_soft o (past ++ e ∷ []) ds xs (both (is_soft d.what) (list_all (λ (e : Entry). is_soft e.what) ds) h).1
+-- what may be due: what an entry makes due, or a request after a name
+abbrev is_owing : What → Bool
+is_owing (Ask child job task line) = true
+is_owing w = is_soft w
+
+soft_owing : (w : What) → is_soft w ≡ true → is_owing w ≡ true
+soft_owing (Ask child job task line) h = refl
+soft_owing w h = h
+
+soft_owed : (es : List Entry) → list_all (λ (e : Entry). is_soft e.what) es ≡ true → list_all (λ (e : Entry). is_owing e.what) es ≡ true
+soft_owed [] h = refl
+soft_owed (e ∷ es) h =
+    let t : (is_soft e.what ≡ true) × (list_all (λ (x : Entry). is_soft x.what) es ≡ true) = both (is_soft e.what) (list_all (λ (x : Entry). is_soft x.what) es) h in
+    rw (soft_owing e.what t.0, soft_owed es t.1) refl
+
+led_owed : (by : ℕ) (w : What) → list_all (λ (e : Entry). is_owing e.what) (led_by by w) ≡ true
+led_owed by (Lead child job line) = refl
+led_owed by w = refl
+
+next_owed : (o : Opening) (past : List Entry) (e : Entry) → list_all (λ (x : Entry). is_owing x.what) (still_owed o past [] e) ≡ true
+next_owed o past e =
+    list_all-append (λ (x : Entry). is_owing x.what) (due_after o past e) (led_by e.by e.what)
+    ∙ ap (λ (b : Bool). b && list_all (λ (x : Entry). is_owing x.what) (led_by e.by e.what)) (soft_owed (due_after o past e) (due_soft o past e.by e.what))
+    ∙ led_owed e.by e.what
+
+all_owed : (o : Opening) (past owed xs : List Entry) → list_all (λ (e : Entry). is_owing e.what) owed ≡ true → list_all (λ (e : Entry). is_owing e.what) (owed_from o past owed xs) ≡ true
+all_owed o past owed [] h = h
+all_owed o past [] (e ∷ xs) h = all_owed o (past ++ e ∷ []) (still_owed o past [] e) xs (next_owed o past e)
+all_owed o past (d ∷ ds) (e ∷ xs) h = all_owed o (past ++ e ∷ []) ds xs (both (is_owing d.what) (list_all (λ (e : Entry). is_owing e.what) ds) h).1
+
+no_start_due : (o : Opening) (past : List Entry) (by c slot : ℕ) (offer : Bool) (d : Entry) → is_owing d.what ≡ true → IsDue o past d.what d (entry by (Start c slot offer)) → ⊥
+no_start_due o past by c slot offer d owing due = go d.what due
+  where
+    go : (w : What) → IsDue o past w d (entry by (Start c slot offer)) → ⊥
+    go (Ask child job task line) h =
+        let bad : false ≡ true = (both (by == d.by && false) false (both (by == d.by && false && false) (may_come o past by (Start c slot offer)) h).0).1 in
+        cc
+    go w h = let bad : false ≡ true = subst (λ (x : Entry). is_owing x.what ≡ true) (sym h) owing in cc
 
 -- the journal before a start was legal
 pub legal_before : (o : Opening) (past : List Entry) (by c slot : ℕ) (offer : Bool) → Legal o (past ++ entry by (Start c slot offer) ∷ []) → Legal o past
@@ -56,10 +91,9 @@ legal_before o past by c slot offer l =
     go : (ds : List Entry) → owed_after o past ≡ ds → MayStand o past ds (entry by (Start c slot offer)) → owed_after o past ≡ []
     go [] e h = e
     go (d ∷ ds) e h =
-        let soft : list_all (λ (x : Entry). is_soft x.what) (d ∷ ds) ≡ true = subst (λ (l : List Entry). list_all (λ (x : Entry). is_soft x.what) l ≡ true) e (owed_soft o [] [] past refl) in
-        let first : is_soft d.what ≡ true = (both (is_soft d.what) (list_all (λ (x : Entry). is_soft x.what) ds) soft).0 in
-        let bad : false ≡ true = subst (λ (x : Entry). is_soft x.what ≡ true) (sym h) first in
-        absurd cc
+        let owing : list_all (λ (x : Entry). is_owing x.what) (d ∷ ds) ≡ true =
+        subst (λ (l : List Entry). list_all (λ (x : Entry). is_owing x.what) l ≡ true) e (all_owed o [] [] past refl) in
+        absurd (no_start_due o past by c slot offer d (both (is_owing d.what) (list_all (λ (x : Entry). is_owing x.what) ds) owing).0 h)
 
 -- ---- children are numbered in turn
 

@@ -109,7 +109,7 @@ module _ (o : Opening) (old new : List Entry) (by c t : ℕ) (q : HostMessage) (
   request = group_of o old by (Ask c (next_job old c) t (on_wire old c (next_job old c) (host_line q)))
 
   -- a request that was settled is one job more
-  pub jobs_settled : IsSettled o old new by c t q verdict → asked_jobs new c ≡ asked_jobs old c ++ next_job old c ∷ []
+  pub jobs_settled : IsSettled o old new by c t None q verdict → asked_jobs new c ≡ asked_jobs old c ++ next_job old c ∷ []
   jobs_settled s =
       goes_jobs (old ++ request) new c s.goes ∙ each_of-append (asks c) old request
       ∙ ap (λ (ks : List ℕ). asked_jobs old c ++ ks) (own_job (c == c) (next_job old c) (same c))
@@ -119,11 +119,11 @@ module _ (o : Opening) (old new : List Entry) (by c t : ℕ) (q : HostMessage) (
       ap (λ (x : List Entry). asked_jobs x c) l.made ∙ each_of-append (asks c) old (group_of o old by (Lost c t)) ∙ append-nil (asked_jobs old c)
 
   -- a request is one job more, or was lost
-  pub jobs_asked : AskedAlone o old new by c t q verdict → (asked_jobs new c ≡ asked_jobs old c) ⊎ (asked_jobs new c ≡ asked_jobs old c ++ next_job old c ∷ [])
+  pub jobs_asked : AskedAlone o old new by c t None q verdict → (asked_jobs new c ≡ asked_jobs old c) ⊎ (asked_jobs new c ≡ asked_jobs old c ++ next_job old c ∷ [])
   jobs_asked (inl s) = inr (jobs_settled s)
   jobs_asked (inr l) = inl (jobs_lost l)
 
-  idle_settled : open_jobs old c ≡ [] → IsSettled o old new by c t q verdict → open_jobs new c ≡ []
+  idle_settled : open_jobs old c ≡ [] → IsSettled o old new by c t None q verdict → open_jobs new c ≡ []
   idle_settled idle s =
       let is_left : ℕ → Bool = λ k. not (is_settled new c k) in
       let mid : List Entry = old ++ request in
@@ -136,6 +136,6 @@ module _ (o : Opening) (old new : List Entry) (by c t : ℕ) (q : HostMessage) (
       ∙ ap (λ (ks : List ℕ). ks ++ filter is_left (next_job old c ∷ [])) before ∙ last
 
   -- a request leaves an idle child idle
-  pub idle_asked : open_jobs old c ≡ [] → AskedAlone o old new by c t q verdict → open_jobs new c ≡ []
+  pub idle_asked : open_jobs old c ≡ [] → AskedAlone o old new by c t None q verdict → open_jobs new c ≡ []
   idle_asked idle (inl s) = idle_settled idle s
   idle_asked idle (inr l) = ap (λ (x : List Entry). open_jobs x c) l.made ∙ idle_on old (group_of o old by (Lost c t)) c refl idle

@@ -11,7 +11,7 @@ use Rattle.journal_model.specs.declared.verdict.Verdict.TheVariants.{Done as Don
 use Rattle.annex_model.specs.Messages.{RemoteMessage, Extensions, PrepareSuccess, PrepareFailure, InitremoteSuccess, InitremoteFailure, HostMessage, AskExtensions, Prepare, Initremote, host_line, host_reading, is_askable}
 use Rattle.annex_model.specs.Tags.{tagged_line, without_tag}
 use Rattle.annex_model.proofs.TagReadings.{untag_of_tagged}
-use Rattle.annex_model.specs.Talks.{final_of, is_unsupported, one_line, said_alone}
+use Rattle.annex_model.specs.Talks.{final_of, has_lead, is_unsupported, one_line, said_alone}
 use Rattle.journal_model.specs.declared.entry.What.{What}
 use Rattle.journal_model.specs.declared.entry.What.TheVariants.{Ask, Lost}
 use Rattle.journal_model.specs.declared.entry.Entry.{Entry}
@@ -22,6 +22,9 @@ use Rattle.journal_model.specs.Projection.{IsNamed, final_in}
 use Rattle.journal_model.proofs.Looks.{both, same, same_number, any-append}
 use Rattle.journal_model.proofs.Projecting.{invariant}
 use Rattle.journal_model.proofs.Verdicts.{ended_verdict, unsent_verdict, unasked_none}
+use Rattle.talk_serial.specs.declared.request.Request.{Request}
+use Rattle.talk_serial.specs.Requests.{message_of, name_of}
+use Rattle.talk_serial.proofs.Reading.{unnamed}
 use Rattle.host_core.specs.Steps.{group_of, is_gone, next_job, may_request}
 use Rattle.journal_model.specs.Shares.{are_by, by_link}
 use Rattle.link_roles.specs.Asks.{lost_as}
@@ -119,9 +122,22 @@ early_job past by c q mode g h =
     (both (is_started past c && may_ask past by 0 c && is_in_turn past c (next_job past c) q) (is_askable q) h).0 in
     early_turn past c (next_job past c) q mode g (both (is_started past c && may_ask past by 0 c) (is_in_turn past c (next_job past c) q) turn).1
 
+-- none of them has a lead
+greeting_leads : (q : HostMessage) → is_greeting q ≡ true → has_lead q ≡ false
+greeting_leads (AskExtensions names) h = refl
+greeting_leads Prepare h = refl
+greeting_leads Initremote h = refl
+greeting_leads q h = absurd cc
+
+-- so no name was said before it
+pub asked_plain : (o : Opening) (old new : List Entry) (by c : ℕ) (r : Request) (verdict : Verdict) → is_greeting (message_of r) ≡ true → AskedAlone o old new by c 0 (name_of r) (message_of r) verdict
+    → AskedAlone o old new by c 0 None (message_of r) verdict
+asked_plain o old new by c r verdict h a =
+    subst (λ (n : Option (List ℕ)). AskedAlone o old new by c 0 n (message_of r) verdict) (unnamed r (greeting_leads (message_of r) h)) a
+
 -- a request that is no task's
 pub greets_asked : {mode : Mode} (o : Opening) (old new : List Entry) (by c : ℕ) (q : HostMessage) (verdict : Verdict) → by ≡ 0 → open_jobs old c ≡ []
-    → is_greeting_line_for mode (next_job old c) (on_wire old c (next_job old c) (host_line q)) ≡ true → AskedAlone o old new by c 0 q verdict → GreetsOn mode old new c
+    → is_greeting_line_for mode (next_job old c) (on_wire old c (next_job old c) (host_line q)) ≡ true → AskedAlone o old new by c 0 None q verdict → GreetsOn mode old new c
 greets_asked {mode} o old new by c q verdict first idle early (inl s) =
     let asked : List Entry = group_of o old by (Ask c (next_job old c) 0 (on_wire old c (next_job old c) (host_line q))) in
     record {
@@ -221,7 +237,7 @@ module _ (o o' : Opening) (old new : List Entry) (by c : ℕ) (q : HostMessage) 
       }
 
   gone_settled : (verdict : Verdict) → is_done (Some verdict) ≡ false → is_refusal (Some verdict) ≡ false → is_gone new c ≡ true
-      → IsSettled o old new by c 0 q verdict → IsGoneNext old new c
+      → IsSettled o old new by c 0 None q verdict → IsGoneNext old new c
   gone_settled verdict undone unrefused gone s = record {
     gone = gone;
     undone = ap is_done s.settled ∙ undone;
@@ -229,13 +245,13 @@ module _ (o o' : Opening) (old new : List Entry) (by c : ℕ) (q : HostMessage) 
     jobs = inr (jobs_settled o old new by c 0 q verdict s);
   }
 
-  settled_unlost : (verdict : Verdict) → IsSettled o old new by c 0 q verdict → any (loses c) new ≡ any (loses c) old
+  settled_unlost : (verdict : Verdict) → IsSettled o old new by c 0 None q verdict → any (loses c) new ≡ any (loses c) old
   settled_unlost verdict s =
       let asked : List Entry = group_of o old by (Ask c (next_job old c) 0 (on_wire old c (next_job old c) (host_line q))) in
       unlost_on c (old ++ asked) new s.goes.more s.goes.is (links_unlost c c s.goes.more s.goes.quiet) ∙ unlost_on c old (old ++ asked) asked refl refl
 
   -- the request was asked, and settled so
-  pub asked_next : (verdict : Verdict) → Legal o' new → is_greeting q ≡ true → IsNamed q verdict → AskedAlone o old new by c 0 q verdict
+  pub asked_next : (verdict : Verdict) → Legal o' new → is_greeting q ≡ true → IsNamed q verdict → AskedAlone o old new by c 0 None q verdict
       → AsksNext old new c (asked_as verdict)
   asked_next (DoneAt at) legal kind n (inl s) = record { done = ap is_done s.settled; jobs = jobs_settled o old new by c 0 q (DoneAt at) s; unlost = settled_unlost (DoneAt at) s }
   asked_next (DoneAt at) legal kind n (inr l) = not_lost (DoneAt at) (why_of old c) refl l.lost

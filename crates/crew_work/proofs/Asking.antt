@@ -1,5 +1,6 @@
 -- What a request of a task adds, over a child that others read and write.
-use Rattle.std.proofs.Common.{◌≡◌, ℕ, List, refl, subst, Bool, true, inl, inr}
+use Rattle.std.proofs.Common.{◌≡◌, ℕ, List, refl, subst, Bool, true, Option, Some, None, inl, inr}
+use Rattle.std.specs.List.{list_all}
 use Rattle.std.specs.Prelude.{Result}
 use Rattle.ann_key.specs.declared.bytes.NoMemory.{NoMemory}
 use Rattle.annex_model.specs.Messages.{HostMessage}
@@ -10,6 +11,7 @@ use Rattle.journal_model.specs.declared.entry.Entry.{Entry}
 use Rattle.journal_model.specs.declared.opening.Opening.{Opening}
 use Rattle.journal_model.specs.Shares.{Moved, is_of_child}
 use Rattle.journal_model.proofs.Looks.{same}
+use Rattle.host_core.specs.Steps.{asking}
 use Rattle.link_roles.specs.Asks.{Grows, HasAsked, never}
 use Rattle.link_roles.proofs.Roles.{moved_both, moved_by, moved_wider}
 use Rattle.lone_work.specs.AtTasks.{AtTask, AskedFor}
@@ -21,13 +23,17 @@ use Rattle.crew_work.specs.Jobs.{JobsOn, by_jobs}
 never_jobs : (c t : ℕ) (w : What) → never w ≡ true → by_jobs c t w ≡ true
 never_jobs c t w h = absurd cc
 
--- one request of the task, or a lost one
-pub jobs_asked : {o : Opening} {n : ℕ} {a : Bool} {old new : List Entry} {Known : ℕ → Type 0} (c t : ℕ) (q : HostMessage) (v : Verdict) → HasAsked o n a never old new c t q Known v
+jobs_asks : (past : List Entry) (c t : ℕ) (q : HostMessage) (name : Option (List ℕ)) → list_all (by_jobs c t) (asking past t c name q) ≡ true
+jobs_asks past c t q None = rw (same c, same t) refl
+jobs_asks past c t q (Some name) = rw (same c, same t) refl
+
+-- one request of the task with the name before it, or a lost one
+pub jobs_asked : {o : Opening} {n : ℕ} {a : Bool} {old new : List Entry} {Known : ℕ → Type 0} (c t : ℕ) (name : Option (List ℕ)) (q : HostMessage) (v : Verdict) → HasAsked o n a never old new c t name q Known v
     → Grows n a (by_jobs c t) old new
-jobs_asked {n = n} {a = a} {new = new} c t q v (inl s) =
+jobs_asked {n = n} {a = a} {new = new} c t name q v (inl s) =
     let k : Moved n a (by_jobs c t) (is_of_child c) s.mid new (Unit {0}) (Unit {0}) = moved_wider (never_jobs c t) (λ w h. h) s.on (λ own k u. u) in
-    moved_both refl refl (moved_by s.asked (rw (same c, same t) refl) (λ none u. u)) record { more = k.more; is = k.is; own = k.own; lone = k.lone; kept = λ h u. u }
-jobs_asked c t q v (inr s) = moved_by s (rw (same c, same t) refl) (λ none u. u)
+    moved_both refl refl (moved_by s.asked (jobs_asks s.asked.past c t q name) (λ none u. u)) record { more = k.more; is = k.is; own = k.own; lone = k.lone; kept = λ h u. u }
+jobs_asked c t name q v (inr s) = moved_by s (rw (same c, same t) refl) (λ none u. u)
 
 note_jobs : (c t : ℕ) (w : What) → by_noting t w ≡ true → by_jobs c t w ≡ true
 note_jobs c t (Note task chunk count) h = h

@@ -5,7 +5,7 @@ use Rattle.std.specs.List.{cons_option}
 use Rattle.std.proofs.lemmas.List.Elements.{filter-append}
 use Rattle.journal_model.specs.declared.answer.Answer.{Answer}
 use Rattle.journal_model.specs.declared.entry.What.{What}
-use Rattle.journal_model.specs.declared.entry.What.TheVariants.{Claim, Ask, Lost, Answer as Answered, Note}
+use Rattle.journal_model.specs.declared.entry.What.TheVariants.{Claim, Lead, Ask, Lost, Answer as Answered, Note}
 use Rattle.journal_model.specs.declared.entry.Entry.{Entry}
 use Rattle.journal_model.specs.Journal.{any, each_of}
 use Rattle.journal_model.specs.Makers.{made_by_number}
@@ -25,6 +25,7 @@ use Rattle.crew_work.specs.Jobs.{by_jobs}
 -- ---- the kinds
 
 jobs_serve : (c t : ℕ) (w : What) → by_jobs c t w ≡ true → by_server c t w ≡ true
+jobs_serve c t (Lead child job line) h = h
 jobs_serve c t (Ask child job task line) h = h
 jobs_serve c t (Lost child task) h = h
 jobs_serve c t (Note task chunk count) h = h
@@ -36,12 +37,14 @@ task_serves false c t w h = jobs_serve c t w h
 
 -- what is made for a task is what the worker's post makes
 server_posted : (c t : ℕ) (w : What) → by_server c t w ≡ true → (by_link c w || works c w) ≡ true
+server_posted c t (Lead child job line) h = h
 server_posted c t (Ask child job task line) h = (both (child == c) (task == t) h).0
 server_posted c t (Lost child task) h = (both (child == c) (task == t) h).0
 server_posted c t (Note task chunk count) h = refl
 server_posted c t w h = or_left (by_link c w) (works c w) h
 
 jobs_posted : (c t : ℕ) (w : What) → by_jobs c t w ≡ true → works c w ≡ true
+jobs_posted c t (Lead child job line) h = h
 jobs_posted c t (Ask child job task line) h = (both (child == c) (task == t) h).0
 jobs_posted c t (Lost child task) h = (both (child == c) (task == t) h).0
 jobs_posted c t (Note task chunk count) h = refl

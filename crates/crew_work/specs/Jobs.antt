@@ -1,7 +1,7 @@
 -- How a number stands that asks for a task over a child that others read and write, and what its asking makes.
 use Rattle.std.specs.Prelude.{ℕ, ◌≡◌, ◌==◌, ◌&&◌, Bool, false, List}
 use Rattle.journal_model.specs.declared.entry.What.{What}
-use Rattle.journal_model.specs.declared.entry.What.TheVariants.{Ask, Lost, Note}
+use Rattle.journal_model.specs.declared.entry.What.TheVariants.{Lead, Ask, Lost, Note}
 use Rattle.journal_model.specs.declared.entry.Entry.{Entry}
 use Rattle.journal_model.specs.declared.opening.Opening.{Opening}
 use Rattle.link_roles.specs.Asks.{Grows}
@@ -9,8 +9,9 @@ use Rattle.link_roles.specs.Doors.{IsSameDoor}
 use Rattle.lone_work.specs.AtTasks.{AtTask}
 use Rattle.lone_work.specs.KnownLayouts.{IsBook}
 
--- requests for t of c, which may be lost, and notes of t
+-- requests for t of c, with the names before them, which may be lost, and notes of t
 abbrev pub by_jobs : ℕ → ℕ → What → Bool
+by_jobs c t (Lead child job line) = child == c
 by_jobs c t (Ask child job task line) = child == c && task == t
 by_jobs c t (Lost child task) = child == c && task == t
 by_jobs c t (Note task chunk count) = task == t

@@ -6,7 +6,7 @@ use Rattle.journal_model.specs.declared.verdict.Verdict.{Verdict as VerdictType}
 use Rattle.journal_model.specs.declared.answer.Answer.{Answer as AnswerType}
 use Rattle.journal_model.specs.declared.verdict.Why.{Why}
 use Rattle.journal_model.specs.declared.entry.What.{What}
-use Rattle.journal_model.specs.declared.entry.What.TheVariants.{Claim, Start, NoStart, Ask, Put, Sent, Mute, Got, End, Verdict, Lost, Answer, Note}
+use Rattle.journal_model.specs.declared.entry.What.TheVariants.{Claim, Start, NoStart, Lead, Ask, Put, Sent, Mute, Got, End, Verdict, Lost, Answer, Note}
 use Rattle.journal_model.specs.declared.entry.Entry.{Entry}
 use Rattle.entry_lines.specs.Answers.{answer_fields, answer_at}
 use Rattle.entry_lines.specs.Entries.{offer_word, offer_at, what_fields, what_at, what_rows, entry_at, entry_line, IsWhat, IsEntry}
@@ -40,6 +40,10 @@ put_back : (child job : ℕ) (line : List ℕ) → child < 2 ^ 32 → job < 2 ^ 
     → by_rows what_rows (codes "put") (spaced (decimal child ∷ decimal job ∷ line ∷ [])) ≡ Some (Put child job line)
 put_back child job line h k = rw (numbers_back child job (line ∷ []) h k, numbers_rest child job (line ∷ []) h k, alone line) refl
 
+lead_back : (child job : ℕ) (line : List ℕ) → child < 2 ^ 32 → job < 2 ^ 64
+    → by_rows what_rows (codes "lead") (spaced (decimal child ∷ decimal job ∷ line ∷ [])) ≡ Some (Lead child job line)
+lead_back child job line h k = rw (numbers_back child job (line ∷ []) h k, numbers_rest child job (line ∷ []) h k, alone line) refl
+
 got_back : (child : ℕ) (line : List ℕ) → child < 2 ^ 32 → by_rows what_rows (codes "got") (spaced (decimal child ∷ line ∷ [])) ≡ Some (Got child line)
 got_back child line h = rw (small_back child (line ∷ []) h, small_rest child (line ∷ []) h, alone line) refl
 
@@ -72,6 +76,7 @@ what_back (NoStart slot) h = worded (by_rows what_rows) (codes "nostart") (decim
 what_back (Ask child job task line) h =
     worded (by_rows what_rows) (codes "ask") (decimal child ∷ decimal job ∷ decimal task ∷ line ∷ []) refl ∙ ask_back child job task line h.0 h.1 h.2
 what_back (Put child job line) h = worded (by_rows what_rows) (codes "put") (decimal child ∷ decimal job ∷ line ∷ []) refl ∙ put_back child job line h.0 h.1
+what_back (Lead child job line) h = worded (by_rows what_rows) (codes "lead") (decimal child ∷ decimal job ∷ line ∷ []) refl ∙ lead_back child job line h.0 h.1
 what_back (Sent child) h = worded (by_rows what_rows) (codes "sent") (decimal child ∷ []) refl ∙ ap (option_map Sent) (small_back child [] h)
 what_back (Mute child) h = worded (by_rows what_rows) (codes "mute") (decimal child ∷ []) refl ∙ ap (option_map Mute) (small_back child [] h)
 what_back (Got child line) h = worded (by_rows what_rows) (codes "got") (decimal child ∷ line ∷ []) refl ∙ got_back child line h.0

@@ -2,7 +2,7 @@
 use Rattle.std.specs.Prelude.{ℕ, ◌<◌, ◌^◌, Bool, true, false, not, List, [], ◌∷◌, Option, codes, decimal, option_map, option_and_then, bytes_eq, IsTrue}
 use Rattle.annex_model.specs.Lines.{has_newline}
 use Rattle.journal_model.specs.declared.entry.What.{What}
-use Rattle.journal_model.specs.declared.entry.What.TheVariants.{Claim, Start, NoStart, Ask, Put, Sent, Mute, Got, End, Verdict, Lost, Answer, Note}
+use Rattle.journal_model.specs.declared.entry.What.TheVariants.{Claim, Start, NoStart, Lead, Ask, Put, Sent, Mute, Got, End, Verdict, Lost, Answer, Note}
 use Rattle.journal_model.specs.declared.entry.Entry.{Entry}
 use Rattle.entry_lines.specs.Answers.{answer_fields, answer_at, IsAnswer}
 use Rattle.entry_lines.specs.Fields.{spaced, first_of, rest_of, number_at, small_at, smalls_at, numbers_at, Row, by_rows}
@@ -18,6 +18,7 @@ abbrev pub what_fields : What → List (List ℕ)
 what_fields (Claim task child) = codes "claim" ∷ decimal task ∷ decimal child ∷ []
 what_fields (Start child slot offer) = codes "start" ∷ decimal child ∷ decimal slot ∷ offer_word offer ∷ []
 what_fields (NoStart slot) = codes "nostart" ∷ decimal slot ∷ []
+what_fields (Lead child job line) = codes "lead" ∷ decimal child ∷ decimal job ∷ line ∷ []
 what_fields (Ask child job task line) = codes "ask" ∷ decimal child ∷ decimal job ∷ decimal task ∷ line ∷ []
 what_fields (Put child job line) = codes "put" ∷ decimal child ∷ decimal job ∷ line ∷ []
 what_fields (Sent child) = codes "sent" ∷ decimal child ∷ []
@@ -38,6 +39,7 @@ abbrev pub IsWhat : What → Type 0
 IsWhat (Claim task child) = (task < 2 ^ 32) × (child < 2 ^ 32)
 IsWhat (Start child slot offer) = (child < 2 ^ 32) × (slot < 2 ^ 32)
 IsWhat (NoStart slot) = slot < 2 ^ 32
+IsWhat (Lead child job line) = (child < 2 ^ 32) × (job < 2 ^ 64) × IsTrue (not (has_newline line))
 IsWhat (Ask child job task line) = (child < 2 ^ 32) × (job < 2 ^ 64) × (task < 2 ^ 32) × IsTrue (not (has_newline line))
 IsWhat (Put child job line) = (child < 2 ^ 32) × (job < 2 ^ 64) × IsTrue (not (has_newline line))
 IsWhat (Sent child) = child < 2 ^ 32
@@ -61,6 +63,9 @@ abbrev pub ask_at : List ℕ → Option What
 ask_at text =
     option_and_then (λ numbers. option_map (λ task. Ask numbers.0 numbers.1 task (rest_of (rest_of (rest_of text)))) (small_at (rest_of (rest_of text)))) (numbers_at text)
 
+abbrev pub lead_at : List ℕ → Option What
+lead_at text = option_map (λ numbers. Lead numbers.0 numbers.1 (rest_of (rest_of text))) (numbers_at text)
+
 abbrev pub put_at : List ℕ → Option What
 put_at text = option_map (λ numbers. Put numbers.0 numbers.1 (rest_of (rest_of text))) (numbers_at text)
 
@@ -80,6 +85,7 @@ abbrev pub what_rows : List (Row What)
 what_rows =
     record { word = codes "ask"; read = ask_at }
     ∷ record { word = codes "put"; read = put_at }
+    ∷ record { word = codes "lead"; read = lead_at }
     ∷ record { word = codes "got"; read = got_at }
     ∷ record { word = codes "answer"; read = answer_what }
     ∷ record { word = codes "claim"; read = λ text. option_map (λ t. Claim t.0 t.1) (smalls_at text) }

@@ -1,6 +1,6 @@
 // What happened, as the fields of a line say it.
 ghost use Rattle.std.specs.Prelude.{◌≡◌, IfOk, drop};
-ghost use Rattle.entry_lines.specs.Entries.{what_at, what_rows, ask_at, put_at, got_at, verdict_what, note_at, answer_what, entry_at};
+ghost use Rattle.entry_lines.specs.Entries.{what_at, what_rows, ask_at, lead_at, put_at, got_at, verdict_what, note_at, answer_what, entry_at};
 ghost use Rattle.entry_lines.specs.Fields.{by_rows};
 
 use crate::answers::answer_at;
@@ -38,6 +38,8 @@ fn by_word(alloc: Global, word: &[u8], text: &[u8]) -> Result<Option<What>, NoMe
         ask_at(alloc, text)
     } else if word == b"put".as_slice() {
         put_at(alloc, text)
+    } else if word == b"lead".as_slice() {
+        lead_at(alloc, text)
     } else if word == b"got".as_slice() {
         got_at(alloc, text)
     } else if word == b"answer".as_slice() {
@@ -76,6 +78,16 @@ fn put_at(alloc: Global, text: &[u8]) -> Result<Option<What>, NoMemory>
     Ok(Some(What::Put { child, job, line }))
 }
 
+fn lead_at(alloc: Global, text: &[u8]) -> Result<Option<What>, NoMemory>
+    ensures { IfOk result (λ what. what ≡ lead_at text.now) }
+{
+    let Some((child, job)) = numbers_at(text) else {
+        return Ok(None);
+    };
+    let line = Bytes::copy(alloc, rest_of(rest_of(text)))?;
+    Ok(Some(What::Lead { child, job, line }))
+}
+
 fn got_at(alloc: Global, text: &[u8]) -> Result<Option<What>, NoMemory>
     ensures { IfOk result (λ what. what ≡ got_at text.now) }
 {
@@ -100,7 +112,7 @@ fn answered(alloc: Global, text: &[u8]) -> Result<Option<What>, NoMemory>
 
 // Starts, claims and what becomes of them.
 fn of_run(word: &[u8], text: &[u8]) -> Option<What>
-    ensures { result ≡ by_rows (drop 4 what_rows) word.now text.now }
+    ensures { result ≡ by_rows (drop 5 what_rows) word.now text.now }
 {
     if word == b"claim".as_slice() {
         let (task, child) = smalls_at(text)?;
@@ -122,7 +134,7 @@ fn of_run(word: &[u8], text: &[u8]) -> Option<What>
 
 // What happens with a child.
 fn of_child(word: &[u8], text: &[u8]) -> Option<What>
-    ensures { result ≡ by_rows (drop 8 what_rows) word.now text.now }
+    ensures { result ≡ by_rows (drop 9 what_rows) word.now text.now }
 {
     if word == b"sent".as_slice() {
         let child = small_at(text)?;

@@ -47,6 +47,14 @@ fn push_what(alloc: Global, line: &mut Vec<u8>, what: WhatRef<'_>) -> Result<(),
             push_field(line, offer_word(offer))
         }
         WhatRef::NoStart { slot } => push_one(alloc, line, b"nostart", slot as u64),
+        WhatRef::Lead {
+            child,
+            job,
+            line: said,
+        } => {
+            push_two(alloc, line, b"lead", child as u64, job)?;
+            push_field(line, said)
+        }
         WhatRef::Ask {
             child,
             job,

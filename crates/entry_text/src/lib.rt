@@ -84,6 +84,9 @@ fn child_text(alloc: Global, what: WhatRef<'_>) -> Result<String, NoMemory> {
             let numbers = [u64::from(child), job, u64::from(task)];
             told(alloc, "ask", &numbers, Some(said(line)))
         }
+        WhatRef::Lead { child, job, line } => {
+            told(alloc, "lead", &[u64::from(child), job], Some(said(line)))
+        }
         WhatRef::Put { child, job, line } => {
             told(alloc, "put", &[u64::from(child), job], Some(said(line)))
         }

@@ -7,7 +7,7 @@ use Rattle.std.proofs.lemmas.Bool.Decides.{nat_tests}
 use Rattle.journal_model.specs.declared.verdict.Why.{Why}
 use Rattle.journal_model.specs.declared.verdict.Why.TheVariants.{Closed}
 use Rattle.journal_model.specs.declared.entry.What.{What}
-use Rattle.journal_model.specs.declared.entry.What.TheVariants.{Start, NoStart, Ask, Put, Sent, Mute, Got, End, Verdict as Settled, Lost}
+use Rattle.journal_model.specs.declared.entry.What.TheVariants.{Start, NoStart, Lead, Ask, Put, Sent, Mute, Got, End, Verdict as Settled, Lost}
 use Rattle.journal_model.specs.Shares.{is_heard, is_said, is_of_child, is_memory, is_closed, by_ear, by_mouth, by_link}
 use Rattle.journal_model.proofs.Looks.{same, same_number, differ, true_not_false, either_left, either_right, both}
 use Rattle.journal_model.proofs.Testing.{by_either, neither}
@@ -158,6 +158,7 @@ apart_end c d (Settled child job verdict) other h = off child c d other h
 apart_end c d w other h = refl
 
 apart_worker : (c d : ℕ) (w : What) → c ≢ d → is_of_child c w ≡ true → works d w ≡ false
+apart_worker c d (Lead child job line) other h = off child c d other h
 apart_worker c d (Ask child job task line) other h = off child c d other h
 apart_worker c d (Lost child task) other h = off child c d other h
 apart_worker c d (Put child job line) other h = refl

@@ -13,7 +13,7 @@ use Rattle.reg_file.specs.Registers.{RegisterFile}
 use Rattle.task_text.specs.declared.task.Task.{Task}
 use Rattle.journal_model.specs.declared.verdict.Verdict.TheVariants.{Ended, Unsent}
 use Rattle.journal_model.specs.declared.entry.What.{What}
-use Rattle.journal_model.specs.declared.entry.What.TheVariants.{Put, Verdict as Settled, Note as Noted}
+use Rattle.journal_model.specs.declared.entry.What.TheVariants.{Lead, Put, Verdict as Settled, Note as Noted}
 use Rattle.journal_model.specs.declared.entry.Entry.{Entry}
 use Rattle.journal_model.specs.declared.opening.Opening.{Opening}
 use Rattle.journal_model.specs.Journal.{each_of, open_jobs, is_unsent}
@@ -24,16 +24,16 @@ use Rattle.journal_model.specs.Replies.{set_by_all}
 use Rattle.journal_model.proofs.Looks.{each_of-append}
 use Rattle.journal_model.proofs.Noting.{current_of_book}
 use Rattle.host_core.specs.declared.due.Due.{Due}
-use Rattle.host_core.specs.declared.due.Due.TheVariants.{Nothing, Settle, Replies, EndOf, EndedJobs, UnsentJobs}
+use Rattle.host_core.specs.declared.due.Due.TheVariants.{Nothing, Settle, Request, Replies, EndOf, EndedJobs, UnsentJobs}
 use Rattle.host_core.specs.declared.event.Event.{Event}
 use Rattle.host_core.specs.declared.event.Event.TheVariants.{Layouts as AskLayouts}
 use Rattle.host_core.specs.declared.event.Reply.{Reply}
 use Rattle.host_core.specs.declared.event.Reply.TheVariants.{Layouts as Known}
 use Rattle.host_core.specs.Books.{notes_after, noted_in, is_note, IsSized}
-use Rattle.host_core.specs.Steps.{Step, step_of, group_of, layouts_for, odd, Comes}
+use Rattle.host_core.specs.Steps.{Step, step_of, group_of, layouts_for, odd}
 use Rattle.host_core.specs.Moves.{dues, group_made, first_room}
 use Rattle.host_core.specs.Settings.{set_in, is_reply}
-use Rattle.host_core.proofs.Stepping.{step_comes}
+use Rattle.host_core.proofs.Stepping.{Came, plain_may, step_came}
 
 -- ---- what is due notes nothing
 
@@ -44,6 +44,7 @@ none_noted {X = X} o by f h (x ∷ xs) = let here = h x in rw here (none_noted o
 due_notes : (o : Opening) (past : List Entry) (by : ℕ) (due : Due) → each_of (noted o) (made_by by (dues past due)) ≡ []
 due_notes o past by Nothing = refl
 due_notes o past by (Settle child job verdict) = refl
+due_notes o past by (Request child job task line) = refl
 due_notes o past by (Replies child job lines) = none_noted o by (λ line. Put child job line) (λ line. refl) lines.items
 due_notes o past by (EndOf child why) = none_noted o by (λ j. Settled child j (Ended why)) (λ j. refl) (open_jobs past child)
 due_notes o past by (EndedJobs child why) = none_noted o by (λ j. Settled child j (Ended why)) (λ j. refl) (open_jobs past child)
@@ -93,18 +94,21 @@ above_none n h = grind (arith, nat_tests)
 pub note_fits : (o : Opening) (past : List Entry) (by : ℕ) (event : Event) (what : Option What) (due : Due) → length past < 2 ^ 64
     → group_made past by what due ≡ (step_of o past by event).group → IsSized what
 note_fits o past by event None due few e = tt
-note_fits o past by event (Some w) due few e = go (step_of o past by event) (step_comes o past by event few) e
+note_fits o past by event (Some w) due few e = go (step_of o past by event) (step_came o past by event few) e
   where
     sized : (v : What) → may_come o past by v ≡ true → IsSized (Some v)
     sized (Noted task chunk count) may =
         above_none chunk (and_last (is_claimed_by past by task && may_note (task_of o task) && not (has_open_job past task)) (nat_lt 0 chunk) may)
     sized v may = tt
 
-    go : (s : Step) → Comes o past by s → record { by = by; what = w } ∷ made_by by (dues past due) ≡ s.group → IsSized (Some w)
+    go : (s : Step) → Came o past by s → record { by = by; what = w } ∷ made_by by (dues past due) ≡ s.group → IsSized (Some w)
     go s (inl none) e = absurd (let no : record { by = by; what = w } ∷ made_by by (dues past due) ≡ [] = e ∙ none in cc)
-    go s (inr some) e =
+    go s (inr (inr named)) e =
+        let head = first_is (record { by = by; what = w }) (record { by = by; what = Lead named.child named.job named.name }) (made_by by (dues past due)) _ (e ∙ named.is) in
+        subst (λ (x : What). IsSized (Some x)) (sym (ap (λ (x : Entry). x.what) head)) tt
+    go s (inr (inl some)) e =
         let head = first_is (record { by = by; what = w }) (record { by = by; what = some.0 }) (made_by by (dues past due)) (due_after o past (record { by = by; what = some.0 })) (e ∙ some.2) in
-        subst (λ (x : What). IsSized (Some x)) (sym (ap (λ (x : Entry). x.what) head)) (sized some.0 some.1)
+        subst (λ (x : What). IsSized (Some x)) (sym (ap (λ (x : Entry). x.what) head)) (sized some.0 (plain_may o past by some.0 some.1))
 
 -- ---- a note sets nothing, and takes room
 

@@ -20,7 +20,7 @@ use Rattle.journal_model.specs.Room.{room_for, room_for_all, room_of}
 use Rattle.journal_model.proofs.Looks.{each_of-append, either_left, either_right, both}
 use Rattle.journal_model.proofs.Rooms.{room_suffices, room_grows}
 use Rattle.host_core.specs.declared.due.Due.{Due}
-use Rattle.host_core.specs.declared.due.Due.TheVariants.{Nothing, Settle, Replies, EndOf, EndedJobs, UnsentJobs}
+use Rattle.host_core.specs.declared.due.Due.TheVariants.{Nothing, Settle, Request, Replies, EndOf, EndedJobs, UnsentJobs}
 use Rattle.host_core.specs.declared.event.Event.{Event}
 use Rattle.host_core.specs.Steps.{step_of, needs_room, needs_memory, is_free}
 use Rattle.journal_scan.specs.Looks.{NoneDue, due_asked, due_job, due_jobs, job_at}
@@ -196,6 +196,7 @@ verdicts_room by c v (j ∷ js) = verdicts_room by c v js
 dues_room : (past : List Entry) (by : ℕ) (due : Due) → room_for_all (made_by by (dues past due)) ≡ due_room due
 dues_room past by Nothing = refl
 dues_room past by (Settle child job verdict) = refl
+dues_room past by (Request child job task line) = refl
 dues_room past by (Replies child job lines) = puts_room by child job lines.items
 dues_room past by (EndOf child why) = verdicts_room by child (Ended why) (open_jobs past child)
 dues_room past by (EndedJobs child why) = verdicts_room by child (Ended why) (open_jobs past child)

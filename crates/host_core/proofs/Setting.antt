@@ -12,7 +12,7 @@ use Rattle.journal_model.specs.declared.verdict.Verdict.TheVariants.{Ended, Unse
 use Rattle.journal_model.specs.declared.verdict.Why.{Why}
 use Rattle.journal_model.specs.declared.verdict.Why.TheVariants.{Error as ErrorAt, Version as VersionFault}
 use Rattle.journal_model.specs.declared.entry.What.{What}
-use Rattle.journal_model.specs.declared.entry.What.TheVariants.{Claim, Start, NoStart, Ask, Put, Sent, Mute, Got, End, Verdict as Settled, Lost, Answer as Answered, Note as Noted}
+use Rattle.journal_model.specs.declared.entry.What.TheVariants.{Claim, Start, NoStart, Lead, Ask, Put, Sent, Mute, Got, End, Verdict as Settled, Lost, Answer as Answered, Note as Noted}
 use Rattle.journal_model.specs.declared.entry.Entry.{Entry}
 use Rattle.journal_model.specs.declared.opening.Opening.{Opening}
 use Rattle.journal_model.specs.Journal.{is_open, is_live, is_full, has_spoken, addressed, asked_jobs, open_jobs, is_unsent}
@@ -26,12 +26,12 @@ use Rattle.journal_model.proofs.PartsGrow.{come_names_none}
 use Rattle.journal_model.proofs.Registering.{settings-append, settings_from-none}
 use Rattle.journal_model.proofs.Projecting.{invariant}
 use Rattle.host_core.specs.declared.due.Due.{Due}
-use Rattle.host_core.specs.declared.due.Due.TheVariants.{Nothing, Settle, Replies, EndOf, EndedJobs, UnsentJobs}
+use Rattle.host_core.specs.declared.due.Due.TheVariants.{Nothing, Settle, Request, Replies, EndOf, EndedJobs, UnsentJobs}
 use Rattle.host_core.specs.declared.event.Event.{Event}
-use Rattle.host_core.specs.Steps.{Step, step_of, group_of, Comes}
+use Rattle.host_core.specs.Steps.{Step, step_of, group_of}
 use Rattle.host_core.specs.Moves.{dues, group_made}
 use Rattle.host_core.specs.Settings.{serves, serves_line, serves_message, is_reply, set_in, registers_after, is_line, IsLine, IsDueReply}
-use Rattle.host_core.proofs.Stepping.{step_comes}
+use Rattle.host_core.proofs.Stepping.{Came, plain_may, step_came}
 
 -- ---- settings are asides, and no errors
 
@@ -169,6 +169,7 @@ none_got {X = X} f h (x ∷ xs) = let here = h x in rw here (none_got f h xs)
 no_line_due : (past : List Entry) (due : Due) → list_all (λ w. not (is_got w)) (dues past due) ≡ true
 no_line_due past Nothing = refl
 no_line_due past (Settle child job verdict) = refl
+no_line_due past (Request child job task line) = refl
 no_line_due past (Replies child job lines) = none_got (λ line. Put child job line) (λ line. refl) lines.items
 no_line_due past (EndOf child why) = none_got (λ j. Settled child j (Ended why)) (λ j. refl) (open_jobs past child)
 no_line_due past (EndedJobs child why) = none_got (λ j. Settled child j (Ended why)) (λ j. refl) (open_jobs past child)
@@ -183,6 +184,7 @@ setting_first o past by (Got c line) due legal served e =
 setting_first o past by (Claim task child) due legal served e = sym (neither (is_reply due))
 setting_first o past by (Start child slot offer) due legal served e = sym (neither (is_reply due))
 setting_first o past by (NoStart slot) due legal served e = sym (neither (is_reply due))
+setting_first o past by (Lead child job line) due legal served e = sym (neither (is_reply due))
 setting_first o past by (Ask child job task line) due legal served e = sym (neither (is_reply due))
 setting_first o past by (Put child job line) due legal served e = sym (neither (is_reply due))
 setting_first o past by (Sent child) due legal served e = sym (neither (is_reply due))
@@ -204,7 +206,7 @@ pub settings_group : (o : Opening) (past : List Entry) (by : ℕ) (event : Event
     → settings (past ++ group_made past by what due) ≡ settings past ++ cons_option (set_in past what due) []
 settings_group o past by event None due few legal served e =
     ap settings (append-nil past) ∙ sym (append-nil (settings past)) ∙ ap (λ (x : Option RemoteMessage). settings past ++ cons_option x []) (sym (neither (is_reply due)))
-settings_group o past by event (Some w) due few legal served e = go (step_of o past by event) (step_comes o past by event few) e
+settings_group o past by event (Some w) due few legal served e = go (step_of o past by event) (step_came o past by event few) e
   where
     due_list : List Entry
     due_list = made_by by (dues past due)
@@ -212,38 +214,48 @@ settings_group o past by event (Some w) due few legal served e = go (step_of o p
     first : Entry
     first = record { by = by; what = w }
 
-    grown : (v : What) → may_come o past by v ≡ true → v ≡ w → due_list ≡ due_after o past first
+    grown : (v : What) → may_come o past by v ≡ true → v ≡ w → setting_of past w due_list ≡ set_in past (Some w) due
         → settings (past ++ first ∷ due_list) ≡ settings past ++ cons_option (set_in past (Some w) due) []
-    grown v may is rest =
+    grown v may is sets =
         settings-append past (first ∷ due_list) (λ c p. come_names_none o past c by w due_list (subst (λ (x : What). may_come o past by x ≡ true) is may) p)
         ∙ ap (λ (ms : List RemoteMessage). settings past ++ ms)
         (ap (λ (ms : List RemoteMessage). cons_option (setting_of past w due_list) ms) (settings_from-none (past ++ first ∷ []) due_list (no_line_made by (dues past due) (no_line_due past due)))
-        ∙ ap (λ (x : Option RemoteMessage). cons_option x []) (setting_first o past by w due legal served rest))
+        ∙ ap (λ (x : Option RemoteMessage). cons_option x []) sets)
 
-    go : (s : Step) → Comes o past by s → first ∷ due_list ≡ s.group → settings (past ++ first ∷ due_list) ≡ settings past ++ cons_option (set_in past (Some w) due) []
+    go : (s : Step) → Came o past by s → first ∷ due_list ≡ s.group → settings (past ++ first ∷ due_list) ≡ settings past ++ cons_option (set_in past (Some w) due) []
     go s (inl none) e = absurd (let no : first ∷ due_list ≡ [] = e ∙ none in cc)
-    go s (inr some) e =
+    go s (inr (inr named)) e =
+        let lead : What = Lead named.child named.job named.name in
+        let head : first ≡ record { by = by; what = lead } = first_is first (record { by = by; what = lead }) due_list _ (e ∙ named.is) in
+        let what_is : w ≡ lead = ap (λ (x : Entry). x.what) head in
+        let unset : setting_of past lead due_list ≡ set_in past (Some lead) due = sym (neither (is_reply due)) in
+        grown lead named.led.first (sym what_is) (subst (λ (x : What). setting_of past x due_list ≡ set_in past (Some x) due) (sym what_is) unset)
+    go s (inr (inl some)) e =
         let whole = e ∙ some.2 in
         let head : first ≡ record { by = by; what = some.0 } = first_is first (record { by = by; what = some.0 }) due_list (due_after o past (record { by = by; what = some.0 })) whole in
         let what_is : some.0 ≡ w = sym (ap (λ (x : Entry). x.what) head) in
         let tail = rest_is first (record { by = by; what = some.0 }) due_list (due_after o past (record { by = by; what = some.0 })) whole in
-        grown some.0 some.1 what_is (tail ∙ ap (λ (x : What). due_after o past (record { by = by; what = x })) what_is)
+        let rest : due_list ≡ due_after o past first = tail ∙ ap (λ (x : What). due_after o past (record { by = by; what = x })) what_is in
+        grown some.0 (plain_may o past by some.0 some.1) what_is (setting_first o past by w due legal served rest)
 
 -- a line that a group begins with has no byte 10
 pub line_fits : (o : Opening) (past : List Entry) (by : ℕ) (event : Event) (what : Option What) (due : Due) → length past < 2 ^ 64
     → group_made past by what due ≡ (step_of o past by event).group → IsLine what
 line_fits o past by event None due few e = tt
-line_fits o past by event (Some w) due few e = go (step_of o past by event) (step_comes o past by event few) e
+line_fits o past by event (Some w) due few e = go (step_of o past by event) (step_came o past by event few) e
   where
     clean : (v : What) → may_come o past by v ≡ true → is_line v ≡ true
     clean (Got child line) may = and_second (is_live past child) (not (has_newline line)) (not (is_full past)) may
     clean v may = refl
 
-    go : (s : Step) → Comes o past by s → record { by = by; what = w } ∷ made_by by (dues past due) ≡ s.group → is_line w ≡ true
+    go : (s : Step) → Came o past by s → record { by = by; what = w } ∷ made_by by (dues past due) ≡ s.group → is_line w ≡ true
     go s (inl none) e = absurd (let no : record { by = by; what = w } ∷ made_by by (dues past due) ≡ [] = e ∙ none in cc)
-    go s (inr some) e =
+    go s (inr (inr named)) e =
+        let head = first_is (record { by = by; what = w }) (record { by = by; what = Lead named.child named.job named.name }) (made_by by (dues past due)) _ (e ∙ named.is) in
+        subst (λ (x : What). is_line x ≡ true) (sym (ap (λ (x : Entry). x.what) head)) refl
+    go s (inr (inl some)) e =
         let head = first_is (record { by = by; what = w }) (record { by = by; what = some.0 }) (made_by by (dues past due)) (due_after o past (record { by = by; what = some.0 })) (e ∙ some.2) in
-        subst (λ (x : What). is_line x ≡ true) (sym (ap (λ (x : Entry). x.what) head)) (clean some.0 some.1)
+        subst (λ (x : What). is_line x ≡ true) (sym (ap (λ (x : Entry). x.what) head)) (clean some.0 (plain_may o past by some.0 some.1))
 
 -- ---- the registers
 

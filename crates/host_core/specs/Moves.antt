@@ -7,7 +7,7 @@ use Rattle.journal_model.specs.declared.verdict.Verdict.TheVariants.{Unsent}
 use Rattle.annex_model.specs.Messages.{RemoteMessage, remote_reading}
 use Rattle.annex_model.specs.Talks.{Shape, OneLine, Configs, Infos, spells_aside, said}
 use Rattle.journal_model.specs.declared.entry.What.{What}
-use Rattle.journal_model.specs.declared.entry.What.TheVariants.{Put, Verdict as Settled}
+use Rattle.journal_model.specs.declared.entry.What.TheVariants.{Ask, Put, Verdict as Settled}
 use Rattle.journal_model.specs.declared.entry.Entry.{Entry}
 use Rattle.journal_model.specs.declared.opening.Opening.{Opening}
 use Rattle.journal_model.specs.Journal.{open_jobs, is_unsent, has_spoken}
@@ -16,7 +16,7 @@ use Rattle.journal_model.specs.Room.{room_for}
 use Rattle.journal_model.specs.Due.{ending, ended_jobs, made_by, is_version_one, is_error, after_line}
 use Rattle.journal_scan.specs.Looks.{due_jobs}
 use Rattle.host_core.specs.declared.due.Due.{Due}
-use Rattle.host_core.specs.declared.due.Due.TheVariants.{Nothing, Settle, Replies, EndOf, EndedJobs, UnsentJobs}
+use Rattle.host_core.specs.declared.due.Due.TheVariants.{Nothing, Settle, Request, Replies, EndOf, EndedJobs, UnsentJobs}
 use Rattle.host_core.specs.declared.moves.Move.{Move}
 use Rattle.host_core.specs.Steps.{Step}
 
@@ -27,6 +27,7 @@ unsent_verdicts past child = map (λ j. Settled child j Unsent) (filter (is_unse
 abbrev pub dues : List Entry → Due → List What
 dues past Nothing = []
 dues past (Settle child job verdict) = Settled child job verdict ∷ []
+dues past (Request child job task line) = Ask child job task line ∷ []
 dues past (Replies child job lines) = map (λ line. Put child job line) lines.items
 dues past (EndOf child why) = ending past child why
 dues past (EndedJobs child why) = ended_jobs past child why
@@ -85,9 +86,10 @@ abbrev pub first_room : Option What → ℕ
 first_room None = 0
 first_room (Some w) = room_for w
 
--- two for each reply, and else nothing
+-- two for each reply, and three for a request
 abbrev pub due_room : Due → ℕ
 due_room (Replies child job lines) = 2 * length lines.items
+due_room (Request child job task line) = 3
 due_room due = 0
 
 -- what the whole group adds to it

@@ -7,16 +7,16 @@ use Rattle.journal_model.specs.declared.verdict.Verdict.{Verdict}
 use Rattle.chunk_log.specs.Current.{layouts_of}
 use Rattle.task_text.specs.declared.task.Task.{Task}
 use Rattle.annex_model.specs.Lines.{has_newline}
-use Rattle.annex_model.specs.Messages.{HostMessage, host_line, is_askable}
+use Rattle.annex_model.specs.Messages.{HostMessage, Export, host_line, is_askable}
 use Rattle.journal_model.specs.declared.entry.What.{What}
-use Rattle.journal_model.specs.declared.entry.What.TheVariants.{Claim, Start, NoStart, Ask, Sent, Mute, Got, End, Lost, Answer as Answered, Note as Noted}
+use Rattle.journal_model.specs.declared.entry.What.TheVariants.{Claim, Start, NoStart, Lead, Ask, Sent, Mute, Got, End, Lost, Answer as Answered, Note as Noted}
 use Rattle.journal_model.specs.declared.entry.Entry.{Entry}
 use Rattle.journal_model.specs.declared.opening.Opening.{Opening}
 use Rattle.journal_model.specs.Journal.{is_started, is_ended, is_mute, asked_jobs, open_jobs, has_spoken, verdict_of, unsent, is_full, on_wire, why_of}
 use Rattle.journal_model.specs.Room.{room_for}
-use Rattle.journal_model.specs.Due.{due_after}
-use Rattle.journal_model.specs.Legality.{may_come, is_empty, count, is_start, is_claimed, numbers_of, least_free, is_prepared, is_in_turn, may_ask, may_stop, is_claimed_by, has_open_job, has_busy_task, task_of, may_note}
-use Rattle.talk_serial.specs.Requests.{message_of}
+use Rattle.journal_model.specs.Due.{due_after, made_by}
+use Rattle.journal_model.specs.Legality.{IsGroup, is_empty, is_text, count, is_start, is_claimed, numbers_of, least_free, is_prepared, is_in_turn, may_ask, may_stop, is_claimed_by, has_open_job, has_busy_task, task_of, may_note}
+use Rattle.talk_serial.specs.Requests.{message_of, name_of}
 use Rattle.host_core.specs.Books.{notes_after}
 use Rattle.host_core.specs.declared.event.Event.{Event}
 use Rattle.host_core.specs.declared.event.Event.TheVariants.{Claim as ClaimEvent, Start as StartEvent, NoStart as NoStartEvent, Ask as AskEvent, Lookup, Look, Listen, Fetch, Got as GotEvent, Stop, Sent as SentEvent, Mute as MuteEvent, Answer as AnswerEvent, Note as NoteEvent, Layouts as LayoutsEvent, Shut}
@@ -63,6 +63,11 @@ next_job past child = length (asked_jobs past child)
 abbrev pub may_request : List Entry → ℕ → ℕ → ℕ → HostMessage → Bool
 may_request past by task child q =
     is_started past child && may_ask past by task child && is_in_turn past child (next_job past child) q && is_askable q
+
+-- the name that is said before it, where one is, is text on one line
+abbrev pub is_named_well : Option (List ℕ) → Bool
+is_named_well None = true
+is_named_well (Some name) = is_text name
 
 abbrev pub is_full_why : Why → Bool
 is_full_why Full = true
@@ -120,11 +125,21 @@ abbrev pub claim : Opening → List Entry → ℕ → ℕ → Option ℕ → Ste
 claim o past by child (Some task) = append o past by (Claim task child) (TaskReply task)
 claim o past by child None = only (if are_all_claimed o past then NoTask else Wait)
 
+-- the message as the next line to the child
+abbrev pub next_on_wire : List Entry → ℕ → HostMessage → List ℕ
+next_on_wire past child q = on_wire past child (next_job past child) (host_line q)
+
+-- the request, and before it the name, where one is said
+abbrev pub asking : List Entry → ℕ → ℕ → Option (List ℕ) → HostMessage → List What
+asking past task child None q = Ask child (next_job past child) task (next_on_wire past child q) ∷ []
+asking past task child (Some name) q =
+    Lead child (next_job past child) (next_on_wire past child (Export name)) ∷ Ask child (next_job past child) task (next_on_wire past child q) ∷ []
+
 -- the job is asked, or lost where the child is gone
-abbrev pub ask : Opening → List Entry → ℕ → ℕ → ℕ → HostMessage → Step
-ask o past by task child q =
+abbrev pub ask : Opening → List Entry → ℕ → ℕ → ℕ → Option (List ℕ) → HostMessage → Step
+ask o past by task child name q =
     if is_gone past child then append o past by (Lost child task) (gone past child)
-    else append o past by (Ask child (next_job past child) task (on_wire past child (next_job past child) (host_line q))) (Job (next_job past child))
+    else record { reply = Job (next_job past child); group = made_by by (asking past task child name q) }
 
 abbrev pub settled_so : Option Verdict → Reply
 settled_so (Some verdict) = Settled verdict
@@ -173,7 +188,8 @@ step_of o past by (StartEvent slot offer) =
     else odd
 step_of o past by (NoStartEvent slot) = if by == 0 then append o past by (NoStart slot) Done else odd
 step_of o past by (AskEvent child task request) =
-    if may_request past by task child (message_of request) then ask o past by task child (message_of request) else odd
+    if may_request past by task child (message_of request) && is_named_well (name_of request)
+    then ask o past by task child (name_of request) (message_of request) else odd
 step_of o past by (Lookup child job) = if is_asked past child job then only (settled_so (verdict_of past child job)) else odd
 step_of o past by (Look child) =
     if not (is_started past child) then odd
@@ -226,10 +242,10 @@ abbrev pub shut_by : ℕ → Event → Bool → Bool
 shut_by by (Shut on) shut = if nat_le by 1 then on else shut
 shut_by by _ shut = shut
 
--- the step appends nothing, or an entry that may come, with what it makes due
-abbrev pub Comes : Opening → List Entry → ℕ → Step → Type 0
-Comes o past by s = (s.group ≡ []) ⊎ ((w : What) × (may_come o past by w ≡ true) × (s.group ≡ group_of o past by w))
+-- the step appends nothing, or a whole group
+abbrev pub Comes : Opening → List Entry → Step → Type 0
+Comes o past s = (s.group ≡ []) ⊎ IsGroup o past s.group
 
--- some event by this number appends the entry, with what it makes due
+-- some event by this number appends the entry first
 abbrev pub Appends : Opening → List Entry → ℕ → What → Type 0
-Appends o past by w = (event : Event) × ((step_of o past by event).group ≡ group_of o past by w)
+Appends o past by w = (event : Event) × (rest : List Entry) × ((step_of o past by event).group ≡ record { by = by; what = w } ∷ rest)

@@ -32,6 +32,13 @@ pub enum Due {
         job: u64,
         lines: Vec<Bytes>,
     },
+    /// This request, which a name leads.
+    Request {
+        child: u32,
+        job: u64,
+        task: u32,
+        line: Bytes,
+    },
     /// The verdict of this job.
     Settle {
         child: u32,

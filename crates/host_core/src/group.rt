@@ -21,7 +21,7 @@ fn room_for(what: &What) -> usize
 {
     match what {
         What::Start { .. } | What::Ask { .. } => 3,
-        What::Put { .. } => 2,
+        What::Lead { .. } | What::Put { .. } => 2,
         What::Got { .. } | What::NoStart { .. } | What::Lost { .. } | What::Note { .. } => 1,
         _ => 0,
     }
@@ -33,6 +33,7 @@ fn due_room(due: &Due) -> Option<usize>
 {
     match due {
         Due::Replies { lines, .. } => lines.len().checked_mul(2),
+        Due::Request { .. } => Some(3),
         _ => Some(0),
     }
 }
@@ -175,6 +176,21 @@ fn push_dues(journal: &mut Journal, past: Past, by: u32, due: Due)
                 child,
                 job,
                 verdict,
+            },
+        ),
+        Due::Request {
+            child,
+            job,
+            task,
+            line,
+        } => push(
+            journal,
+            by,
+            What::Ask {
+                child,
+                job,
+                task,
+                line,
             },
         ),
         Due::Replies { child, job, lines } => push_replies(journal, by, child, job, lines),

@@ -5,7 +5,7 @@ ghost use Rattle.task_text.specs.declared.task.Task.{Task};
 ghost use Rattle.journal_model.specs.declared.entry.What.{What};
 ghost use Rattle.journal_model.specs.declared.entry.Entry.{Entry};
 ghost use Rattle.journal_model.specs.declared.opening.Opening.{Opening};
-ghost use Rattle.journal_model.specs.Legality.{Legal, may_come, task_of};
+ghost use Rattle.journal_model.specs.Legality.{Legal, MayStand, task_of};
 ghost use Rattle.journal_model.specs.Notes.{AreCurrentAt};
 ghost use Rattle.journal_model.specs.NoteRows.{to_do, known_since, claimed, stored, noting, noted_and_answered};
 ghost use Rattle.journal_model.specs.Rows.{greeting};
@@ -15,12 +15,12 @@ ghost use Rattle.host_core.specs.declared.event.Event.{Event};
 ghost use Rattle.host_core.specs.declared.event.Event.TheVariants.{Layouts as AskLayouts};
 ghost use Rattle.host_core.specs.declared.event.Reply.TheVariants.{Layouts as Known, Odd};
 
-/// An event appends nothing, or an entry that may come with what it makes due, and keeps a journal legal. Each entry that
-/// may come is one that some event appends first. A job's number has 64 bits, so these hold of journals shorter than that.
+/// An event appends nothing, or a whole group, and keeps a journal legal. Where nothing is due, each entry that may stand is one that
+/// some event appends first. A job's number has 64 bits, so these hold of journals shorter than that.
 pub fn events_keep_legal()
-    ensures group { (o : Opening) (past : List Entry) (by : ℕ) (event : Event) → length past < 2 ^ 64 → Comes o past by (step_of o past by event) }
+    ensures group { (o : Opening) (past : List Entry) (by : ℕ) (event : Event) → length past < 2 ^ 64 → Comes o past (step_of o past by event) }
     ensures legal { (o : Opening) (past : List Entry) (by : ℕ) (event : Event) → length past < 2 ^ 64 → Legal o past → Legal o (past ++ (step_of o past by event).group) }
-    ensures exact { (o : Opening) (past : List Entry) (by : ℕ) (w : What) → length past < 2 ^ 64 → (may_come o past by w ≡ true) ↔ Appends o past by w }
+    ensures exact { (o : Opening) (past : List Entry) (by : ℕ) (w : What) → length past < 2 ^ 64 → MayStand o past [] (record { by = by; what = w }) ↔ Appends o past by w }
 {}
 
 /// The layouts that are answered are those in which the remote has the task's key by all notes so far. A book that a run begins

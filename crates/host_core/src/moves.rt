@@ -4,16 +4,18 @@ ghost use Rattle.annex_model.specs.Messages.{host_line, is_askable};
 ghost use Rattle.journal_model.specs.Limits.{most_tasks};
 ghost use Rattle.journal_model.specs.Journal.{on_wire};
 ghost use Rattle.journal_model.specs.Legality.{Legal, least_free};
-ghost use Rattle.talk_serial.specs.Requests.{message_of};
-ghost use Rattle.host_core.specs.Steps.{is_free, step_of, claim, is_gone, gone, may_end, may_answer, may_add_note, told, unless_shut, shut_by, shut_for, is_awaited, is_idle, listening, resting, next_line};
+ghost use Rattle.journal_model.specs.Due.{made_by};
+ghost use Rattle.talk_serial.specs.Requests.{message_of, name_of};
+ghost use Rattle.wire_msg.specs.Shown.{host_shown};
+ghost use Rattle.host_core.specs.Steps.{is_free, step_of, claim, asking, next_job, next_on_wire, is_gone, gone, may_end, may_answer, may_add_note, told, unless_shut, shut_by, shut_for, is_awaited, is_idle, listening, resting, next_line};
 ghost use Rattle.host_core.specs.Books.{IsNoted};
-ghost use Rattle.host_core.specs.Moves.{IsStep};
+ghost use Rattle.host_core.specs.Moves.{IsStep, group_made};
 ghost use Rattle.host_core.specs.Settings.{IsServed, IsDueReply};
 ghost use Rattle.journal_model.specs.declared.verdict.Why.TheVariants.{Full};
 ghost use Rattle.journal_model.specs.declared.entry.Entry.{Entry};
 ghost use Rattle.journal_model.specs.declared.entry.What.TheVariants.{End};
 ghost use Rattle.host_core.specs.declared.event.Reply.{Reply};
-ghost use Rattle.host_core.specs.declared.event.Reply.TheVariants.{Gone};
+ghost use Rattle.host_core.specs.declared.event.Reply.TheVariants.{Gone, Job};
 ghost use Rattle.host_core.specs.declared.due.Due.TheVariants.{Nothing, EndedJobs};
 
 use crate::due::{Due, due_by_got};
@@ -30,7 +32,7 @@ use journal_look::{
 use journal_model::{Answer, Opening, What, Why};
 use std::alloc::Global;
 use talk_serial::Request;
-use wire_msg::write_host;
+use wire_msg::{HostMsg, write_host};
 
 /// The answer to an event, the entry that it appends first, if it appends one, and what is due after that.
 #[derive(Drop)]
@@ -133,20 +135,66 @@ fn no_start(opening: &Opening, journal: &Journal, by: u32, slot: u32) -> Move
     }
 }
 
-/// The line that asks the request as this job.
-fn ask_line(
+/// The line that says the message in this job.
+fn line_of(
     alloc: Global,
     journal: &Journal,
     child: u32,
     job: u64,
-    request: &Request,
+    message: &HostMsg<'_>,
 ) -> Result<Bytes, NoMemory>
-    requires { is_askable (message_of request.now) ≡ true }
-    ensures { IfOk result (λ b. b ≡ on_wire journal.now.entries child job (host_line (message_of request.now))) }
+    requires { is_askable (host_shown message.now) ≡ true }
+    ensures { IfOk result (λ b. b ≡ on_wire journal.now.entries child job (host_line (host_shown message.now))) }
 {
-    let message = request.message();
-    let line = write_host(alloc, &message)?;
+    let line = write_host(alloc, message)?;
     on_wire(alloc, journal, child, job, line)
+}
+
+/// The next job of the child, asked by that line, and by one that says the name before it, where there is one.
+fn asked(
+    alloc: Global,
+    journal: &Journal,
+    child: u32,
+    task: u32,
+    request: &Request,
+    line: Bytes,
+) -> Result<Move, NoMemory>
+    requires { line ≡ next_on_wire journal.now.entries child (message_of request.now) }
+    ensures group { IfOk result (λ m. (by : ℕ) → group_made journal.now.entries by m.what m.due ≡ made_by by (asking journal.now.entries task child (name_of request.now) (message_of request.now))) }
+    ensures reply { IfOk result (λ m. m.reply ≡ Job (next_job journal.now.entries child)) }
+    ensures quiet { IfOk result (λ m. IsDueReply journal.now.entries m.what m.due) }
+{
+    let job = next_job(journal, child);
+    let reply = Reply::Job(job);
+    match request.name() {
+        None => Ok(append(
+            What::Ask {
+                child,
+                job,
+                task,
+                line,
+            },
+            reply,
+        )),
+        Some(name) => {
+            let said = HostMsg::Export(name.view().as_bytes());
+            let lead = line_of(alloc, journal, child, job, &said)?;
+            Ok(Move {
+                reply,
+                what: Some(What::Lead {
+                    child,
+                    job,
+                    line: lead,
+                }),
+                due: Due::Request {
+                    child,
+                    job,
+                    task,
+                    line,
+                },
+            })
+        }
+    }
 }
 
 fn ask(
@@ -162,23 +210,17 @@ fn ask(
     ensures reply { IfOk result (λ m. IsDueReply journal.now.entries m.what m.due) }
     ensures free { is_free (step_of opening.now journal.now.entries by (Event.Ask child task request.now)) ≡ true → IsOk result }
 {
-    if !requests::may_request(journal, by, task, child, request) {
+    if !requests::may_request(journal, by, task, child, request)
+        || !requests::is_named_well(request)
+    {
         return Ok(only(Reply::Odd));
     }
     if is_gone(journal, child) {
         return Ok(append(What::Lost { child, task }, gone(journal, child)));
     }
-    let job = next_job(journal, child);
-    let line = ask_line(alloc, journal, child, job, request)?;
-    Ok(append(
-        What::Ask {
-            child,
-            job,
-            task,
-            line,
-        },
-        Reply::Job(job),
-    ))
+    let message = request.message();
+    let line = line_of(alloc, journal, child, next_job(journal, child), &message)?;
+    asked(alloc, journal, child, task, request, line)
 }
 
 fn lookup(opening: &Opening, journal: &Journal, by: u32, child: u32, job: u64) -> Move

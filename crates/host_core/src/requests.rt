@@ -4,8 +4,8 @@ ghost use Rattle.std.specs.List.{list_any};
 ghost use Rattle.annex_model.specs.Extensions.{names_of};
 ghost use Rattle.annex_model.specs.Messages.{is_sent_key, is_askable};
 ghost use Rattle.journal_model.specs.Legality.{suits_child, is_in_turn, is_text};
-ghost use Rattle.talk_serial.specs.Requests.{message_of};
-ghost use Rattle.host_core.specs.Steps.{may_request};
+ghost use Rattle.talk_serial.specs.Requests.{message_of, name_of};
+ghost use Rattle.host_core.specs.Steps.{may_request, is_named_well};
 
 use crate::lines::has_newline;
 use ann_key::Key;
@@ -35,14 +35,27 @@ fn is_text(file: &[u8]) -> bool
     }
 }
 
-/// Whether the request's names are those that the child is told, and its file is named by text on one line.
+/// Whether the request's names are those that the child is told, and its files are named by text on one line.
 fn suits_child(journal: &Journal, child: u32, request: &Request) -> bool
     ensures { result ≡ suits_child journal.now.entries child (message_of request.now) }
 {
     match request {
         Request::Extensions { offer } => { are_offered(*offer, is_offered(journal, child)) }
-        Request::Transfer { file, .. } => is_text(file.view().as_bytes()),
+        Request::Transfer { file, .. } | Request::TransferExport { file, .. } => {
+            is_text(file.view().as_bytes())
+        }
+        Request::RenameExport { onto, .. } => is_text(onto.view().as_bytes()),
         _ => true,
+    }
+}
+
+/// Whether the name that is said before the request, where one is, is text on one line.
+pub(super) fn is_named_well(request: &Request) -> bool
+    ensures { result ≡ is_named_well (name_of request.now) }
+{
+    match request.name() {
+        Some(name) => is_text(name.view().as_bytes()),
+        None => true,
     }
 }
 
@@ -75,6 +88,10 @@ fn is_askable(request: &Request) -> bool
         Request::CheckPresent { key } => is_sent_key(key),
         Request::Remove { key } => is_sent_key(key),
         Request::WhereIs { key } => is_sent_key(key),
+        Request::TransferExport { key, .. } => is_sent_key(key),
+        Request::CheckExport { key, .. } => is_sent_key(key),
+        Request::RemoveExport { key, .. } => is_sent_key(key),
+        Request::RenameExport { key, .. } => is_sent_key(key),
         _ => true,
     }
 }

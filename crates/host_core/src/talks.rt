@@ -14,7 +14,7 @@ ghost use Rattle.journal_model.specs.Legality.{Legal};
 ghost use Rattle.host_core.specs.Moves.{takes_lines, said_by};
 
 use ann_key::NoMemory;
-use journal_look::{Journal, first_text, said_at};
+use journal_look::{Journal, request_text, said_at};
 use journal_model::Opening;
 use std::alloc::Global;
 use talk_serial::{Heard, Request, Talk};
@@ -90,7 +90,7 @@ fn talk_of(
     ensures open { IfOk result (λ t. is_over t ≡ false) }
     ensures follows { IfOk result (λ t. Follows t (said (part journal.now.entries child job))) }
 {
-    let Some(text) = first_text(journal, child, job) else {
+    let Some(text) = request_text(journal, child, job) else {
         unreachable!()
     };
     let Some(asked) = read_host(text) else {

@@ -76,7 +76,7 @@ fn may_come(wish: Wish, what: WhatRef<'_>) -> bool {
         | WhatRef::Sent { .. }
         | WhatRef::Note { .. } => false,
         WhatRef::Ask { child, .. } => is_about(wish, child),
-        WhatRef::Put { child, .. } => match wish {
+        WhatRef::Lead { child, .. } | WhatRef::Put { child, .. } => match wish {
             Wish::Line { child: of } => of == child,
             _ => false,
         },

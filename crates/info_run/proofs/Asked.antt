@@ -9,7 +9,8 @@ use Rattle.std.proofs.lemmas.List.Folds.{list_all-append}
 use Rattle.journal_model.specs.declared.verdict.Why.{Why}
 use Rattle.journal_model.specs.declared.verdict.Verdict.{Verdict}
 use Rattle.journal_model.specs.declared.verdict.Verdict.TheVariants.{Ended, Unsent}
-use Rattle.annex_model.specs.Messages.{HostMessage, Listconfigs, Getcost, Getavailability, Getinfo, Whereis, host_line, is_askable}
+use Rattle.annex_model.specs.Messages.{HostMessage, Listconfigs, Getcost, Getavailability, Getinfo, Whereis, Transferexport, Checkpresentexport, Removeexport, Renameexport, host_line, is_askable}
+use Rattle.annex_model.specs.Talks.{has_lead}
 use Rattle.journal_model.specs.declared.entry.What.{What}
 use Rattle.journal_model.specs.declared.entry.What.TheVariants.{Start, Ask, End, Lost}
 use Rattle.journal_model.specs.declared.entry.Entry.{Entry}
@@ -21,7 +22,8 @@ use Rattle.journal_model.proofs.Looks.{both, same, any-append, each_of-append, v
 use Rattle.journal_model.proofs.Linking.{why_is_end}
 use Rattle.journal_model.proofs.Verdicts.{ended_verdict, unsent_verdict}
 use Rattle.talk_serial.specs.declared.request.Request.{Request}
-use Rattle.talk_serial.specs.Requests.{message_of}
+use Rattle.talk_serial.specs.Requests.{message_of, name_of}
+use Rattle.talk_serial.proofs.Reading.{unnamed}
 use Rattle.host_core.specs.Steps.{group_of, next_job, may_request}
 use Rattle.journal_model.specs.Shares.{are_by, by_link, is_closed}
 use Rattle.link_roles.specs.Asks.{lost_as}
@@ -197,6 +199,18 @@ not_lost : {A : Type 0} (v : Verdict) (why : Option Why) → is_some (final_in v
 not_lost v None h e = let bad : false ≡ true = subst (λ (x : Verdict). is_some (final_in x) ≡ true) e h in absurd cc
 not_lost v (Some why) h e = let bad : false ≡ true = subst (λ (x : Verdict). is_some (final_in x) ≡ true) e h in absurd cc
 
+-- no question has a lead, so no name was said before it
+question_leads : (q : HostMessage) → is_question q ≡ true → has_lead q ≡ false
+question_leads (Transferexport store key file) h = absurd cc
+question_leads (Checkpresentexport key) h = absurd cc
+question_leads (Removeexport key) h = absurd cc
+question_leads (Renameexport key onto) h = absurd cc
+question_leads q h = refl
+
+pub asked_plain : (o : Opening) (old new : List Entry) (by c : ℕ) (r : Request) (v : Verdict) → is_question (message_of r) ≡ true → AskedAlone o old new by c 0 (name_of r) (message_of r) v
+    → AskedAlone o old new by c 0 None (message_of r) v
+asked_plain o old new by c r v h a = subst (λ (n : Option (List ℕ)). AskedAlone o old new by c 0 n (message_of r) v) (unnamed r (question_leads (message_of r) h)) a
+
 module _ (o : Opening) (asked : List HostMessage) (old mid new : List Entry) (c by : ℕ) (q : HostMessage) (first : by ≡ 0) (m : MayGoOn asked old mid c) where
   abbrev line : List ℕ
   line = on_wire mid c (next_job mid c) (host_line q)
@@ -211,7 +225,7 @@ module _ (o : Opening) (asked : List HostMessage) (old mid new : List Entry) (c 
   own_line true e = refl
   own_line false e = absurd cc
 
-  module _ (v : Verdict) (s : IsSettled o mid new by c 0 q v) where
+  module _ (v : Verdict) (s : IsSettled o mid new by c 0 None q v) where
     abbrev more : List Entry
     more = request ++ s.goes.more
 
@@ -276,7 +290,7 @@ module _ (o : Opening) (asked : List HostMessage) (old mid new : List Entry) (c 
             let two : length (asked ++ q ∷ []) ≡ length asked + 1 = length-append asked (q ∷ []) in
             omega (arith, one, two, m.jobs)
 
-  pub goes_on : (v : Verdict) → is_some (final_in v) ≡ true → AskedAlone o mid new by c 0 q v → MayGoOn (asked ++ q ∷ []) old new c
+  pub goes_on : (v : Verdict) → is_some (final_in v) ≡ true → AskedAlone o mid new by c 0 None q v → MayGoOn (asked ++ q ∷ []) old new c
   goes_on v final (inl s) = goes_settled v s final
   goes_on v final (inr l) = not_lost v (why_of mid c) final l.lost
 
@@ -328,7 +342,7 @@ failed_end journal c kept h = go (why_of journal c) refl
     go None e = let bad : false ≡ true = ap is_some (sym e) ∙ why_is_end journal c ∙ h in absurd cc
 
 module _ (o o' : Opening) (asked : List HostMessage) (old mid new : List Entry) (c by : ℕ) (q : HostMessage) (first : by ≡ 0) (m : MayGoOn asked old mid c) where
-  keeps : (v : Verdict) → AskedAlone o mid new by c 0 q v → list_all (λ (e : Entry). is_kept e.what) new ≡ true
+  keeps : (v : Verdict) → AskedAlone o mid new by c 0 None q v → list_all (λ (e : Entry). is_kept e.what) new ≡ true
   keeps v (inl s) =
       ap (list_all (λ (e : Entry). is_kept e.what)) (grown o asked old mid new c by q first m v s)
       ∙ all_both is_kept mid (more o asked old mid new c by q first m v s) m.kept (all_so (is_of_asking c) is_kept (asking_kept c) (more o asked old mid new c by q first m v s) (own o asked old mid new c by q first m v s))
@@ -343,7 +357,7 @@ module _ (o o' : Opening) (asked : List HostMessage) (old mid new : List Entry) 
       go false e h = inr (ap (λ (x : List Entry). is_mute x c) l.made ∙ any-append (mutes c) mid (group_of o mid by (Lost c 0)) ∙ ap (λ (b : Bool). b || is_mute (group_of o mid by (Lost c 0)) c) h)
 
   -- a question without an answer is the last
-  pub stops : (v : Verdict) → Legal o' new → is_some (final_in v) ≡ false → AskedAlone o mid new by c 0 q v → (Asks asked old new c ⊎ Asks (asked ++ q ∷ []) old new c) × HasFailed new c
+  pub stops : (v : Verdict) → Legal o' new → is_some (final_in v) ≡ false → AskedAlone o mid new by c 0 None q v → (Asks asked old new c ⊎ Asks (asked ++ q ∷ []) old new c) × HasFailed new c
   stops v legal over (inr l) = (inl (asks_lost o asked old mid new c by q first m v l), lost_failed v l)
   stops (Ended why) legal over (inl s) =
       (inr (asks_settled o asked old mid new c by q first m (Ended why) s), failed_end new c (keeps (Ended why) (inl s)) (ended_verdict o' new legal c (next_job mid c) why s.settled))

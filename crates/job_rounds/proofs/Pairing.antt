@@ -3,7 +3,7 @@ use Rattle.std.proofs.Common.{◌≡◌, ℕ, ◌+◌, ◌-◌, ◌<◌, List, [
 use Rattle.std.specs.Prelude.{◌&&◌, All, slice_get}
 use Rattle.std.specs.List.{list_all}
 use Rattle.journal_model.specs.declared.entry.What.{What}
-use Rattle.journal_model.specs.declared.entry.What.TheVariants.{Claim, Start, Ask, Put, Sent, Mute, Got, End, Verdict as Settled, Lost}
+use Rattle.journal_model.specs.declared.entry.What.TheVariants.{Claim, Start, Lead, Ask, Put, Sent, Mute, Got, End, Verdict as Settled, Lost}
 use Rattle.journal_model.specs.declared.entry.Entry.{Entry}
 use Rattle.journal_model.specs.Journal.{accepts_async, any, is_started, is_tagged, offers, starts, verdict_of}
 use Rattle.journal_model.specs.Shares.{are_by, is_closed}
@@ -35,6 +35,7 @@ other_child child d c far h = subst (λ (x : ℕ). (x == c) ≡ false) (sym (sam
 -- what a worker makes over its child names no other
 pub serves_names : (d c : ℕ) (w : What) → (d == c) ≡ false → serves d w ≡ true → names c w ≡ false
 serves_names d c (Claim task child) far h = other_child child d c far h
+serves_names d c (Lead child job line) far h = other_child child d c far h
 serves_names d c (Ask child job task line) far h = other_child child d c far h
 serves_names d c (Put child job line) far h = other_child child d c far (sym (or_false (child == d)) ∙ h)
 serves_names d c (Sent child) far h = other_child child d c far (sym (or_false (child == d)) ∙ h)

@@ -9,7 +9,7 @@ use Rattle.journal_model.specs.declared.verdict.Why.{Why}
 use Rattle.journal_model.specs.declared.verdict.Why.TheVariants.{Closed}
 use Rattle.journal_model.specs.declared.answer.Answer.{Answer}
 use Rattle.journal_model.specs.declared.entry.What.{What}
-use Rattle.journal_model.specs.declared.entry.What.TheVariants.{Claim, Start, NoStart, Ask, Put, Sent, Mute, Got, End, Verdict as Settled, Lost, Answer as Answered, Note as Noted}
+use Rattle.journal_model.specs.declared.entry.What.TheVariants.{Claim, Start, NoStart, Lead, Ask, Put, Sent, Mute, Got, End, Verdict as Settled, Lost, Answer as Answered, Note as Noted}
 use Rattle.journal_model.specs.declared.entry.Entry.{Entry}
 use Rattle.journal_model.specs.declared.opening.Opening.{Opening}
 use Rattle.journal_model.specs.Journal.{any, asked_jobs, is_ended, is_mute, is_started, is_tagged, open_jobs, verdict_of, why_of}
@@ -299,6 +299,7 @@ stint_pool first c w le h = go w h
     go (Claim task child) k = refl
     go (Start child slot offer) k = absurd cc
     go (NoStart slot) k = absurd cc
+    go (Lead child job line) k = at child k
     go (Ask child job task line) k = at child k
     go (Put child job line) k = at child k
     go (Sent child) k = at child k

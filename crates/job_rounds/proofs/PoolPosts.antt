@@ -5,7 +5,7 @@ use Rattle.std.specs.List.{list_all, list_any, cons_option, range_with_len}
 use Rattle.std.proofs.lemmas.Bool.Decides.{nat_tests}
 use Rattle.std.proofs.lemmas.List.Elements.{All-head, All-tail, All-weaker}
 use Rattle.journal_model.specs.declared.entry.What.{What}
-use Rattle.journal_model.specs.declared.entry.What.TheVariants.{Claim, Start, NoStart, Ask, Put, Sent, Mute, Got, End, Verdict as Settled, Lost, Answer as Answered, Note as Noted}
+use Rattle.journal_model.specs.declared.entry.What.TheVariants.{Claim, Start, NoStart, Lead, Ask, Put, Sent, Mute, Got, End, Verdict as Settled, Lost, Answer as Answered, Note as Noted}
 use Rattle.journal_model.specs.declared.entry.Entry.{Entry}
 use Rattle.journal_model.specs.Journal.{any, is_tagged}
 use Rattle.journal_model.specs.Legality.{claims, is_claimed}
@@ -71,6 +71,7 @@ claims_its c task child h = same_number child c h
 
 pub serves_within : (first c : ℕ) (w : What) → first ≤ c → serves c w ≡ true → in_pool first w ≡ true
 serves_within first c (Claim task child) le h = refl
+serves_within first c (Lead child job line) le h = at_least first c child le h
 serves_within first c (Ask child job task line) le h = at_least first c child le h
 serves_within first c (Put child job line) le h = at_least first c child le (or_first (child == c) false refl h)
 serves_within first c (Sent child) le h = at_least first c child le (or_first (child == c) false refl h)

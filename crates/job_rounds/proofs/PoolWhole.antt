@@ -6,7 +6,7 @@ use Rattle.std.proofs.lemmas.Bool.Decides.{nat_tests}
 use Rattle.std.proofs.lemmas.List.Elements.{All-cons, All-head, All-nil, All-weaker}
 use Rattle.ann_outside.specs.Starts.{Starts}
 use Rattle.journal_model.specs.declared.entry.What.{What}
-use Rattle.journal_model.specs.declared.entry.What.TheVariants.{Claim, Start, NoStart, Ask, Put, Sent, Mute, Got, End, Verdict as Settled, Lost, Answer as Answered, Note as Noted}
+use Rattle.journal_model.specs.declared.entry.What.TheVariants.{Claim, Start, NoStart, Lead, Ask, Put, Sent, Mute, Got, End, Verdict as Settled, Lost, Answer as Answered, Note as Noted}
 use Rattle.journal_model.specs.declared.entry.Entry.{Entry}
 use Rattle.journal_model.specs.declared.opening.Opening.{Opening}
 use Rattle.journal_model.specs.Journal.{any, is_ended, is_started, is_tagged}
@@ -62,6 +62,7 @@ pool_wider first n w le h = go w h
     go (Claim task child) k = refl
     go (Start child slot offer) k = (let t = both (nat_le n child) (not (slot == 0)) k in rw (low child t.0, t.1) refl)
     go (NoStart slot) k = k
+    go (Lead child job line) k = low child k
     go (Ask child job task line) k = low child k
     go (Put child job line) k = low child k
     go (Sent child) k = low child k

@@ -11,7 +11,7 @@ use Rattle.journal_model.specs.declared.verdict.Why.{Why}
 use Rattle.journal_model.specs.declared.verdict.Why.TheVariants.{Closed}
 use Rattle.journal_model.specs.declared.answer.Answer.{Answer}
 use Rattle.journal_model.specs.declared.entry.What.{What}
-use Rattle.journal_model.specs.declared.entry.What.TheVariants.{Claim, Start, Ask, Put, Sent, Mute, Got, End, Verdict as Settled, Lost, Answer as Answered, Note as Noted}
+use Rattle.journal_model.specs.declared.entry.What.TheVariants.{Claim, Start, Lead, Ask, Put, Sent, Mute, Got, End, Verdict as Settled, Lost, Answer as Answered, Note as Noted}
 use Rattle.journal_model.specs.declared.entry.Entry.{Entry}
 use Rattle.journal_model.specs.declared.opening.Opening.{Opening}
 use Rattle.journal_model.specs.Journal.{any, asked_jobs, each_of, is_ended, is_mute, is_tagged, accepts_async, offers, verdict_of, why_of}
@@ -20,8 +20,8 @@ use Rattle.journal_model.specs.Legality.{Legal, answers, claims, count, has_open
 use Rattle.journal_model.specs.Makers.{is_taken_by, made_by_number}
 use Rattle.journal_model.specs.Output.{answers_in}
 use Rattle.journal_model.specs.Shares.{by_ear, by_mouth, is_by_line, is_closed, is_memory}
-use Rattle.journal_model.proofs.Growing.{Legal-induction}
-use Rattle.journal_model.proofs.Holding.{due_names, held_busy, held_unanswered}
+use Rattle.journal_model.proofs.Growing.{Near, Legal-induction}
+use Rattle.journal_model.proofs.Holding.{due_names, held_busy, held_near}
 use Rattle.journal_model.proofs.Idling.{are_mains, asks_none, mains_ask}
 use Rattle.journal_model.proofs.Linking.{why_is_end}
 use Rattle.journal_model.proofs.Looks.{any-append, both, differ, either_left, either_right, entry, same, same_number, true_not_false}
@@ -97,11 +97,11 @@ count_first p e xs none = go (p e.what)
 
 pub answered_once : (o : Opening) (journal : List Entry) → Legal o journal → (t : ℕ) → count (answers t) journal ≤ 1
 answered_once o journal l =
-    Legal-induction o (λ past. (t : ℕ) → count (answers t) past ≤ 1) (λ t. omega arith) (λ past e legal before may. step past e.by e.what legal before may) journal l
+    Legal-induction o (λ past. (t : ℕ) → count (answers t) past ≤ 1) (λ t. omega arith) (λ past e near before may. step past e.by e.what near before may) journal l
   where
-    step : (past : List Entry) (by : ℕ) (w : What) → Legal o past → ((t : ℕ) → count (answers t) past ≤ 1) → may_come o past by w ≡ true
+    step : (past : List Entry) (by : ℕ) (w : What) → Near o past → ((t : ℕ) → count (answers t) past ≤ 1) → may_come o past by w ≡ true
         → (t : ℕ) → count (answers t) (past ++ entry by w ∷ due_after o past (entry by w)) ≤ 1
-    step past by w legal before may t = by_either (answers t w) given ungiven
+    step past by w near before may t = by_either (answers t w) given ungiven
       where
         due : List Entry
         due = due_after o past (entry by w)
@@ -126,7 +126,7 @@ answered_once o journal l =
         fresh (Answered task answer) is m =
             let held : is_claimed_by past by task ≡ true = (both (is_claimed_by past by task) (not (has_open_job past task)) m).0 in
             let busy : is_busy past t ≡ true = subst (λ (x : ℕ). is_busy past x ≡ true) (same_number task t is) (held_busy by (holder past task) held) in
-            unanswered (is_claimed past t) (any (answers t) past) (sym (held_unanswered o past legal t) ∙ busy)
+            unanswered (is_claimed past t) (any (answers t) past) (sym (held_near o past near t) ∙ busy)
         fresh v is m = absurd cc
 
         given : answers t w ≡ true → count (answers t) (past ++ more) ≤ 1
@@ -215,6 +215,7 @@ mouth_within c w h = absurd cc
 
 worker_within : (c : ℕ) (w : What) → works c w ≡ true → in_stint c w ≡ true
 worker_within c (Claim task child) h = refl
+worker_within c (Lead child job line) h = h
 worker_within c (Ask child job task line) h = h
 worker_within c (Lost child task) h = h
 worker_within c (Answered task answer) h = refl

@@ -5,7 +5,7 @@ use Rattle.std.specs.List.{cons_option, last_or, list_all, list_any}
 use Rattle.std.proofs.Math.Nat.{min-le_left}
 use Rattle.std.proofs.lemmas.Bool.Decides.{nat_tests}
 use Rattle.journal_model.specs.declared.entry.What.{What}
-use Rattle.journal_model.specs.declared.entry.What.TheVariants.{Claim, Start, NoStart, Ask, Put, Sent, Mute, Got, End, Verdict as Settled, Lost, Answer as Answered, Note}
+use Rattle.journal_model.specs.declared.entry.What.TheVariants.{Claim, Start, NoStart, Lead, Ask, Put, Sent, Mute, Got, End, Verdict as Settled, Lost, Answer as Answered, Note}
 use Rattle.journal_model.specs.declared.entry.Entry.{Entry}
 use Rattle.journal_model.specs.declared.opening.Opening.{Opening}
 use Rattle.journal_model.specs.Journal.{any, each_of, offers}
@@ -39,6 +39,7 @@ pub stint_pool : (c : ℕ) (w : What) → in_stint c w ≡ true → in_pool c w 
 stint_pool c (Claim task child) h = refl
 stint_pool c (Start child slot offer) h = absurd cc
 stint_pool c (NoStart slot) h = absurd cc
+stint_pool c (Lead child job line) h = same_least c child h
 stint_pool c (Ask child job task line) h = same_least c child h
 stint_pool c (Put child job line) h = same_least c child h
 stint_pool c (Sent child) h = same_least c child h
@@ -52,6 +53,7 @@ stint_pool c (Note task chunk count) h = refl
 
 -- nothing is of an earlier child
 pub apart_pool : (n d : ℕ) → d < n → (w : What) → in_pool n w ≡ true → is_of_child d w ≡ false
+apart_pool n d below (Lead child job line) h = later_differs n d child below h
 apart_pool n d below (Ask child job task line) h = later_differs n d child below h
 apart_pool n d below (Put child job line) h = later_differs n d child below h
 apart_pool n d below (Sent child) h = later_differs n d child below h

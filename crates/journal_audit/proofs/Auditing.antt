@@ -1,9 +1,9 @@
 -- What an audit finds.
-use Rattle.std.proofs.Common.{◌≡◌, Bool, true, false, ℕ, zero, suc, List, [], ◌∷◌, ◌++◌, ◌+◌, ◌<◌, ◌≤◌, refl, sym, ap, subst, ◌∙◌, Some, arith, inl, inr, length, append-nil, take, drop, slice_get, get_or, add-one, None}
+use Rattle.std.proofs.Common.{◌≡◌, Bool, true, false, ℕ, zero, suc, List, [], ◌∷◌, ◌++◌, ◌+◌, ◌<◌, ◌≤◌, refl, sym, ap, subst, ◌∙◌, Some, arith, inl, inr, length, append-nil, take, drop, slice_get, get_or, add-one, Option, None}
 use Rattle.std.proofs.Math.Nat.{lt_of_not-le}
 use Rattle.std.proofs.Math.Seq.{take-suc}
 use Rattle.std.proofs.lemmas.List.{length-append, length-take-le, take_all}
-use Rattle.std.proofs.lemmas.Option.{slice_get_read}
+use Rattle.std.proofs.lemmas.Option.{slice_get_past, slice_get_read}
 use Rattle.journal_model.specs.declared.entry.Entry.{Entry}
 use Rattle.journal_model.specs.declared.opening.Opening.{Opening}
 use Rattle.journal_model.specs.Legality.{Legal as IsLegal, FirstWrong, Unfinished, kind_of, StandsFrom, MayStand, owed_after}
@@ -11,7 +11,7 @@ use Rattle.journal_model.proofs.Growing.{StandsFrom-split}
 use Rattle.journal_audit.specs.declared.found.Audit.{Audit}
 use Rattle.journal_audit.specs.declared.found.Audit.TheVariants.{Legal, Wrong}
 use Rattle.journal_audit.specs.Audits.{IsAudit}
-use Rattle.journal_audit.specs.Replays.{IsReplayed, IsNext}
+use Rattle.journal_audit.specs.Replays.{IsReplayed, IsNext, Owes}
 
 -- ---- a list about one of its places
 
@@ -80,28 +80,28 @@ one_audit o journal (Wrong a k) (Wrong b l) g h = (let same = wrongs o journal a
 -- ---- a journal that is made again, so far
 
 -- what is said of the next entry after any past holds after those before its place
-pub next_here : (o p : Opening) (items before made : List Entry) (at : ℕ) (e : Entry) (said stands : Bool) → p ≡ o → at < length items
-    → IsReplayed o (take at items) before
-    → ((past : List Entry) → length past ≡ at → IsReplayed p past before → IsNext p past e made said)
-    → said ≡ stands → IsNext o (take at items) e made stands
-next_here o p items before made at e said stands same less replayed next is =
+pub next_here : (o p : Opening) (items before made : List Entry) (at : ℕ) (e : Entry) (next : Option Entry) (said stands : Bool) → p ≡ o → at < length items
+    → IsReplayed o (take at items) (Some e) before
+    → ((past : List Entry) → length past ≡ at → IsReplayed p past (Some e) before → IsNext p past e next made said)
+    → said ≡ stands → IsNext o (take at items) e next made stands
+next_here o p items before made at e next said stands same less replayed tells is =
     let count : length (take at items) ≡ at = length-take-le at items (omega arith) in
-    let P : Opening → Type 0 = λ q. IsReplayed q (take at items) before → IsNext q (take at items) e made said in
-    subst (IsNext o (take at items) e made) is (subst P same (λ r. next (take at items) count r) replayed)
+    let P : Opening → Type 0 = λ q. IsReplayed q (take at items) (Some e) before → IsNext q (take at items) e next made said in
+    subst (IsNext o (take at items) e next made) is (subst P same (λ r. tells (take at items) count r) replayed)
 
 -- the entry may not stand
-pub wrong_here : (o : Opening) (journal items made : List Entry) (at kind : ℕ) (e : Entry) → items ≡ journal → at < length items → e ≡ get_or items at e
-    → StandsFrom o [] [] (take at items) → IsNext o (take at items) e made false → kind ≡ kind_of e.what → IsAudit o journal (Wrong at kind)
-wrong_here o journal items made at kind e same less is stands wrong of_kind =
+pub wrong_here : (o : Opening) (journal items made : List Entry) (at kind : ℕ) (e : Entry) (next : Option Entry) → items ≡ journal → at < length items → e ≡ get_or items at e
+    → StandsFrom o [] [] (take at items) → IsNext o (take at items) e next made false → kind ≡ kind_of e.what → IsAudit o journal (Wrong at kind)
+wrong_here o journal items made at kind e next same less is stands wrong of_kind =
     let there : slice_get items at ≡ Some e = slice_get_read items (length items) at e refl less is in
     subst (λ (j : List Entry). IsAudit o j (Wrong at kind)) same (inl (e, record { there = there; before = stands; wrong = wrong }, of_kind))
 
 -- it may stand, and is made too
-pub replayed_more : (o : Opening) (items made : List Entry) (at : ℕ) (e : Entry) → at < length items → e ≡ get_or items at e
-    → IsNext o (take at items) e made true → IsReplayed o (take (at + 1) items) made
-replayed_more o items made at e less is r =
+pub replayed_more : (o : Opening) (items made : List Entry) (at : ℕ) (e : Entry) (next : Option Entry) → at < length items → e ≡ get_or items at e
+    → IsNext o (take at items) e next made true → IsReplayed o (take (at + 1) items) next made
+replayed_more o items made at e next less is r =
     let grown : take (at + 1) items ≡ take at items ++ e ∷ [] = rw (add-one, take-suc items at e less, ← is) refl in
-    subst (λ (p : List Entry). IsReplayed o p made) (sym grown) r
+    subst (λ (p : List Entry). IsReplayed o p next made) (sym grown) r
 
 -- an entry that is looked up at its place
 pub read_there : (xs : List Entry) (at : ℕ) (e : Entry) → Some e ≡ slice_get xs at → e ≡ get_or xs at e
@@ -120,16 +120,25 @@ none_left : (xs : List Entry) → length xs ≡ 0 → xs ≡ []
 none_left [] h = refl
 none_left (x ∷ xs) h = absurd (let no : ⊥ = omega (arith, h) in no)
 
-pub legal_end : (o : Opening) (journal made : List Entry) → IsReplayed o journal made → length made ≡ length journal → IsLegal o journal
-legal_end o journal made r same =
-    let long : length made ≡ length journal + length (owed_after o journal) = ap length r.whole ∙ length-append journal (owed_after o journal) in
-    record { stands = r.stands; nothing_due = none_left (owed_after o journal) (omega (arith, long, same)) }
+-- where nothing more was made, nothing is due
+due_none : (o : Opening) (journal owed rest : List Entry) → Owes o journal None owed rest → rest ≡ [] → owed ≡ []
+due_none o journal [] rest owes none = refl
+due_none o journal (d ∷ ds) rest owes none = absurd (let bad : owes.0 ∷ ds ≡ [] = sym owes.1 ∙ none in cc)
 
-pub due_end : (o : Opening) (journal made : List Entry) → IsReplayed o journal made → (length made ≡ length journal → ⊥) → Unfinished o journal
+pub legal_end : (o : Opening) (journal made : List Entry) → IsReplayed o journal None made → length made ≡ length journal → IsLegal o journal
+legal_end o journal made r same =
+    let long : length made ≡ length journal + length r.rest = ap length r.whole ∙ length-append journal r.rest in
+    record { stands = r.stands; nothing_due = due_none o journal (owed_after o journal) r.rest r.owes (none_left r.rest (omega (arith, long, same))) }
+
+pub due_end : (o : Opening) (journal made : List Entry) → IsReplayed o journal None made → (length made ≡ length journal → ⊥) → Unfinished o journal
 due_end o journal made r more = record {
   stands = r.stands;
-  due = λ none. more (ap length (r.whole ∙ ap (λ (es : List Entry). journal ++ es) none ∙ append-nil journal));
+  due = λ none. (
+      let nothing : r.rest ≡ [] = subst (λ (ds : List Entry). Owes o journal None ds r.rest) none r.owes in
+      more (ap length (r.whole ∙ ap (λ (es : List Entry). journal ++ es) nothing ∙ append-nil journal)));
 }
 
-pub replayed_whole : (o : Opening) (items made : List Entry) (at : ℕ) → length items ≤ at → IsReplayed o (take at items) made → IsReplayed o items made
-replayed_whole o items made at long r = subst (λ (p : List Entry). IsReplayed o p made) (take_all at items long) r
+pub replayed_whole : (o : Opening) (items made : List Entry) (at : ℕ) → length items ≤ at → IsReplayed o (take at items) (slice_get items at) made → IsReplayed o items None made
+replayed_whole o items made at long r =
+    subst (λ (p : List Entry). IsReplayed o p None made) (take_all at items long)
+    (subst (λ (n : Option Entry). IsReplayed o (take at items) n made) (slice_get_past items at long) r)

@@ -1,6 +1,6 @@
 // Whether two entries are equal.
 ghost use Rattle.std.specs.Prelude.{◌≡◌, ◌↔◌, IsTrue};
-ghost use Rattle.journal_model.specs.declared.entry.What.TheVariants.{Claim, Start, NoStart, Ask, Put, Sent, Mute, Got, End, Verdict as Settled, Lost, Answer as Answered, Note};
+ghost use Rattle.journal_model.specs.declared.entry.What.TheVariants.{Claim, Start, NoStart, Lead, Ask, Put, Sent, Mute, Got, End, Verdict as Settled, Lost, Answer as Answered, Note};
 ghost use Rattle.journal_look.specs.Shown.{what_shown, entry_shown};
 
 use ann_digest::Digest;
@@ -44,6 +44,15 @@ fn is_ask(what: WhatRef<'_>, c: u32, j: u64, t: u32, l: &[u8]) -> bool
             task,
             line,
         } => child == c && job == j && task == t && line == l,
+        _ => false,
+    }
+}
+
+fn is_lead(what: WhatRef<'_>, c: u32, j: u64, l: &[u8]) -> bool
+    ensures { IsTrue result ↔ (what_shown what.entry ≡ Lead c j l.now) }
+{
+    match what {
+        WhatRef::Lead { child, job, line } => child == c && job == j && line == l,
         _ => false,
     }
 }
@@ -191,6 +200,7 @@ fn is_what(what: WhatRef<'_>, other: WhatRef<'_>) -> bool
             task,
             line,
         } => is_ask(what, child, job, task, line),
+        WhatRef::Lead { child, job, line } => is_lead(what, child, job, line),
         WhatRef::Put { child, job, line } => is_put(what, child, job, line),
         WhatRef::Sent { child } => is_sent(what, child),
         WhatRef::Mute { child } => is_mute(what, child),

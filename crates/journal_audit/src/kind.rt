@@ -22,5 +22,6 @@ pub(super) fn kind_of(what: WhatRef<'_>) -> u8
         WhatRef::Lost { .. } => 11,
         WhatRef::Answer { .. } => 12,
         WhatRef::Note { .. } => 13,
+        WhatRef::Lead { .. } => 14,
     }
 }

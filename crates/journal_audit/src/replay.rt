@@ -1,31 +1,117 @@
 // Makes the journal again, by a core of its own.
-ghost use Rattle.std.specs.Prelude.{ℕ, ◌≡◌, ◌↔◌, ◌<◌, ◌^◌, List, [], Some, None, Ok, length, slice_get, IfOk, IfSome, OnOk, IsTrue};
+ghost use Rattle.std.specs.Prelude.{ℕ, ◌≡◌, ◌↔◌, ◌<◌, ◌^◌, ◌++◌, List, [], Option, Some, None, Ok, true, false, length, slice_get, option_map, IfOk, IfSome, IsNone, OnOk, IsTrue};
 ghost use Rattle.journal_model.specs.Beginnings.{MayBegin};
 ghost use Rattle.journal_model.specs.declared.entry.Entry.{Entry};
-ghost use Rattle.journal_look.specs.Shown.{entry_shown};
+ghost use Rattle.journal_model.specs.declared.entry.What.TheVariants.{Lead};
+ghost use Rattle.journal_look.specs.Shown.{entry_shown, what_shown};
 ghost use Rattle.journal_audit.specs.Audits.{IsAudit};
-ghost use Rattle.journal_audit.specs.Replays.{IsTold, IsReplayed, IsNext};
+ghost use Rattle.journal_audit.specs.Replays.{IsTold, IsReplayed, IsNext, Says, Unpaired, group_by, is_name};
 
 use crate::found::Audit;
-use crate::{equal, events, kind};
-use ann_key::NoMemory;
-use host_core::Core;
-use journal_look::{EntryRef, Journal};
+use crate::{equal, events, kind, requests};
+use ann_key::{NoMemory, Text};
+use host_core::{Core, Event};
+use journal_look::{EntryRef, Journal, WhatRef};
 use journal_model::Opening;
 use std::alloc::Global;
 
-/// Tells the core the event that appends the entry, where one does.
-fn tell(alloc: Global, core: &mut Core, entry: EntryRef<'_>) -> Result<(), NoMemory>
-    requires { length core.old.journal < 2 ^ 64 }
-    ensures told { OnOk result (IsTold core.old.opening core.old.journal (entry_shown entry.entry) core.new.journal) }
+/// Makes the event, if there is one.
+fn step(core: &mut Core, by: u32, event: Option<Event>) -> Result<(), NoMemory>
+    ensures made { OnOk result (core.new.journal ≡ core.old.journal ++ group_by core.old.opening core.old.journal by event) }
     ensures opening { core.new.opening ≡ core.old.opening }
 {
-    match events::event_of(alloc, core, entry.what)? {
+    match event {
         Some(event) => {
-            let _reply = core.step(entry.by, event)?;
+            let _reply = core.step(by, event)?;
             Ok(())
         }
         None => Ok(()),
+    }
+}
+
+/// Tells the core the name with the request that comes next. False where that may not stand after it, and nothing was made.
+fn tell_pair(
+    alloc: Global,
+    core: &mut Core,
+    by: u32,
+    child: u32,
+    name: &Text,
+    next: Option<EntryRef<'_>>,
+) -> Result<bool, NoMemory>
+    requires { length core.old.journal < 2 ^ 64 }
+    ensures told { IfOk result (λ told. told ≡ true → (job : ℕ) → (line : List ℕ) → Says core.old.journal child line name.now → IsTold core.old.opening core.old.journal (record { by = by; what = Lead child job line }) (option_map entry_shown next.entry) core.new.journal) }
+    ensures untold { IfOk result (λ told. told ≡ false → (core.new.journal ≡ core.old.journal) × ((job : ℕ) → (line : List ℕ) → Says core.old.journal child line name.now → Unpaired core.old.opening core.old.journal by child job line (option_map entry_shown next.entry))) }
+    ensures opening { core.new.opening ≡ core.old.opening }
+{
+    let before = core.journal().len();
+    let event = events::pair_event(alloc, core, child, name, next)?;
+    step(core, by, event)?;
+    if core.journal().len() == before {
+        Ok(false)
+    } else {
+        Ok(true)
+    }
+}
+
+/// Tells the core the name of a request of the child: with the request that comes next; or, where that may not stand after it, with
+/// one that may.
+fn tell_name(
+    alloc: Global,
+    core: &mut Core,
+    by: u32,
+    child: u32,
+    line: &[u8],
+    next: Option<EntryRef<'_>>,
+) -> Result<(), NoMemory>
+    requires { length core.old.journal < 2 ^ 64 }
+    ensures told { OnOk result ((job : ℕ) → IsTold core.old.opening core.old.journal (record { by = by; what = Lead child job line.now }) (option_map entry_shown next.entry) core.new.journal) }
+    ensures opening { core.new.opening ≡ core.old.opening }
+{
+    let Some(name) = requests::name_text(alloc, core, child, line)? else {
+        return Ok(());
+    };
+    if tell_pair(alloc, core, by, child, &name, next)? {
+        return Ok(());
+    }
+    let event = events::name_event(alloc, core, by, child, &name)?;
+    step(core, by, event)
+}
+
+/// Tells the core the event that appends the entry, which says no name, where one does.
+fn tell_plain(alloc: Global, core: &mut Core, by: u32, what: WhatRef<'_>) -> Result<(), NoMemory>
+    requires { length core.old.journal < 2 ^ 64 }
+    ensures told { OnOk result (is_name (what_shown what.entry) ≡ false → (next : Option Entry) → IsTold core.old.opening core.old.journal (record { by = by; what = what_shown what.entry }) next core.new.journal) }
+    ensures opening { core.new.opening ≡ core.old.opening }
+{
+    let event = events::event_of(alloc, core, what)?;
+    step(core, by, event)
+}
+
+/// The child, the job and the line of an entry that says a name.
+fn lead_of(what: WhatRef<'_>) -> Option<(u32, u64, &[u8])>
+    ensures some { IfSome result (λ l. what_shown what.entry ≡ Lead l.0 l.1 l.2.now) }
+    ensures none { IsNone result → is_name (what_shown what.entry) ≡ false }
+{
+    match what {
+        WhatRef::Lead { child, job, line } => Some((child, job, line)),
+        _ => None,
+    }
+}
+
+/// Tells the core the event that appends the entry, where one does.
+fn tell(
+    alloc: Global,
+    core: &mut Core,
+    entry: EntryRef<'_>,
+    next: Option<EntryRef<'_>>,
+) -> Result<(), NoMemory>
+    requires { length core.old.journal < 2 ^ 64 }
+    ensures told { OnOk result (IsTold core.old.opening core.old.journal (entry_shown entry.entry) (option_map entry_shown next.entry) core.new.journal) }
+    ensures opening { core.new.opening ≡ core.old.opening }
+{
+    match lead_of(entry.what) {
+        Some((child, _, line)) => tell_name(alloc, core, entry.by, child, line, next),
+        None => tell_plain(alloc, core, entry.by, entry.what),
     }
 }
 
@@ -39,14 +125,20 @@ fn is_at(journal: &Journal, at: u64, entry: EntryRef<'_>) -> bool
     }
 }
 
-/// Whether the entry may stand at this place, after entries that the core has made again, with what is due after them.
-/// The entry is then made again too.
-fn may_stand(alloc: Global, core: &mut Core, at: u64, entry: EntryRef<'_>) -> Result<bool, NoMemory>
-    ensures next { IfOk result (λ stands. (past : List Entry) → length past ≡ at → IsReplayed core.old.opening past core.old.journal → IsNext core.old.opening past (entry_shown entry.entry) core.new.journal stands) }
+/// Whether the entry may stand at this place, after entries that the core has made again, with what is due after them. The entry is then
+/// made again too. The next entry says which request a name leads.
+fn may_stand(
+    alloc: Global,
+    core: &mut Core,
+    at: u64,
+    entry: EntryRef<'_>,
+    next: Option<EntryRef<'_>>,
+) -> Result<bool, NoMemory>
+    ensures next { IfOk result (λ stands. (past : List Entry) → length past ≡ at → IsReplayed core.old.opening past (Some (entry_shown entry.entry)) core.old.journal → IsNext core.old.opening past (entry_shown entry.entry) (option_map entry_shown next.entry) core.new.journal stands) }
     ensures opening { core.new.opening ≡ core.old.opening }
 {
     if core.journal().len() == at {
-        tell(alloc, core, entry)?;
+        tell(alloc, core, entry, next)?;
     }
     Ok(is_at(core.journal(), at, entry))
 }
@@ -54,7 +146,7 @@ fn may_stand(alloc: Global, core: &mut Core, at: u64, entry: EntryRef<'_>) -> Re
 /// What is found of a journal that the core has made again whole, with what is due at its end.
 #[tactic(auto, using(crate::proofs::Auditing::legal_end, crate::proofs::Auditing::due_end))]
 fn found_at_end(opening: &Opening, core: &Core, journal: &Journal) -> Audit
-    requires { IsReplayed opening.now journal.now.entries core.now.journal }
+    requires { IsReplayed opening.now journal.now.entries None core.now.journal }
     ensures { IsAudit opening.now journal.now.entries result }
 {
     if core.journal().len() == journal.len() {
@@ -78,13 +170,13 @@ fn first_wrong(
     requires opening { core.old.opening ≡ opening.now }
     requires fresh { core.old.journal ≡ [] }
     ensures wrong { IfOk result (λ found. IfSome found (IsAudit opening.now journal.now.entries)) }
-    ensures whole { result ≡ Ok None → IsReplayed opening.now journal.now.entries core.new.journal }
+    ensures whole { result ≡ Ok None → IsReplayed opening.now journal.now.entries None core.new.journal }
 {
     for at in 0..journal.len() {
         let Some(entry) = journal.entry(at) else {
             unreachable!()
         };
-        if !may_stand(alloc, core, at, entry)? {
+        if !may_stand(alloc, core, at, entry, journal.entry(at + 1))? {
             return Ok(Some(Audit::Wrong {
                 entry: at,
                 kind: kind::kind_of(entry.what),

@@ -6,7 +6,7 @@ use Rattle.std.proofs.Math.Seq.{take-length}
 use Rattle.std.proofs.lemmas.Bool.Decides.{nat_tests}
 use Rattle.std.proofs.lemmas.List.Elements.{All-head, All-tail}
 use Rattle.journal_model.specs.declared.entry.What.{What}
-use Rattle.journal_model.specs.declared.entry.What.TheVariants.{Claim, Start, NoStart, Ask, Put, Sent, Mute, Got, End, Verdict as Settled, Lost, Answer as Answered, Note as Noted}
+use Rattle.journal_model.specs.declared.entry.What.TheVariants.{Claim, Start, NoStart, Lead, Ask, Put, Sent, Mute, Got, End, Verdict as Settled, Lost, Answer as Answered, Note as Noted}
 use Rattle.journal_model.specs.declared.entry.Entry.{Entry}
 use Rattle.journal_model.specs.Journal.{asks, asked_jobs, is_open, is_settled}
 use Rattle.journal_model.proofs.Looks.{same, same_number, both}
@@ -28,6 +28,7 @@ asks_hosts c j (Ask child job task line) h = go (child == c) refl h
 asks_hosts c j (Claim task child) h = absurd cc
 asks_hosts c j (Start child slot offer) h = absurd cc
 asks_hosts c j (NoStart slot) h = absurd cc
+asks_hosts c j (Lead child job line) h = absurd cc
 asks_hosts c j (Put child job line) h = absurd cc
 asks_hosts c j (Sent child) h = absurd cc
 asks_hosts c j (Mute child) h = absurd cc

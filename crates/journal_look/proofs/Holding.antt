@@ -7,7 +7,7 @@ use Rattle.std.proofs.lemmas.List.Folds.{find-append, list_any-append}
 use Rattle.std.proofs.lemmas.Bool.Decides.{nat_tests}
 use Rattle.journal_model.specs.declared.holder.Holder.{Holder}
 use Rattle.journal_model.specs.declared.entry.What.{What}
-use Rattle.journal_model.specs.declared.entry.What.TheVariants.{Claim, Start, NoStart, Ask, Put, Sent, Mute, Got, End, Verdict as Settled, Lost, Answer as Answered, Note as Noted}
+use Rattle.journal_model.specs.declared.entry.What.TheVariants.{Claim, Start, NoStart, Lead, Ask, Put, Sent, Mute, Got, End, Verdict as Settled, Lost, Answer as Answered, Note as Noted}
 use Rattle.journal_model.specs.declared.entry.Entry.{Entry}
 use Rattle.journal_model.specs.Legality.{claims, holder, turned, turned_by}
 use Rattle.journal_model.proofs.Looks.{differ, same_number}
@@ -99,6 +99,7 @@ unclaimed_more past e top are = record {
     lower (Claim task child) t high = let h = tops task (nat_le top task) refl in omega arith
     lower (Start child slot offer) t high = high
     lower (NoStart slot) t high = high
+    lower (Lead child job line) t high = high
     lower (Ask child job task line) t high = high
     lower (Put child job line) t high = high
     lower (Sent child) t high = high

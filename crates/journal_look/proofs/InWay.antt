@@ -5,12 +5,13 @@ use Rattle.std.specs.List.{list_any, cons_option, range_with_len}
 use Rattle.task_text.specs.declared.task.Task.{Task}
 use Rattle.journal_model.specs.declared.holder.Holder.{Holder}
 use Rattle.journal_model.specs.declared.entry.What.{What}
-use Rattle.journal_model.specs.declared.entry.What.TheVariants.{Claim, Start, NoStart, Ask, Put, Sent, Mute, Got, End, Verdict as Settled, Lost, Answer as Answered, Note as Noted}
+use Rattle.journal_model.specs.declared.entry.What.TheVariants.{Claim, Start, NoStart, Lead, Ask, Put, Sent, Mute, Got, End, Verdict as Settled, Lost, Answer as Answered, Note as Noted}
 use Rattle.journal_model.specs.declared.entry.Entry.{Entry}
 use Rattle.journal_model.specs.Journal.{each_of}
 use Rattle.journal_model.specs.declared.opening.Opening.{Opening}
 use Rattle.journal_model.specs.Legality.{both_conflict, claimed_for, has_busy_task, holder, is_busy, is_busy_with, is_held_for, numbers_of, task_of, turned, turned_by}
 use Rattle.journal_model.proofs.Looks.{differ, same, same_number}
+use Rattle.journal_model.proofs.Named.{any_there, claimed_in}
 use Rattle.journal_look.specs.declared.held.Held.{Held}
 use Rattle.journal_look.specs.Holds.{AreHeld, held_of}
 use Rattle.journal_scan.proofs.Parted.{same_bool, both_true}
@@ -36,7 +37,7 @@ any_held p (x ∷ held) h = go (p x.task) refl h (any_held p held)
     go false e h r = let w = r h in (w.0, w.1, more (x.task == w.0) (find (λ (y : Held). y.task == w.0) held) w.2)
 
 -- a task that is found and passes is one of the table's
-found_any : (p : ℕ → Bool) (u : ℕ) (held : List Held) → is_some (find (λ h. h.task == u) held) ≡ true → p u ≡ true → list_any (λ h. p h.task) held ≡ true
+pub found_any : (p : ℕ → Bool) (u : ℕ) (held : List Held) → is_some (find (λ h. h.task == u) held) ≡ true → p u ≡ true → list_any (λ h. p h.task) held ≡ true
 found_any p u [] f h = absurd cc
 found_any p u (x ∷ held) f h = go (x.task == u) refl f (λ k. found_any p u held k h)
   where
@@ -116,52 +117,7 @@ in_way o past held t are = same_bool (list_any (λ (h : Held). way h.task) held)
 
 -- ---- a task that is held for a child
 
--- a task that is held for the child was claimed for it
-claimed_in : (past : List Entry) (c t : ℕ) (o : Option Holder) → is_held_for c (fold (turned t) o past) ≡ true
-    → (is_held_for c o ≡ true) ⊎ (list_any (λ u. u == t) (each_of (claimed_for c) past) ≡ true)
-claimed_in [] c t o h = inl h
-claimed_in (e ∷ past) c t o h = go e.what (claimed_in past c t (turned t o e) h)
-  where
-    later : (x : Option ℕ) → list_any (λ (u : ℕ). u == t) (each_of (claimed_for c) past) ≡ true → list_any (λ (u : ℕ). u == t) (cons_option x (each_of (claimed_for c) past)) ≡ true
-    later None h = h
-    later (Some u) h = or_right (u == t) (list_any (λ (v : ℕ). v == t) (each_of (claimed_for c) past)) h
-
-    go : (w : What) → (is_held_for c (turned_by t o e.by w) ≡ true) ⊎ (list_any (λ (u : ℕ). u == t) (each_of (claimed_for c) past) ≡ true)
-        → (is_held_for c o ≡ true) ⊎ (list_any (λ (u : ℕ). u == t) (cons_option (claimed_for c w) (each_of (claimed_for c) past)) ≡ true)
-    go w (inr h) = inr (later (claimed_for c w) h)
-    go (Claim task child) (inl h) = claim (task == t) refl h
-      where
-        claim : (b : Bool) → (task == t) ≡ b → is_held_for c (cond b (Some (record { by = e.by; child = child })) o) ≡ true
-            → (is_held_for c o ≡ true) ⊎ (list_any (λ (u : ℕ). u == t) (cons_option (claimed_for c (Claim task child)) (each_of (claimed_for c) past)) ≡ true)
-        claim true same h = inr (rw h (rw same refl))
-        claim false same h = inl h
-    go (Answered task answer) (inl h) = answer' (task == t) h
-      where
-        answer' : (b : Bool) → is_held_for c (cond b None o) ≡ true → (is_held_for c o ≡ true) ⊎ (list_any (λ (u : ℕ). u == t) (each_of (claimed_for c) past) ≡ true)
-        answer' true h = absurd cc
-        answer' false h = inl h
-    go (Start child slot offer) (inl h) = inl h
-    go (NoStart slot) (inl h) = inl h
-    go (Ask child job task line) (inl h) = inl h
-    go (Put child job line) (inl h) = inl h
-    go (Sent child) (inl h) = inl h
-    go (Mute child) (inl h) = inl h
-    go (Got child line) (inl h) = inl h
-    go (End child why) (inl h) = inl h
-    go (Settled child job verdict) (inl h) = inl h
-    go (Lost child task) (inl h) = inl h
-    go (Noted task chunk count) (inl h) = inl h
-
--- one that passes is in the list, where it is
-any_there : (q : ℕ → Bool) (t : ℕ) (xs : List ℕ) → list_any (λ u. u == t) xs ≡ true → q t ≡ true → list_any q xs ≡ true
-any_there q t [] h p = absurd cc
-any_there q t (x ∷ xs) h p = go (x == t) refl h (λ k. any_there q t xs k p)
-  where
-    go : (b : Bool) → (x == t) ≡ b → (b || list_any (λ (u : ℕ). u == t) xs) ≡ true → (list_any (λ (u : ℕ). u == t) xs ≡ true → list_any q xs ≡ true) → (q x || list_any q xs) ≡ true
-    go true e h r = let here : q x ≡ true = subst (λ (k : ℕ). q k ≡ true) (sym (same_number x t e)) p in rw here refl
-    go false e h r = or_right (q x) (list_any q xs) (r h)
-
-held_found : (c : ℕ) (o : Option Held) → is_held_for c (option_map (λ (h : Held). h.by) o) ≡ true → is_some o ≡ true
+pub held_found : (c : ℕ) (o : Option Held) → is_held_for c (option_map (λ (h : Held). h.by) o) ≡ true → is_some o ≡ true
 held_found c None h = absurd cc
 held_found c (Some x) h = refl
 

@@ -6,3 +6,4 @@ pub mod Counting
 pub mod Ending
 pub mod Holding
 pub mod InWay
+pub mod Working

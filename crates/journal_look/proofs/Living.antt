@@ -8,7 +8,7 @@ use Rattle.std.proofs.lemmas.List.Elements.{filter-append}
 use Rattle.std.proofs.lemmas.List.Filters.{length-filter_both}
 use Rattle.std.proofs.lemmas.Grind.{common_steps}
 use Rattle.journal_model.specs.declared.entry.What.{What}
-use Rattle.journal_model.specs.declared.entry.What.TheVariants.{Claim, Start, NoStart, Ask, Put, Sent, Mute, Got, End, Verdict as Settled, Lost, Answer as Answered, Note as Noted}
+use Rattle.journal_model.specs.declared.entry.What.TheVariants.{Claim, Start, NoStart, Lead, Ask, Put, Sent, Mute, Got, End, Verdict as Settled, Lost, Answer as Answered, Note as Noted}
 use Rattle.journal_model.specs.declared.entry.Entry.{Entry}
 use Rattle.journal_model.specs.Journal.{any, each_of, starts, ends, mutes, got_from, offers, sends, asks, end_why, verdict_in, first_of, why_of, verdict_of}
 use Rattle.journal_model.specs.Legality.{count, is_start, prepares}
@@ -96,6 +96,7 @@ life_more past e c =
 -- of another child the entry says nothing
 lived_other : (c : ℕ) (w : What) (life : Life) → ((b : ℕ) → about w ≡ Some b → b ≢ c) → lived c w life ≡ life
 lived_other c (Start child slot offer) life other = let h = differ child c (other child refl) in rw h refl
+lived_other c (Lead child job line) life other = let h = differ child c (other child refl) in rw h refl
 lived_other c (Ask child job task line) life other = let h = differ child c (other child refl) in rw h refl
 lived_other c (Put child job line) life other = let h = differ child c (other child refl) in rw h refl
 lived_other c (Sent child) life other = let h = differ child c (other child refl) in rw h refl

@@ -8,7 +8,7 @@ use Rattle.std.proofs.lemmas.List.Elements.{All-nil, All-head, All-tail, All-pus
 use Rattle.std.proofs.lemmas.List.Folds.{list_any-append, prefix_len-append}
 use Rattle.journal_model.specs.declared.verdict.Verdict.{Verdict}
 use Rattle.journal_model.specs.declared.entry.What.{What}
-use Rattle.journal_model.specs.declared.entry.What.TheVariants.{Claim, Start, NoStart, Ask, Put, Sent, Mute, Got, End, Verdict as Settled, Lost, Answer as Answered, Note as Noted}
+use Rattle.journal_model.specs.declared.entry.What.TheVariants.{Claim, Start, NoStart, Lead, Ask, Put, Sent, Mute, Got, End, Verdict as Settled, Lost, Answer as Answered, Note as Noted}
 use Rattle.journal_model.specs.declared.entry.Entry.{Entry}
 use Rattle.journal_model.specs.Journal.{any, asks, asked_jobs, each_of, first_of, is_open, is_settled, open_jobs, settles, verdict_of}
 use Rattle.journal_model.specs.Legality.{has_open_job, job_for}
@@ -95,6 +95,7 @@ asks_next c n (Ask child job task line) keeps k h = go (child == c) refl h
 asks_next c n (Claim task child) keeps k h = absurd cc
 asks_next c n (Start child slot offer) keeps k h = absurd cc
 asks_next c n (NoStart slot) keeps k h = absurd cc
+asks_next c n (Lead child job line) keeps k h = absurd cc
 asks_next c n (Put child job line) keeps k h = absurd cc
 asks_next c n (Sent child) keeps k h = absurd cc
 asks_next c n (Mute child) keeps k h = absurd cc
@@ -143,6 +144,7 @@ touches_known c j (Settled child job v) xs keeps h =
 touches_known c j (Claim task child) xs keeps h = absurd cc
 touches_known c j (Start child slot offer) xs keeps h = absurd cc
 touches_known c j (NoStart slot) xs keeps h = absurd cc
+touches_known c j (Lead child job line) xs keeps h = absurd cc
 touches_known c j (Sent child) xs keeps h = absurd cc
 touches_known c j (Mute child) xs keeps h = absurd cc
 touches_known c j (Got child line) xs keeps h = absurd cc
@@ -185,6 +187,7 @@ numbers_more past e keeps are = record {
         go (Claim task child) h = absurd cc
         go (Start child slot offer) h = absurd cc
         go (NoStart slot) h = absurd cc
+        go (Lead child job line) h = absurd cc
         go (Sent child) h = absurd cc
         go (Mute child) h = absurd cc
         go (Got child line) h = absurd cc

@@ -1,7 +1,7 @@
 -- What a journal keeps of each child, so that a question about one needn't go through the entries.
 use Rattle.std.specs.Prelude.{ℕ, ◌≡◌, ◌+◌, ◌||◌, Bool, true, false, List, [], length, Option, Some, None, filter, is_some, slice_index_or, IsTrue}
 use Rattle.journal_model.specs.declared.entry.What.{What}
-use Rattle.journal_model.specs.declared.entry.What.TheVariants.{Start, Ask, Put, Sent, Mute, Got, End, Verdict as Settled}
+use Rattle.journal_model.specs.declared.entry.What.TheVariants.{Start, Lead, Ask, Put, Sent, Mute, Got, End, Verdict as Settled}
 use Rattle.journal_model.specs.declared.entry.Entry.{Entry}
 use Rattle.journal_model.specs.Journal.{starts, ends, mutes, got_from, offers, sends, asks, end_why, verdict_in, any, each_of, asked_jobs, is_started, is_ended, is_mute, has_spoken, why_of, verdict_of}
 use Rattle.journal_model.specs.Legality.{count, is_start, prepares}
@@ -63,6 +63,7 @@ unlived = life_of [] 0
 -- the child of which the entry says something
 abbrev pub about : What → Option ℕ
 about (Start child slot offer) = Some child
+about (Lead child job line) = Some child
 about (Ask child job task line) = Some child
 about (Put child job line) = Some child
 about (Sent child) = Some child

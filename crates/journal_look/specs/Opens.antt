@@ -1,12 +1,12 @@
 -- Which jobs are open, and how the last ones were settled, so that a question about one needn't go through the entries.
 use Rattle.std.specs.Prelude.{ℕ, ◌≡◌, ◌<◌, ◌==◌, ◌&&◌, ◌||◌, not, nat_lt, Bool, true, if◌then◌else◌, List, [], ◌∷◌, ◌++◌, length, Option, Some, None, filter, filter_map, IsTrue}
-use Rattle.std.specs.List.{All, list_any, prefix_len}
+use Rattle.std.specs.List.{All, list_any}
 use Rattle.journal_model.specs.declared.entry.What.{What}
 use Rattle.journal_model.specs.declared.entry.What.TheVariants.{Ask, Put, Verdict as Settled}
 use Rattle.journal_model.specs.declared.entry.Entry.{Entry}
 use Rattle.journal_model.specs.Journal.{any, asked_jobs, each_of, open_jobs, settles, verdict_of}
 use Rattle.journal_model.specs.Legality.{job_for}
-use Rattle.journal_scan.specs.Looks.{is_hosts}
+use Rattle.journal_scan.specs.Looks.{asked_at, is_hosts}
 use Rattle.journal_look.specs.declared.jobs.Open.{Open}
 use Rattle.journal_look.specs.declared.jobs.Told.{Told}
 use Rattle.journal_look.specs.declared.jobs.Jobs.{Jobs}
@@ -58,9 +58,9 @@ opened at (Ask child job task line) jobs = jobs ++ record { child = child; job =
 opened at (Settled child job verdict) jobs = closed child job jobs
 opened at w jobs = jobs
 
--- The job was asked for its task alone, and the host's first line of it stands at its place.
+-- The job was asked for its task alone, and its request stands at its place.
 pub record IsAsked (past : List Entry) (x : Open) : Type 0 where
-  pub place : prefix_len (λ e. not (is_hosts x.child x.job e.what)) past ≡ x.at
+  pub place : asked_at past x.child x.job ≡ x.at
   pub within : x.at < length past
   pub low : x.job < length (asked_jobs past x.child)
   pub task : (t : ℕ) → list_any (λ q. is_this q.0 q.1 x) (each_of (job_for t) past) ≡ (x.task == t)

@@ -19,6 +19,11 @@ pub enum WhatRef<'a> {
     NoStart {
         slot: u32,
     },
+    Lead {
+        child: u32,
+        job: u64,
+        line: &'a [u8],
+    },
     Ask {
         child: u32,
         job: u64,
@@ -85,6 +90,11 @@ fn what_of(what: &What) -> WhatRef<'_>
             offer: *offer,
         },
         What::NoStart { slot } => WhatRef::NoStart { slot: *slot },
+        What::Lead { child, job, line } => WhatRef::Lead {
+            child: *child,
+            job: *job,
+            line: line.view(),
+        },
         What::Ask {
             child,
             job,

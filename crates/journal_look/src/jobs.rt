@@ -1,10 +1,10 @@
 // Which jobs are open, and how the last ones were settled, entry by entry.
 ghost use Rattle.std.specs.Prelude.{not, nat_le, ◌≤◌, ℕ, Bool, None, ◌≡◌, ◌==◌, ◌<◌, ◌++◌, ◌∷◌, [], List, ◌&&◌, Some, find, length, option_copied, IfSome, IsTrue, true};
-ghost use Rattle.std.specs.List.{list_all, list_any, prefix_len};
+ghost use Rattle.std.specs.List.{list_all, list_any};
 ghost use Rattle.journal_model.specs.declared.entry.Entry.{Entry};
 ghost use Rattle.journal_model.specs.Journal.{asked_jobs, first_of, is_open, open_jobs, verdict_of};
 ghost use Rattle.journal_model.specs.Legality.{has_open_job};
-ghost use Rattle.journal_scan.specs.Looks.{NoneDue, is_hosts};
+ghost use Rattle.journal_scan.specs.Looks.{NoneDue, asked_at};
 ghost use Rattle.journal_look.specs.Lives.{AreKnown};
 ghost use Rattle.journal_look.specs.Opens.{AreJobsKnown, AreOpen, AreTold, IsTold, closed, is_this, jobs_child, keeps_numbers, opened};
 
@@ -173,7 +173,7 @@ fn find_job(jobs: &[Open], child: u32, job: u64) -> Option<&Open>
 
 /// The place of the host's first line of the job, where it is open and the table is that of the entries.
 pub(super) fn place_of(jobs: &[Open], child: u32, job: u64) -> Option<usize>
-    ensures { (past : List Entry) → AreOpen past jobs.now → IfSome result (λ at. at ≡ prefix_len (λ e. not (is_hosts child job e.what)) past) }
+    ensures { (past : List Entry) → AreOpen past jobs.now → IfSome result (λ at. at ≡ asked_at past child job) }
 {
     match find_job(jobs, child, job) {
         Some(x) => Some(x.at),

@@ -124,6 +124,7 @@ fn about(what: &What) -> Option<u32>
 {
     match what {
         What::Start { child, .. }
+        | What::Lead { child, .. }
         | What::Ask { child, .. }
         | What::Put { child, .. }
         | What::Sent { child }

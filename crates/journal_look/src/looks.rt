@@ -1,11 +1,11 @@
 // What is asked of a journal, each question by the definition of its name.
-ghost use Rattle.std.specs.Prelude.{IfSome, ℕ, Bool, None, ◌<◌, IsTrue, ◌≡◌, ◌≤◌, ◌==◌, not, length, take, filter, option_copied, option_map, IfOk};
-ghost use Rattle.std.specs.List.{list_any, list_all, prefix_len};
+ghost use Rattle.std.specs.Prelude.{IfSome, IsNone, ℕ, Bool, None, true, false, ◌<◌, IsTrue, ◌≡◌, ◌≤◌, ◌==◌, not, length, take, filter, option_copied, option_map, IfOk};
+ghost use Rattle.std.specs.List.{list_any, list_all};
 ghost use Rattle.journal_model.specs.Limits.{most_tasks};
 ghost use Rattle.journal_model.specs.Journal.{offers, first_of, any, is_started, is_ended, is_mute, is_live, has_spoken, asked_jobs, open_jobs, is_open, verdict_of, why_of, line_at, is_tagged, addressed, on_wire, unsent, is_full};
-ghost use Rattle.journal_model.specs.Parts.{part, item_at};
+ghost use Rattle.journal_model.specs.Parts.{item_at};
 ghost use Rattle.journal_model.specs.Legality.{count, is_start, is_empty, is_claimed, numbers_of, least_free, is_prepared, is_greeted, may_ask, is_claimed_by, has_open_job, has_busy_task};
-ghost use Rattle.journal_scan.specs.Looks.{NoneDue, is_hosts, is_no_start, first_text, remote_text, job_at};
+ghost use Rattle.journal_scan.specs.Looks.{NoneDue, is_no_start, asked_at, request_text, remote_text, job_at};
 
 use crate::journal::Journal;
 use crate::{cursors, dues, jobs, tasks};
@@ -185,6 +185,20 @@ pub fn may_ask(journal: &Journal, by: u32, task: u32, child: u32) -> bool
         && (is_tagged(journal, child) || has_no_open_job(journal, child))
 }
 
+/// A task for which the number may make a request as the child's next job, but for the child's end or mute.
+pub fn asking_task(journal: &Journal, by: u32, child: u32) -> Option<u32>
+    ensures some { IfSome result (λ t. may_ask journal.now.entries by t child ≡ true) }
+    ensures none { IsNone result → (t : ℕ) → may_ask journal.now.entries by t child ≡ false }
+{
+    if !is_greeted(journal, child, next_job(journal, child)) {
+        return None;
+    }
+    if !is_tagged(journal, child) && !has_no_open_job(journal, child) {
+        return None;
+    }
+    tasks::work_for(journal, by, child)
+}
+
 /// The job asked at a place of the first n entries, where the child's end after them settles it, or where its mute does.
 pub fn due_at(journal: &Journal, n: u64, at: u64, child: u32, unsent: bool) -> Option<u64>
     requires { n ≤ length journal.now.entries }
@@ -204,12 +218,12 @@ pub fn first_due(journal: &Journal) -> u64
     }
 }
 
-/// The text that the job's part begins with.
-pub fn first_text(journal: &Journal, child: u32, job: u64) -> Option<&[u8]>
-    ensures { option_copied result ≡ first_text (part journal.now.entries child job) }
+/// The text of the job's request.
+pub fn request_text(journal: &Journal, child: u32, job: u64) -> Option<&[u8]>
+    ensures { option_copied result ≡ request_text journal.now.entries child job }
 {
     let place = place_of(journal, child, job);
-    talks::first_text(
+    talks::request_text(
         journal.entries(),
         place,
         !is_offered(journal, child),
@@ -218,9 +232,9 @@ pub fn first_text(journal: &Journal, child: u32, job: u64) -> Option<&[u8]>
     )
 }
 
-/// The place of the host's first line of the job, where it is known without the entries.
+/// The place of the job's request, where it is known without the entries.
 fn place_of(journal: &Journal, child: u32, job: u64) -> Option<usize>
-    ensures { IfSome result (λ at. at ≡ prefix_len (λ e. not (is_hosts child job e.what)) journal.now.entries) }
+    ensures { IfSome result (λ at. at ≡ asked_at journal.now.entries child job) }
 {
     match journal.jobs() {
         Some(list) => jobs::place_of(list, child, job),

@@ -1,8 +1,9 @@
 // What the journal says of the tasks.
-ghost use Rattle.std.specs.Prelude.{◌≡◌, ◌≤◌, ◌<◌, ◌-◌, ◌^◌, ◌&&◌, filter, find, length, not};
+ghost use Rattle.std.specs.Prelude.{ℕ, ◌≡◌, ◌≤◌, ◌<◌, ◌-◌, ◌^◌, ◌&&◌, filter, find, length, not, false, true, IfSome, IsNone, option_copied};
 ghost use Rattle.std.specs.List.{list_any, list_all, range_with_len};
 ghost use Rattle.journal_model.specs.Limits.{most_tasks};
-ghost use Rattle.journal_model.specs.Legality.{is_claimed, holder, is_busy, task_of, both_conflict, numbers_of, is_free, least_free, is_claimed_by, is_held_for, has_open_job, may_work, has_busy_task};
+ghost use Rattle.journal_model.specs.Legality.{is_claimed, holder, is_busy, task_of, both_conflict, numbers_of, is_free, least_free, is_claimed_by, is_held_for, has_open_job, may_work, has_busy_task, claimed_for};
+ghost use Rattle.journal_model.specs.Journal.{each_of};
 ghost use Rattle.journal_look.specs.Holds.{held_of};
 ghost use Rattle.journal_look.specs.Marks.{AreClaimed};
 
@@ -11,7 +12,7 @@ use crate::jobs;
 use crate::journal::Journal;
 use journal_model::{Entry, Holder, Opening};
 use journal_scan::claims::{
-    has_busy, has_open, holder, is_busy, is_claimed, is_held_by, is_held_for,
+    claimed_for, has_busy, has_open, holder, is_busy, is_claimed, is_held_by, is_held_for,
 };
 use journal_scan::conflicts::both_conflict;
 
@@ -140,6 +141,49 @@ pub(super) fn may_work(journal: &Journal, by: u32, task: u32, child: u32) -> boo
         || is_claimed_by(journal, by, task)
             && is_held_for(holder_of(journal, task), child)
             && !has_open_job(journal, task)
+}
+
+/// The first of the held tasks for which the number may make a request over the child, with its holder.
+fn find_work<'a>(journal: &Journal, held: &'a [Held], by: u32, child: u32) -> Option<&'a Held>
+    ensures { option_copied result ≡ find (λ h. may_work journal.now.entries by h.task child) held.entry.now }
+{
+    held.iter().find(|h| may_work(journal, by, h.task, child))
+}
+
+/// The first of the held tasks for which the number may make a request over the child.
+fn held_work(journal: &Journal, held: &[Held], by: u32, child: u32) -> Option<u32>
+    ensures some { IfSome result (λ t. may_work journal.now.entries by t child ≡ true) }
+    ensures none { IsNone result → list_any (λ h. may_work journal.now.entries by h.task child) held.now ≡ false }
+{
+    match find_work(journal, held, by, child) {
+        Some(h) => Some(h.task),
+        None => None,
+    }
+}
+
+/// The first task that was claimed for the child and for which the number may make a request over it.
+fn first_work(journal: &Journal, by: u32, child: u32) -> Option<u32>
+    ensures { result ≡ find (λ t. may_work journal.now.entries by t child) (each_of (claimed_for child) journal.now.entries) }
+{
+    journal
+        .entries()
+        .iter()
+        .filter_map(|e| claimed_for(&e.what, child))
+        .find(|t| may_work(journal, by, *t, child))
+}
+
+/// A task for which the number may make a request over the child: its own work for task 0, or a task that it holds.
+pub(super) fn work_for(journal: &Journal, by: u32, child: u32) -> Option<u32>
+    ensures some { IfSome result (λ t. may_work journal.now.entries by t child ≡ true) }
+    ensures none { IsNone result → (t : ℕ) → may_work journal.now.entries by t child ≡ false }
+{
+    if may_work(journal, by, 0, child) {
+        return Some(0);
+    }
+    match journal.held() {
+        Some(held) => held_work(journal, held, by, child),
+        None => first_work(journal, by, child),
+    }
 }
 
 fn has_held_task(held: &[Held], child: u32) -> bool

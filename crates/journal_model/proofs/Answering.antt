@@ -11,7 +11,7 @@ use Rattle.journal_model.specs.declared.verdict.Verdict.{Verdict}
 use Rattle.journal_model.specs.declared.verdict.Verdict.TheVariants.{Ended, Unsent}
 use Rattle.journal_model.specs.declared.opening.Opening.{Opening}
 use Rattle.journal_model.specs.declared.entry.What.{What}
-use Rattle.journal_model.specs.declared.entry.What.TheVariants.{Claim, Start, NoStart, Ask, Put, Sent, Mute, Got, End, Verdict as Settled, Lost, Answer as Answered, Note as Noted}
+use Rattle.journal_model.specs.declared.entry.What.TheVariants.{Claim, Start, NoStart, Lead, Ask, Put, Sent, Mute, Got, End, Verdict as Settled, Lost, Answer as Answered, Note as Noted}
 use Rattle.journal_model.specs.declared.entry.Entry.{Entry}
 use Rattle.journal_model.specs.Journal.{is_live, is_open, is_unsent, open_jobs, on_wire, addressed}
 use Rattle.journal_model.specs.Due.{due_after, due_by_got, made_by, verdict_at, replying, replies_at, replies_to, replies_said}
@@ -163,6 +163,7 @@ group_put o past by (Put child job l) may i by' c j line h = absurd cc
 group_put o past by (Claim task child) may i by' c j line h = absurd (alone (Claim task child) by i by' c j line h (λ e. cc))
 group_put o past by (Start child slot offer) may i by' c j line h = absurd (alone (Start child slot offer) by i by' c j line h (λ e. cc))
 group_put o past by (NoStart slot) may i by' c j line h = absurd (alone (NoStart slot) by i by' c j line h (λ e. cc))
+group_put o past by (Lead child job l) may i by' c j line h = absurd (alone (Lead child job l) by i by' c j line h (λ e. cc))
 group_put o past by (Ask child job task l) may i by' c j line h = absurd (alone (Ask child job task l) by i by' c j line h (λ e. cc))
 group_put o past by (Sent child) may i by' c j line h = absurd (alone (Sent child) by i by' c j line h (λ e. cc))
 group_put o past by (Settled child job verdict) may i by' c j line h = absurd cc

@@ -81,14 +81,10 @@ tagged_text job message q h =
 
 -- ---- a request in its turn
 
--- the text of the line is the canonical line of the request that it reads as
-pub asked_text : (past : List Entry) (c job : ℕ) (line : List ℕ) (r : Option HostMessage) → host_reading (addressed past c line).1 ≡ r
-    → asks_in_turn past c job line r ≡ true
-    → (q : HostMessage) × (host_reading (addressed past c line).1 ≡ Some q) × ((addressed past c line).1 ≡ host_line q)
-asked_text past c job line None e h = absurd cc
-asked_text past c job line (Some q) e h =
-    let wired : line ≡ on_wire past c job (host_line q) = (bytes_eq-Decides line (on_wire past c job (host_line q))).0 (and_right (is_in_turn past c job q) _ h) in
-    (q, e, by_tags (is_tagged past c) refl wired e)
+-- the text of a line that is the canonical one of the message that it reads as
+pub text_on_wire : (past : List Entry) (c job : ℕ) (line : List ℕ) (q : HostMessage) → host_reading (addressed past c line).1 ≡ Some q
+    → line ≡ on_wire past c job (host_line q) → (addressed past c line).1 ≡ host_line q
+text_on_wire past c job line q e wired = by_tags (is_tagged past c) refl wired e
   where
     by_tags : (b : Bool) → is_tagged past c ≡ b → line ≡ cond b (tagged_line job (host_line q)) (host_line q)
         → host_reading (cond {A = Option ℕ × List ℕ} b (by_tag line (untag line)) (first_of (open_jobs past c), line)).1 ≡ Some q
@@ -97,6 +93,14 @@ asked_text past c job line (Some q) e h =
         let read = subst (λ (x : List ℕ). host_reading (by_tag x (untag x)).1 ≡ Some q) w r in
         subst (λ (x : List ℕ). (by_tag x (untag x)).1 ≡ host_line q) (sym w) (tagged_text job (host_line q) q read)
     by_tags false t w r = w
+
+-- the text of the line is the canonical line of the request that it reads as
+pub asked_text : (past : List Entry) (c job : ℕ) (line : List ℕ) (r : Option HostMessage) → host_reading (addressed past c line).1 ≡ r
+    → asks_in_turn past c job line r ≡ true
+    → (q : HostMessage) × (host_reading (addressed past c line).1 ≡ Some q) × ((addressed past c line).1 ≡ host_line q)
+asked_text past c job line None e h = absurd cc
+asked_text past c job line (Some q) e h =
+    (q, e, text_on_wire past c job line q e ((bytes_eq-Decides line (on_wire past c job (host_line q))).0 (and_right (is_in_turn past c job q) _ h)))
 
 -- ---- fields
 

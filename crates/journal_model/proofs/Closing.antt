@@ -6,7 +6,7 @@ use Rattle.journal_model.specs.declared.verdict.Why.{Why}
 use Rattle.journal_model.specs.declared.verdict.Verdict.{Verdict}
 use Rattle.journal_model.specs.declared.verdict.Verdict.TheVariants.{Ended}
 use Rattle.journal_model.specs.declared.entry.What.{What}
-use Rattle.journal_model.specs.declared.entry.What.TheVariants.{Claim, Start, NoStart, Ask, Put, Sent, Mute, Got, End, Verdict as Settled, Lost, Answer as Answered, Note as Noted}
+use Rattle.journal_model.specs.declared.entry.What.TheVariants.{Claim, Start, NoStart, Lead, Ask, Put, Sent, Mute, Got, End, Verdict as Settled, Lost, Answer as Answered, Note as Noted}
 use Rattle.journal_model.specs.declared.entry.Entry.{Entry}
 use Rattle.journal_model.specs.declared.opening.Opening.{Opening}
 use Rattle.annex_model.specs.Messages.{host_reading}
@@ -99,6 +99,7 @@ group_settles o past c j by (Mute child) e = clash (is_ended (made_by by (due_by
 group_settles o past c j by (Claim task child) e = absurd cc
 group_settles o past c j by (Start child slot offer) e = absurd cc
 group_settles o past c j by (NoStart slot) e = absurd cc
+group_settles o past c j by (Lead child job line) e = absurd cc
 group_settles o past c j by (Ask child job task line) e = absurd cc
 group_settles o past c j by (Put child job line) e = absurd cc
 group_settles o past c j by (Sent child) e = absurd cc
@@ -141,6 +142,7 @@ group_asks o past c by (Mute child) may e = soft_asks c by (due_by o past (Mute 
 group_asks o past c by (Claim task child) may e = refl
 group_asks o past c by (Start child slot offer) may e = refl
 group_asks o past c by (NoStart slot) may e = refl
+group_asks o past c by (Lead child job line) may e = refl
 group_asks o past c by (Put child job line) may e = refl
 group_asks o past c by (Sent child) may e = refl
 group_asks o past c by (Settled child job verdict) may e = refl
@@ -152,6 +154,7 @@ group_asks o past c by (Noted task chunk count) may e = refl
 ending_asks : (o : Opening) (past : List Entry) (c by : ℕ) (w : What) → is_ended (entry by w ∷ due_after o past (entry by w)) c ≡ true
     → asked_jobs (entry by w ∷ due_after o past (entry by w)) c ≡ []
 ending_asks o past c by (Ask child job task line) e = absurd cc
+ending_asks o past c by (Lead child job line) e = refl
 ending_asks o past c by (Got child line) e = soft_asks c by (due_by_got o past child line) (soft_got o past child line)
 ending_asks o past c by (End child why) e = soft_asks c by (due_by o past (End child why)) (soft_verdicts child (Ended why) (open_jobs past child))
 ending_asks o past c by (Mute child) e = soft_asks c by (due_by o past (Mute child)) (soft_mute o past child)

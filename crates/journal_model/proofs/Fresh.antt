@@ -9,12 +9,12 @@ use Rattle.journal_model.specs.declared.verdict.Verdict.TheVariants.{Ended, Unse
 use Rattle.annex_model.specs.Lines.{has_newline}
 use Rattle.annex_model.specs.Messages.{host_reading}
 use Rattle.journal_model.specs.declared.entry.What.{What}
-use Rattle.journal_model.specs.declared.entry.What.TheVariants.{Claim, Start, NoStart, Ask, Put, Sent, Mute, Got, End, Verdict as Settled, Lost, Answer as Answered, Note as Noted}
+use Rattle.journal_model.specs.declared.entry.What.TheVariants.{Claim, Start, NoStart, Lead, Ask, Put, Sent, Mute, Got, End, Verdict as Settled, Lost, Answer as Answered, Note as Noted}
 use Rattle.journal_model.specs.declared.entry.Entry.{Entry}
 use Rattle.journal_model.specs.declared.opening.Opening.{Opening}
 use Rattle.journal_model.specs.Journal.{each_of, writes, sends, starts, why_of, is_started, is_live, is_ended, is_mute, open_jobs, is_unsent, addressed, unsent, asked_jobs, is_full}
 use Rattle.journal_model.specs.Due.{ending, replying, due_by, due_by_got, due_after, made_by}
-use Rattle.journal_model.specs.Legality.{Legal, may_come, may_ask, may_stop, asks_in_turn, is_empty}
+use Rattle.journal_model.specs.Legality.{Legal, may_come, may_ask, may_lead, may_stop, asks_in_turn, says_name, is_empty}
 use Rattle.journal_model.proofs.Growing.{Legal-induction}
 use Rattle.journal_model.proofs.Looks.{both, same, same_number, any-append, either_left}
 use Rattle.journal_model.proofs.Soft.{is_soft, got_cases, soft_stretch, soft_got, soft_mute, soft_verdicts}
@@ -57,6 +57,7 @@ apart_why c d by (End child why ∷ ws) n h =
 apart_why c d by (Claim task child ∷ ws) n h = apart_why c d by ws n h
 apart_why c d by (Start child slot offer ∷ ws) n h = apart_why c d by ws n h
 apart_why c d by (NoStart slot ∷ ws) n h = apart_why c d by ws n h
+apart_why c d by (Lead child job line ∷ ws) n h = apart_why c d by ws n h
 apart_why c d by (Ask child job task line ∷ ws) n h = apart_why c d by ws n h
 apart_why c d by (Put child job line ∷ ws) n h = apart_why c d by ws n (both (child == d) (list_all (is_of d) ws) h).1
 apart_why c d by (Sent child ∷ ws) n h = apart_why c d by ws n h
@@ -89,6 +90,7 @@ soft_nothing c d by ws n h soft =
 
 -- the entry writes to the child, covers a line of it, hears it or ends it
 abbrev pub concerns : ℕ → What → Bool
+concerns c (Lead child job line) = child == c
 concerns c (Ask child job task line) = child == c
 concerns c (Put child job line) = child == c
 concerns c (Sent child) = child == c
@@ -103,6 +105,7 @@ pub other_child : (o : Opening) (past : List Entry) (c by : ℕ) (w : What) → 
 other_child o past c by (Claim task child) n = record { got = refl; written = refl; covers = refl; mutes = refl; ends = refl }
 other_child o past c by (Start child slot offer) n = record { got = refl; written = refl; covers = refl; mutes = refl; ends = refl }
 other_child o past c by (NoStart slot) n = record { got = refl; written = refl; covers = refl; mutes = refl; ends = refl }
+other_child o past c by (Lead child job line) n = record { got = refl; written = rw n refl; covers = refl; mutes = refl; ends = refl }
 other_child o past c by (Ask child job task line) n = record { got = refl; written = rw n refl; covers = refl; mutes = refl; ends = refl }
 other_child o past c by (Put child job line) n = record { got = refl; written = rw n refl; covers = refl; mutes = refl; ends = refl }
 other_child o past c by (Sent child) n = record { got = refl; written = refl; covers = rw n refl; mutes = refl; ends = refl }
@@ -145,6 +148,9 @@ unstarted o past c by w may off n = go (concerns c w) refl
     by_kind (Ask child job task line) may e =
         clash (here child e (live child (first_of_five (is_live past child) (not (is_mute past child)) (job == length (asked_jobs past child))
         (asks_in_turn past child job line (host_reading (addressed past child line).1)) (may_ask past by task child) may)))
+    by_kind (Lead child job line) may e =
+        clash (here child e (live child (first_of_five (is_live past child) (not (is_mute past child)) (job == length (asked_jobs past child))
+        (says_name past child job line (host_reading (addressed past child line).1)) (may_lead past by child) may)))
     by_kind (Put child job line) may e = absurd cc
     by_kind (Sent child) may e =
         let none : unsent past c ≡ [] = ap (drop (length (filter (λ (x : Entry). sends c x.what) past))) n.written ∙ drop-nil (length (filter (λ (x : Entry). sends c x.what) past)) in

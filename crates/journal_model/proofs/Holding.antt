@@ -13,7 +13,7 @@ use Rattle.journal_model.specs.declared.entry.Entry.{Entry}
 use Rattle.journal_model.specs.Journal.{any, each_of, on_wire, is_live, is_open, is_unsent, open_jobs}
 use Rattle.journal_model.specs.Due.{due_after, due_by_got, made_by, ending, verdict_at, replying}
 use Rattle.journal_model.specs.Legality.{Legal, may_come, is_number, is_free, least_free, numbers_of, claims, answers, is_claimed, is_answered, is_busy, is_claimed_by, is_held_by, holder, turned, turned_by, has_open_job}
-use Rattle.journal_model.proofs.Growing.{Legal-induction}
+use Rattle.journal_model.proofs.Growing.{Near, Near-induction}
 use Rattle.journal_model.proofs.Looks.{entry, same_number, both, any-append, settled_all}
 use Rattle.journal_model.proofs.Soft.{got_cases}
 
@@ -196,6 +196,9 @@ held_step o past by w t f may =
         go false e = rw (or_false (is_claimed past t), or_false (is_answered past t)) f
     step w may = rw (or_false (is_claimed past t), or_false (is_answered past t)) f
 
+pub held_near : (o : Opening) (journal : List Entry) → Near o journal → (t : ℕ) → is_busy journal t ≡ (is_claimed journal t && not (is_answered journal t))
+held_near o journal near t =
+    (Near-induction o (λ p. Fits (holder p t) (is_claimed p t) (is_answered p t)) (refl, λ h. absurd cc) (λ p e l f may. held_step o p e.by e.what t f may) journal near).0
+
 pub held_unanswered : (o : Opening) (journal : List Entry) → Legal o journal → (t : ℕ) → is_busy journal t ≡ (is_claimed journal t && not (is_answered journal t))
-held_unanswered o journal legal t =
-    (Legal-induction o (λ p. Fits (holder p t) (is_claimed p t) (is_answered p t)) (refl, λ h. absurd cc) (λ p e l f may. held_step o p e.by e.what t f may) journal legal).0
+held_unanswered o journal legal t = held_near o journal (inl legal) t

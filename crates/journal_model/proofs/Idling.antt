@@ -1,5 +1,5 @@
 -- Nothing is left undone where each claimer has answered: no task is busy, and no job is open.
-use Rattle.std.proofs.Common.{◌≡◌, zero, suc, ℕ, ◌+◌, ◌<◌, List, [], ◌∷◌, ◌++◌, refl, sym, ap, subst, ◌∙◌, Bool, true, false, not, ◌==◌, cond, Some, None, Option, length, arith}
+use Rattle.std.proofs.Common.{◌≡◌, zero, suc, ℕ, ◌+◌, ◌<◌, List, [], ◌∷◌, ◌++◌, refl, sym, ap, subst, ◌∙◌, Bool, true, false, not, ◌==◌, cond, Some, None, Option, length, arith, inl}
 use Rattle.std.specs.Prelude.{◌&&◌, ◌||◌, find}
 use Rattle.std.specs.List.{list_any, list_all, cons_option, range_with_len}
 use Rattle.std.proofs.lemmas.List.Folds.{list_any-append}
@@ -10,7 +10,7 @@ use Rattle.journal_model.specs.declared.opening.Opening.{Opening}
 use Rattle.journal_model.specs.Journal.{any, each_of, asks, asked_jobs, is_open, is_live, is_mute}
 use Rattle.journal_model.specs.Due.{due_after}
 use Rattle.journal_model.specs.Legality.{Legal, may_come, answers, claims, is_claimed, is_busy, is_claimed_by, job_for, has_open_job, may_work, is_busy_with, is_number, is_free, least_free, is_prepared}
-use Rattle.journal_model.proofs.Growing.{Legal-induction}
+use Rattle.journal_model.proofs.Growing.{Near, Near-induction, Legal-induction}
 use Rattle.journal_model.proofs.Looks.{entry, is_asked, both, same, same_number, differ, either_left, either_right, true_not_false, any-append, each_of-append, unasked_closed}
 use Rattle.journal_model.specs.Makers.{is_of_task, is_taken_by}
 use Rattle.journal_model.proofs.Holding.{held_unanswered}
@@ -27,9 +27,9 @@ found_past p a (suc n) k pos h = go (p a) h (found_past p (a + 1) n k (omega (ar
     go true h r = (let eq : a ≡ k = cc in omega (arith, pos, eq))
     go false h r = r h
 
-pub zero_unclaimed : (o : Opening) (journal : List Entry) → Legal o journal → is_claimed journal 0 ≡ false
-zero_unclaimed o journal l =
-    Legal-induction o (λ past. is_claimed past 0 ≡ false) refl (λ past e legal before may. step past e.by e.what before may) journal l
+zero_near : (o : Opening) (journal : List Entry) → Near o journal → is_claimed journal 0 ≡ false
+zero_near o journal l =
+    Near-induction o (λ past. is_claimed past 0 ≡ false) refl (λ past e legal before may. step past e.by e.what before may) journal l
   where
     step : (past : List Entry) (by : ℕ) (w : What) → is_claimed past 0 ≡ false → may_come o past by w ≡ true → is_claimed (past ++ entry by w ∷ due_after o past (entry by w)) 0 ≡ false
     step past by w before may =
@@ -48,6 +48,9 @@ zero_unclaimed o journal l =
             number task (least_free o past) refl
             (both (is_number task (least_free o past)) ((child == 0 && by == 0) || (is_prepared past child && is_live past child && not (is_mute past child))) m).0
         first v m = refl
+
+pub zero_unclaimed : (o : Opening) (journal : List Entry) → Legal o journal → is_claimed journal 0 ≡ false
+zero_unclaimed o journal l = zero_near o journal (inl l)
 
 -- a task that is claimed has a number above 0
 pub claimed_positive : (o : Opening) (seen : List Entry) → Legal o seen → (t : ℕ) → is_claimed seen t ≡ true → 0 < t
@@ -85,7 +88,7 @@ unclaimed_work past by t c free h = go (t == 0) (by == 0) (is_claimed_by past by
 
 pub mains_ask : (o : Opening) (journal : List Entry) → Legal o journal → are_mains journal ≡ true
 mains_ask o journal l =
-    Legal-induction o (λ past. are_mains past ≡ true) refl (λ past e legal before may. step past e.by e.what (zero_unclaimed o past legal) before may) journal l
+    Legal-induction o (λ past. are_mains past ≡ true) refl (λ past e legal before may. step past e.by e.what (zero_near o past legal) before may) journal l
   where
     step : (past : List Entry) (by : ℕ) (w : What) → is_claimed past 0 ≡ false → are_mains past ≡ true → may_come o past by w ≡ true
         → are_mains (past ++ entry by w ∷ due_after o past (entry by w)) ≡ true

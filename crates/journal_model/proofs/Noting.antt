@@ -14,12 +14,16 @@ use Rattle.chunk_log.proofs.Counting.{inserted_counts, pushed}
 use Rattle.chunk_log.proofs.InOrder.{in_order-inserted}
 use Rattle.chunk_log.proofs.Places.{place_total, same_place, is_of-same, same-is_of}
 use Rattle.task_text.specs.declared.task.Task.{Task}
+use Rattle.journal_model.specs.declared.entry.What.{What}
+use Rattle.journal_model.specs.declared.entry.What.TheVariants.{Lead}
 use Rattle.journal_model.specs.declared.entry.Entry.{Entry}
 use Rattle.journal_model.specs.declared.opening.Opening.{Opening}
 use Rattle.journal_model.specs.Journal.{each_of}
 use Rattle.journal_model.specs.Due.{due_after}
+use Rattle.journal_model.specs.Legality.{Follows}
 use Rattle.journal_model.specs.Notes.{note_of, noted, notes_at, with_notes, AreCurrentAt}
-use Rattle.journal_model.proofs.Looks.{each_of-append, both, same}
+use Rattle.journal_model.proofs.Growing.{one_ask}
+use Rattle.journal_model.proofs.Looks.{entry, each_of-append, both, same}
 use Rattle.journal_model.proofs.Holding.{due_names}
 
 pub notes_grow : (o : Opening) (past more : List Entry) → notes_at o (past ++ more) ≡ notes_at o past ++ each_of (noted o) more
@@ -28,6 +32,14 @@ notes_grow o past more =
 
 pub due_notes : (o : Opening) (past : List Entry) (e : Entry) → each_of (noted o) (due_after o past e) ≡ []
 due_notes o past e = due_names (noted o) (λ c j v. refl) (λ c why. refl) (λ c j l. refl) o past e.by e.what
+
+-- the first entry of a group alone may note something
+pub group_notes : (o : Opening) (past : List Entry) (e : Entry) (rest : List Entry) → Follows o past e rest → each_of (noted o) rest ≡ []
+group_notes o past e rest f = by_kind e.by e.what f
+  where
+    by_kind : (by : ℕ) (w : What) → Follows o past (entry by w) rest → each_of (noted o) rest ≡ []
+    by_kind by (Lead child job name) f = one_ask o past (λ (xs : List Entry). each_of (noted o) xs ≡ []) by child job name rest f (λ b c j t line. refl)
+    by_kind by w f = subst (λ (xs : List Entry). each_of (noted o) xs ≡ []) (sym f) (due_notes o past (entry by w))
 
 -- what counts in two lists goes on to count in both with the same notes behind them
 counting-append : (xs ys notes : List Note) (key uuid : List ℕ) (chunk : ℕ) → counting xs key uuid chunk ≡ counting ys key uuid chunk

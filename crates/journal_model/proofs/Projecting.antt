@@ -9,25 +9,27 @@ use Rattle.journal_model.specs.declared.verdict.Verdict.{Verdict}
 use Rattle.journal_model.specs.declared.verdict.Verdict.TheVariants.{Done as DoneAt}
 use Rattle.annex_model.specs.declared.final_line.Final.{Final}
 use Rattle.annex_model.specs.declared.final_line.Final.TheVariants.{Done, Failed, Absent, Unknown, Unsupported}
-use Rattle.annex_model.specs.Messages.{RemoteMessage, HostMessage, IsAskable, remote_reading}
+use Rattle.annex_model.specs.Messages.{RemoteMessage, HostMessage, IsAskable, host_reading, remote_reading}
 use Rattle.annex_model.specs.Talks.{Item, Conv, Talking, is_aside, final_of, awaits, said, item_is_aside, spells_aside}
 use Rattle.annex_model.proofs.TalksGrow.{Conv-push, Talking-aside, said-push, replied-push, from_remote, from_host}
 use Rattle.annex_model.proofs.Fronts.{front_of}
+use Rattle.annex_model.proofs.Leads.{asked_more}
 use Rattle.journal_model.specs.declared.opening.Opening.{Opening}
 use Rattle.journal_model.specs.declared.entry.What.{What}
-use Rattle.journal_model.specs.declared.entry.What.TheVariants.{Claim, Start, NoStart, Ask, Put, Sent, Mute, Got, End, Verdict as Settled, Lost, Answer as Answered, Note as Noted}
+use Rattle.journal_model.specs.declared.entry.What.TheVariants.{Claim, Start, NoStart, Lead, Ask, Put, Sent, Mute, Got, End, Verdict as Settled, Lost, Answer as Answered, Note as Noted}
 use Rattle.journal_model.specs.declared.entry.Entry.{Entry}
 use Rattle.journal_model.specs.Journal.{asks, asked_jobs, first_of, verdict_of, has_spoken, got_from, is_open, is_live, addressed}
 use Rattle.journal_model.specs.Parts.{part, part_from, is_for, ends_at}
 use Rattle.annex_model.specs.Hearings.{request_in, Aside, hearing, hearing_of, by_answer}
 use Rattle.journal_model.specs.Due.{due_after, made_by, verdict_at, ending, due_by_got, after_line, after_late, after_hearing, is_error, is_passed, is_version_one, replies, replies_said, replying, replies_at}
-use Rattle.journal_model.specs.Legality.{Legal, may_come}
+use Rattle.journal_model.specs.Legality.{Legal, MayStand, may_come, is_led}
 use Rattle.journal_model.specs.Projection.{Fits, PartFits, FitsFinal, JobFits, PartIsAsked, Ends, final_in, last_place}
-use Rattle.journal_model.proofs.Growing.{Legal-induction}
+use Rattle.journal_model.proofs.Growing.{groups_from, is_lead}
+use Rattle.journal_model.proofs.Holding.{not_true}
 use Rattle.journal_model.proofs.PartsGrow.{part-group}
 use Rattle.journal_model.proofs.Looks.{entry, is_asked, same, same_number, both, either_left, true_not_false, each_of-append, any-append, verdict_of-append, or_none, settled_none, unasked_closed, open_unsettled}
 use Rattle.journal_model.proofs.Replying.{IsPlaced, longer, placed_kept, tag_kept, said_small, reply_places, reply_texts, reply_part, replies_here}
-use Rattle.journal_model.proofs.Keeping.{Inv, earlier, end_inv, mute_inv, plain_inv, ask_inv, foul_inv, passed_inv, greet_inv}
+use Rattle.journal_model.proofs.Keeping.{Inv, earlier, end_inv, mute_inv, plain_inv, ask_inv, led_inv, foul_inv, passed_inv, greet_inv}
 
 -- ---- what one more item makes of a part
 
@@ -70,7 +72,7 @@ last_fits f (i ∷ is) q m w at text request fits spelled no_aside final =
     let said_is : final_of q (said (p ++ from_remote at text ∷ [])) ≡ Some w = rw (said-push p at text plain) (rw spelled final) in
     let whole : Conv f q (p ++ from_remote at text ∷ []) = Conv-push f q p at text plain talking (rw spelled (rw final refl)) in
     let place : last_place (p ++ from_remote at text ∷ []) ≡ Some at = rw (last_push None p (from_remote at text)) refl in
-    (q, request, askable, ends_fits f q (p ++ from_remote at text ∷ []) w at (record { whole = whole; final = said_is; place = place }))
+    (q, asked_more p (from_remote at text ∷ []) q request, askable, ends_fits f q (p ++ from_remote at text ∷ []) w at (record { whole = whole; final = said_is; place = place }))
 
 -- a line of an answer that goes on
 more_fits : (f : ℕ → List (List ℕ)) (p : List Item) (q : HostMessage) (m : RemoteMessage) (at : ℕ) (text : List ℕ)
@@ -87,7 +89,7 @@ more_fits f (i ∷ is) q m at text request fits spelled no_aside waits =
       replied = replied-push f q p at text plain before.replied;
       waits = rw (said-push p at text plain) (rw spelled waits);
     } in
-    (q, request, askable, record { talking = talking; front = front_of f q (p ++ from_remote at text ∷ []) talking })
+    (q, asked_more p (from_remote at text ∷ []) q request, askable, record { talking = talking; front = front_of f q (p ++ from_remote at text ∷ []) talking })
 
 -- an aside, with the replies that it is owed
 aside_fits : (f : ℕ → List (List ℕ)) (p : List Item) (m : RemoteMessage) (at : ℕ) (text : List ℕ) (rs : List (ℕ × List ℕ)) → (p ≡ [] → ⊥) → Fits f p None
@@ -97,7 +99,7 @@ aside_fits f (i ∷ is) m at text rs some fits spelled aside owed =
     let p : List Item = i ∷ is in
     let talking : Talking f fits.0 (p ++ from_remote at text ∷ map from_host rs) =
     Talking-aside f fits.0 p at text rs (is_plain m at text true spelled aside) owed fits.3.talking in
-    (fits.0, fits.1, fits.2, record { talking = talking; front = front_of f fits.0 (p ++ from_remote at text ∷ map from_host rs) talking })
+    (fits.0, asked_more p (from_remote at text ∷ map from_host rs) fits.0 fits.1, fits.2, record { talking = talking; front = front_of f fits.0 (p ++ from_remote at text ∷ map from_host rs) talking })
 
 -- ---- a line that joins the part of its job, and settles it or makes nothing due
 
@@ -406,32 +408,35 @@ got_inv o past by child line inv may = by_error (is_error (remote_reading (addre
     by_error true = foul_inv o past by child line (ErrorAt (length past)) inv may (same (length past))
     by_error false = by_speech (has_spoken past child) refl
 
-step_inv : (o : Opening) (past : List Entry) (by : ℕ) (w : What) → Inv o past → may_come o past by w ≡ true
+step_inv : (o : Opening) (past : List Entry) (by : ℕ) (w : What) → Inv o past → MayStand o past [] (entry by w) → is_lead w ≡ false
     → Inv o (past ++ entry by w ∷ due_after o past (entry by w))
-step_inv o past by (Claim task child) inv may = plain_inv o past by (Claim task child) inv may (λ c. refl) (λ c j. refl) (λ c j. refl)
-step_inv o past by (Start child slot offer) inv may = plain_inv o past by (Start child slot offer) inv may (λ c. refl) (λ c j. refl) (λ c j. refl)
-step_inv o past by (NoStart slot) inv may = plain_inv o past by (NoStart slot) inv may (λ c. refl) (λ c j. refl) (λ c j. refl)
-step_inv o past by (Ask child job task line) inv may =
+step_inv o past by (Claim task child) inv may plain = plain_inv o past by (Claim task child) inv may (λ c. refl) (λ c j. refl) (λ c j. refl)
+step_inv o past by (Start child slot offer) inv may plain = plain_inv o past by (Start child slot offer) inv may (λ c. refl) (λ c j. refl) (λ c j. refl)
+step_inv o past by (NoStart slot) inv may plain = plain_inv o past by (NoStart slot) inv may (λ c. refl) (λ c j. refl) (λ c j. refl)
+step_inv o past by (Lead child job line) inv may plain = absurd cc
+step_inv o past by (Ask child job task line) inv stands plain =
+    let unled = not_true _ (both _ _ stands).0 in
+    let may = (both (not (is_led (host_reading (addressed past child line).1))) (may_come o past by (Ask child job task line)) stands).1 in
     let four = both _ _ may in
     let three = both _ _ four.0 in
     let two = both _ _ three.0 in
     let asking = both _ _ four.1 in
-    ask_inv o past by child job task line inv may two.1 three.1 (both _ _ asking.0).0
-step_inv o past by (Put child job line) inv may = absurd cc
-step_inv o past by (Sent child) inv may = plain_inv o past by (Sent child) inv may (λ c. refl) (λ c j. refl) (λ c j. refl)
-step_inv o past by (Mute child) inv may = mute_inv o past by child (is_live past child) inv may
-step_inv o past by (Got child line) inv may = got_inv o past by child line inv may
-step_inv o past by (End child why) inv may = end_inv o past by child why inv may
-step_inv o past by (Settled child job verdict) inv may = absurd cc
-step_inv o past by (Lost child task) inv may = plain_inv o past by (Lost child task) inv may (λ c. refl) (λ c j. refl) (λ c j. refl)
-step_inv o past by (Answered task answer) inv may = plain_inv o past by (Answered task answer) inv may (λ c. refl) (λ c j. refl) (λ c j. refl)
-step_inv o past by (Noted task chunk count) inv may = plain_inv o past by (Noted task chunk count) inv may (λ c. refl) (λ c j. refl) (λ c j. refl)
+    ask_inv o past by child job task line inv may unled two.1 three.1 (both _ _ asking.0).0
+step_inv o past by (Put child job line) inv may plain = absurd cc
+step_inv o past by (Sent child) inv may plain = plain_inv o past by (Sent child) inv may (λ c. refl) (λ c j. refl) (λ c j. refl)
+step_inv o past by (Mute child) inv may plain = mute_inv o past by child (is_live past child) inv may
+step_inv o past by (Got child line) inv may plain = got_inv o past by child line inv may
+step_inv o past by (End child why) inv may plain = end_inv o past by child why inv may
+step_inv o past by (Settled child job verdict) inv may plain = absurd cc
+step_inv o past by (Lost child task) inv may plain = plain_inv o past by (Lost child task) inv may (λ c. refl) (λ c j. refl) (λ c j. refl)
+step_inv o past by (Answered task answer) inv may plain = plain_inv o past by (Answered task answer) inv may (λ c. refl) (λ c j. refl) (λ c j. refl)
+step_inv o past by (Noted task chunk count) inv may plain = plain_inv o past by (Noted task chunk count) inv may (λ c. refl) (λ c j. refl) (λ c j. refl)
 
 pub invariant : (o : Opening) (journal : List Entry) → Legal o journal → Inv o journal
 invariant o journal legal =
-    Legal-induction o (Inv o)
+    groups_from o (Inv o) record { plain = λ p e inv may plain. step_inv o p e.by e.what inv may plain; pairs = λ p by child job task name line inv led. led_inv o p by child job task name line inv led } [] [] journal refl
     (record { jobs = λ rest c j. refl; placed = λ c j at h. absurd (no_place at h); asked = λ c j. (λ h. refl, λ h. refl); silent = λ c h. refl; fresh = λ c j h. refl })
-    (λ p e l inv may. step_inv o p e.by e.what inv may) journal legal
+    legal.stands legal.nothing_due
   where
     no_place : (at : ℕ) → None ≡ Some (DoneAt at) → ⊥
     no_place at h = cc

@@ -9,16 +9,16 @@ use Rattle.journal_model.specs.declared.verdict.Verdict.{Verdict}
 use Rattle.journal_model.specs.declared.verdict.Verdict.TheVariants.{Ended, Unsent}
 use Rattle.journal_model.specs.declared.opening.Opening.{Opening}
 use Rattle.journal_model.specs.declared.entry.What.{What}
-use Rattle.journal_model.specs.declared.entry.What.TheVariants.{Claim, Start, NoStart, Ask, Put, Sent, Mute, Got, End, Verdict as Settled, Lost, Answer as Answered, Note as Noted}
+use Rattle.journal_model.specs.declared.entry.What.TheVariants.{Claim, Start, NoStart, Lead, Ask, Put, Sent, Mute, Got, End, Verdict as Settled, Lost, Answer as Answered, Note as Noted}
 use Rattle.journal_model.specs.declared.entry.Entry.{Entry}
 use Rattle.journal_model.specs.Journal.{each_of, on_wire, asks, asked_jobs, writes, sends, unsent, settles, starts, ends, mutes, is_settled, is_started, is_ended, is_mute, is_live, is_open, is_unsent, open_jobs}
 use Rattle.journal_model.specs.Due.{due_after, due_by_got, made_by, replying}
-use Rattle.journal_model.specs.Legality.{Legal, may_come, may_stop, is_number, is_free, numbers_of, claims, answers, is_claimed, is_answered, holder, is_empty, count}
+use Rattle.journal_model.specs.Legality.{Legal, may_come, may_stop, is_number, is_free, numbers_of, claims, answers, is_claimed, is_answered, holder, is_empty, count, Follows}
 use Rattle.journal_model.specs.Registers.{is_got}
-use Rattle.journal_model.specs.Room.{room_for, room_for_all, room_of, is_put}
-use Rattle.journal_model.proofs.Growing.{Legal-induction}
+use Rattle.journal_model.specs.Room.{room_for, room_for_all, room_of, is_put, is_ask}
+use Rattle.journal_model.proofs.Growing.{Near, Legal-induction, none_asks, due_none_asks, one_ask}
 use Rattle.journal_model.proofs.Looks.{entry, same_number, both, each_of-append, settled_all}
-use Rattle.journal_model.proofs.Holding.{claimed, answered, GotDue, got_due, verdicts_name, replies_name, due_names, not_true, held_busy, held_unanswered}
+use Rattle.journal_model.proofs.Holding.{claimed, answered, GotDue, got_due, verdicts_name, replies_name, due_names, not_true, held_busy, held_near}
 use Rattle.journal_model.proofs.Counting.{IsSame, same_nat, nat_is_same, same_pair, pair_is_same, Pair, one, many, many-cons, many-append, AtMost, AtMost-length, more_none, more_one, holds, named_none, named_some, named_count, named_length, is_there, filter_at_most, filter_drops}
 
 -- ---- whom an entry names
@@ -40,6 +40,7 @@ sent (Sent child) = Some child
 sent _ = None
 
 abbrev written : What → Option ℕ
+written (Lead child job line) = Some child
 written (Ask child job task line) = Some child
 written (Put child job line) = Some child
 written _ = None
@@ -116,11 +117,11 @@ claims_step o past by (Claim task child) h may =
 claims_step o past by w h may =
     claims_kept o past (entry by w ∷ due_after o past (entry by w)) (due_names claimed (λ c j v. refl) (λ c why. refl) (λ c j l. refl) o past by w) h
 
-answers_step : (o : Opening) (past : List Entry) (by : ℕ) (w : What) → Legal o past → AtMost same_nat (each_of answered past) (each_of claimed past) → may_come o past by w ≡ true
+answers_step : (o : Opening) (past : List Entry) (by : ℕ) (w : What) → Near o past → AtMost same_nat (each_of answered past) (each_of claimed past) → may_come o past by w ≡ true
     → AtMost same_nat (each_of answered (past ++ entry by w ∷ due_after o past (entry by w))) (each_of claimed (past ++ entry by w ∷ due_after o past (entry by w)))
 answers_step o past by (Answered task answer) legal h may =
     let held = held_busy by (holder past task) (both _ _ may).0 in
-    let busy = both (is_claimed past task) (not (is_answered past task)) (sym (held_unanswered o past legal task) ∙ held) in
+    let busy = both (is_claimed past task) (not (is_answered past task)) (sym (held_near o past legal task) ∙ held) in
     let none = named_none same_nat answered (answers task) task (answers_is task) past (not_true _ busy.1) in
     let some = named_some same_nat claimed (claims task) task (claims_is task) past busy.0 in
     grow_one same_nat nat_is_same answered claimed past (entry by (Answered task answer) ∷ []) task refl none some h
@@ -205,6 +206,11 @@ writes_is : (c : ℕ) (w : What) → is_there same_nat (writes c w) ≡ holds sa
 writes_is c (Ask child job task line) = go (child == c)
   where
     go : (b : Bool) → is_there same_nat {Y = Option ℕ × List ℕ} (cond b (Some (Some job, line)) None) ≡ b
+    go true = refl
+    go false = refl
+writes_is c (Lead child job line) = go (child == c)
+  where
+    go : (b : Bool) → is_there same_nat {Y = Option ℕ × List ℕ} (cond b (Some (None, line)) None) ≡ b
     go true = refl
     go false = refl
 writes_is c (Put child job line) = go (child == c)
@@ -402,6 +408,7 @@ balance (e ∷ past) = step e.what (sum_by-cons (λ (d : Entry). room_for d.what
     step (Claim task child) s r = omega (arith, s, r)
     step (Start child slot offer) s r = omega (arith, s, r)
     step (NoStart slot) s r = omega (arith, s, r)
+    step (Lead child job line) s r = omega (arith, s, r)
     step (Ask child job task line) s r = omega (arith, s, r)
     step (Put child job line) s r = omega (arith, s, r)
     step (Sent child) s r = omega (arith, s, r)
@@ -519,3 +526,31 @@ no_reply o past by (Mute child) h = by_life (is_live past child)
     by_life false = refl
 no_reply o past by (Got child line) h = absurd cc
 no_reply o past by w h = refl
+
+-- ---- a whole group
+
+none_asked : (xs : List Entry) → none_asks xs ≡ true → count is_ask xs ≡ 0
+none_asked [] h = refl
+none_asked (e ∷ xs) h =
+    let s = both (not (is_ask e.what)) (none_asks xs) h in
+    rw (not_true (is_ask e.what) s.0) (none_asked xs s.1)
+
+-- what follows a first entry
+module _ (o : Opening) (past : List Entry) where
+  pub group_room : (e : Entry) (rest : List Entry) → Follows o past e rest → room_for_all (e ∷ rest) ≡ room_for e.what + 2 * count is_put rest + 3 * count is_ask rest
+  group_room e rest f = by_kind e.by e.what f
+    where
+      by_kind : (by : ℕ) (w : What) → Follows o past (entry by w) rest → room_for_all (entry by w ∷ rest) ≡ room_for w + 2 * count is_put rest + 3 * count is_ask rest
+      by_kind by (Lead child job name) f =
+          one_ask o past (λ (xs : List Entry). room_for_all (entry by (Lead child job name) ∷ xs) ≡ 2 + 2 * count is_put xs + 3 * count is_ask xs) by child job name rest f (λ b c j t line. refl)
+      by_kind by w f =
+          let takes = group_takes o past (entry by w) in
+          let none = none_asked (due_after o past (entry by w)) (due_none_asks o past (entry by w)) in
+          subst (λ (xs : List Entry). room_for_all (entry by w ∷ xs) ≡ room_for w + 2 * count is_put xs + 3 * count is_ask xs) (sym f) (omega (arith, takes, none))
+
+  pub group_no_reply : (e : Entry) (rest : List Entry) → Follows o past e rest → is_got e.what ≡ false → count is_put rest ≡ 0
+  group_no_reply e rest f h = by_kind e.by e.what f h
+    where
+      by_kind : (by : ℕ) (w : What) → Follows o past (entry by w) rest → is_got w ≡ false → count is_put rest ≡ 0
+      by_kind by (Lead child job name) f h = one_ask o past (λ (xs : List Entry). count is_put xs ≡ 0) by child job name rest f (λ b c j t line. refl)
+      by_kind by w f h = subst (λ (xs : List Entry). count is_put xs ≡ 0) (sym f) (no_reply o past by w h)

@@ -1,5 +1,5 @@
 -- A task that was claimed and isn't busy stays as it is.
-use Rattle.std.proofs.Common.{◌≡◌, zero, suc, ℕ, ◌<◌, List, [], ◌∷◌, ◌++◌, refl, sym, ap, subst, ◌∙◌, Bool, true, false, not, ◌==◌, append-nil, arith}
+use Rattle.std.proofs.Common.{◌≡◌, zero, suc, ℕ, ◌<◌, List, [], ◌∷◌, ◌++◌, refl, sym, ap, subst, ◌∙◌, Bool, true, false, not, ◌==◌, append-nil, append_assoc, arith}
 use Rattle.std.specs.Prelude.{◌||◌, filter, IsTrue, is_some}
 use Rattle.std.proofs.Common.{inl, inr}
 use Rattle.std.proofs.lemmas.List.{append_cancel_left}
@@ -9,9 +9,10 @@ use Rattle.journal_model.specs.declared.entry.Entry.{Entry}
 use Rattle.journal_model.specs.declared.opening.Opening.{Opening}
 use Rattle.journal_model.specs.Journal.{any}
 use Rattle.journal_model.specs.Due.{due_after}
-use Rattle.journal_model.specs.Legality.{Legal, StandsFrom, owed_from, may_come, claims, is_claimed, is_busy}
+use Rattle.journal_model.specs.Legality.{Legal, StandsFrom, owed_from, may_come, needs_lead, claims, is_claimed, is_busy}
+use Rattle.journal_model.specs.declared.entry.What.TheVariants.{Lead, Ask}
 use Rattle.journal_model.proofs.Growing.{groups_from, StandsFrom-split, owed_from-append}
-use Rattle.journal_model.proofs.Looks.{entry, any-append, true_not_false, either_left, either_right}
+use Rattle.journal_model.proofs.Looks.{entry, both, any-append, true_not_false, either_left, either_right}
 use Rattle.journal_model.specs.Makers.{is_of_task}
 use Rattle.journal_model.proofs.Testing.{or_left, by_either, neither}
 use Rattle.journal_model.proofs.Working.{takes, Takes, due_untasked, holder_apart}
@@ -24,7 +25,12 @@ Legal-from o P start rest first whole base step =
     let stands : StandsFrom o start [] rest = subst (λ (ds : List Entry). StandsFrom o start ds rest) first.nothing_due s in
     let none : owed_from o start [] rest ≡ [] =
     ap (λ (ds : List Entry). owed_from o start ds rest) (sym first.nothing_due) ∙ sym (owed_from-append o [] [] start rest) ∙ whole.nothing_due in
-    groups_from o P start [] rest step (subst P (sym (append-nil start)) base) stands none
+    groups_from o P record {
+      plain = λ p e h may plain. step p e h (both (not (needs_lead p e.what)) (may_come o p e.by e.what) may).1;
+      pairs = λ p by child job task name line h led.
+          subst P (append_assoc p (entry by (Lead child job name) ∷ []) (entry by (Ask child job task line) ∷ []))
+          (step (p ++ entry by (Lead child job name) ∷ []) (entry by (Ask child job task line)) (step p (entry by (Lead child job name)) h led.first) led.second);
+    } start [] rest refl (subst P (sym (append-nil start)) base) stands none
 
 abbrev of_task : ℕ → List Entry → List Entry
 of_task t xs = filter (λ e. is_of_task t e.what) xs

@@ -10,7 +10,7 @@ use Rattle.annex_model.specs.declared.final_line.Final.{Final}
 use Rattle.annex_model.specs.declared.final_line.Final.TheVariants.{Done}
 use Rattle.annex_model.specs.Talks.{Item}
 use Rattle.journal_model.specs.declared.entry.What.{What}
-use Rattle.journal_model.specs.declared.entry.What.TheVariants.{Claim, Start, NoStart, Ask, Put, Sent, Mute, Got, End, Verdict as Settled, Lost, Answer as Answered, Note as Noted}
+use Rattle.journal_model.specs.declared.entry.What.TheVariants.{Claim, Start, NoStart, Lead, Ask, Put, Sent, Mute, Got, End, Verdict as Settled, Lost, Answer as Answered, Note as Noted}
 use Rattle.journal_model.specs.declared.entry.Entry.{Entry}
 use Rattle.journal_model.specs.declared.opening.Opening.{Opening}
 use Rattle.journal_model.specs.Journal.{first_of, on_wire, verdict_of, ends, mutes, is_ended, is_mute, is_live, is_unsent, open_jobs}
@@ -140,6 +140,7 @@ caused_group o past by (Settled child job verdict) may = absurd cc
 caused_group o past by (Claim task child) may = λ c k v h. absurd cc
 caused_group o past by (Start child slot offer) may = λ c k v h. absurd cc
 caused_group o past by (NoStart slot) may = λ c k v h. absurd cc
+caused_group o past by (Lead child job line) may = λ c k v h. absurd cc
 caused_group o past by (Ask child job task line) may = λ c k v h. absurd cc
 caused_group o past by (Put child job line) may = λ c k v h. absurd cc
 caused_group o past by (Sent child) may = λ c k v h. absurd cc

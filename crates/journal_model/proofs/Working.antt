@@ -10,7 +10,7 @@ use Rattle.journal_model.specs.declared.verdict.Verdict.{Verdict}
 use Rattle.journal_model.specs.declared.verdict.Verdict.TheVariants.{Ended}
 use Rattle.journal_model.specs.declared.holder.Holder.{Holder}
 use Rattle.journal_model.specs.declared.entry.What.{What}
-use Rattle.journal_model.specs.declared.entry.What.TheVariants.{Claim, Start, NoStart, Ask, Put, Sent, Mute, Got, End, Verdict as Settled, Lost, Answer as Answered, Note as Noted}
+use Rattle.journal_model.specs.declared.entry.What.TheVariants.{Claim, Start, NoStart, Lead, Ask, Put, Sent, Mute, Got, End, Verdict as Settled, Lost, Answer as Answered, Note as Noted}
 use Rattle.journal_model.specs.declared.entry.Entry.{Entry}
 use Rattle.journal_model.specs.declared.opening.Opening.{Opening}
 use Rattle.journal_model.specs.Journal.{any, each_of, asks, asked_jobs, addressed, is_open, open_jobs, is_settled, settles, is_live, is_started, is_ended, is_mute, is_tagged, verdict_of}
@@ -18,7 +18,7 @@ use Rattle.journal_model.specs.Due.{due_by, due_after, made_by}
 use Rattle.journal_model.specs.Legality.{Legal, may_come, count, claims, answers, is_claimed, is_busy, is_busy_with, is_claimed_by, is_held_by, holder, turned, turned_by, is_number, is_free, least_free, numbers_of, job_for, has_open_job, may_work, may_ask, may_note, is_greeted, asks_in_turn, is_prepared, is_empty, both_conflict, task_of}
 use Rattle.journal_model.specs.Makers.{is_of_task, is_taken_by, task_part}
 use Rattle.journal_model.specs.Shares.{are_own}
-use Rattle.journal_model.proofs.Growing.{Legal-induction}
+use Rattle.journal_model.proofs.Growing.{Near, Near-induction, Legal-induction}
 use Rattle.journal_model.proofs.Holding.{holder_append, held_busy, not_true}
 use Rattle.journal_model.proofs.Looks.{entry, is_asked, both, same, same_number, differ, either_left, either_right, true_not_false, any-append, each_of-append, verdict_of-append, open_unsettled, unsettled}
 use Rattle.journal_model.proofs.Soft.{is_soft, soft_got, soft_mute, soft_verdicts}
@@ -241,6 +241,7 @@ takes o past by t (Noted task chunk count) pos may of =
     inr (subst (λ (x : ℕ). is_taken_by past by x ≡ true) at (held_taken past by task s.0), subst (λ (x : ℕ). is_busy past x ≡ true) at (held_busy by (holder past task) s.0), refl)
 takes o past by t (Start child slot offer) pos may of = absurd cc
 takes o past by t (NoStart slot) pos may of = absurd cc
+takes o past by t (Lead child job line) pos may of = absurd cc
 takes o past by t (Put child job line) pos may of = absurd cc
 takes o past by t (Sent child) pos may of = absurd cc
 takes o past by t (Mute child) pos may of = absurd cc
@@ -344,9 +345,12 @@ kept_step o past by w kept may = record { own = own; none = none }
             go (inl first) = true_not_false (claims t w) first.1 (either_left (claims t w) (is_claimed due t) (either_right (is_claimed past t) (is_claimed more t) split))
             go (inr later) = true_not_false (is_claimed past t) (taken_claimed past by t later.0) old
 
+tasks_near : (o : Opening) (journal : List Entry) → Near o journal → Kept journal
+tasks_near o journal near =
+    Near-induction o Kept (record { own = λ t n pos h. refl; none = λ t pos h. refl }) (λ past e legal before may. kept_step o past e.by e.what before may) journal near
+
 pub tasks_kept : (o : Opening) (journal : List Entry) → Legal o journal → Kept journal
-tasks_kept o journal l =
-    Legal-induction o Kept (record { own = λ t n pos h. refl; none = λ t pos h. refl }) (λ past e legal before may. kept_step o past e.by e.what before may) journal l
+tasks_kept o journal l = tasks_near o journal (inl l)
 
 -- ---- once
 
@@ -481,7 +485,7 @@ jobs_stay_closed past more t none h =
 pub idle_shut : (o : Opening) (journal : List Entry) → Legal o journal → (t : ℕ) → 0 < t → is_busy journal t ≡ false → has_open_job journal t ≡ false
 idle_shut o journal l =
     Legal-induction o (λ past. (t : ℕ) → 0 < t → is_busy past t ≡ false → has_open_job past t ≡ false) (λ t pos h. refl)
-    (λ past e legal before may. step past e.by e.what (tasks_kept o past legal) before may) journal l
+    (λ past e near before may. step past e.by e.what (tasks_near o past near) before may) journal l
   where
     step : (past : List Entry) (by : ℕ) (w : What) → Kept past → ((t : ℕ) → 0 < t → is_busy past t ≡ false → has_open_job past t ≡ false) → may_come o past by w ≡ true
         → (t : ℕ) → 0 < t → is_busy (past ++ entry by w ∷ due_after o past (entry by w)) t ≡ false → has_open_job (past ++ entry by w ∷ due_after o past (entry by w)) t ≡ false

@@ -8,7 +8,7 @@ use Rattle.journal_model.specs.declared.verdict.Verdict.TheVariants.{Done}
 use Rattle.annex_model.specs.Messages.{remote_reading}
 use Rattle.annex_model.specs.Tags.{untag, tagged_line, names_async}
 use Rattle.journal_model.specs.declared.entry.What.{What}
-use Rattle.journal_model.specs.declared.entry.What.TheVariants.{Start, Ask, Put, Sent, Mute, Got, End, Verdict as Settled}
+use Rattle.journal_model.specs.declared.entry.What.TheVariants.{Start, Lead, Ask, Put, Sent, Mute, Got, End, Verdict as Settled}
 use Rattle.journal_model.specs.declared.entry.Entry.{Entry}
 use Rattle.journal_model.specs.Limits.{most_entries, most_line_bytes}
 
@@ -55,6 +55,7 @@ asks c _ = None
 
 -- the line that the entry writes to c, with the job that it asks, if it asks one
 abbrev pub writes : ℕ → What → Option (Option ℕ × List ℕ)
+writes c (Lead child job line) = if child == c then Some (None, line) else None
 writes c (Ask child job task line) = if child == c then Some (Some job, line) else None
 writes c (Put child job line) = if child == c then Some (None, line) else None
 writes c _ = None
@@ -129,6 +130,7 @@ is_unsent past c j = list_any (λ w. is_job j w.0) (unsent past c)
 
 -- the bytes of the entry's line, where it has one
 abbrev pub line_bytes : What → ℕ
+line_bytes (Lead child job line) = length line
 line_bytes (Ask child job task line) = length line
 line_bytes (Put child job line) = length line
 line_bytes (Got child line) = length line

@@ -11,12 +11,14 @@ use Rattle.journal_model.specs.declared.verdict.Why.TheVariants.{Eof, ReadFault,
 use Rattle.journal_model.specs.declared.verdict.Verdict.{Verdict}
 use Rattle.journal_model.specs.declared.verdict.Verdict.TheVariants.{Done as DoneAt}
 use Rattle.annex_model.specs.Lines.{has_newline}
-use Rattle.annex_model.specs.Messages.{HostMessage, AskExtensions, Prepare, Transfer, remote_reading, host_reading, host_line}
+use Rattle.annex_model.specs.Messages.{HostMessage, AskExtensions, Prepare, Transfer, Export, Transferexport, Renameexport, remote_reading, host_reading, host_line}
 use Rattle.annex_model.specs.Tags.{untag, without_tag}
+use Rattle.annex_model.specs.Talks.{has_lead}
+use Rattle.annex_model.specs.declared.turn.Turn.TheVariants.{Later}
 use Rattle.annex_model.specs.Turns.{turn_of, is_at}
 use Rattle.journal_model.specs.declared.holder.Holder.{Holder}
 use Rattle.journal_model.specs.declared.entry.What.{What}
-use Rattle.journal_model.specs.declared.entry.What.TheVariants.{Claim, Start, NoStart, Ask, Put, Sent, Mute, Got, End, Verdict as Settled, Lost, Answer as Answered, Note as Noted}
+use Rattle.journal_model.specs.declared.entry.What.TheVariants.{Claim, Start, NoStart, Lead, Ask, Put, Sent, Mute, Got, End, Verdict as Settled, Lost, Answer as Answered, Note as Noted}
 use Rattle.journal_model.specs.declared.entry.Entry.{Entry}
 use Rattle.journal_model.specs.declared.opening.Opening.{Opening}
 use Rattle.journal_model.specs.Journal.{any, each_of, first_of, offers, got_lines, open_jobs, is_open, is_started, is_ended, is_mute, is_live, is_settled, asked_jobs, verdict_of, unsent, is_full, is_tagged, on_wire, addressed}
@@ -191,10 +193,12 @@ offered_names past c = names_of (any (offers c) past)
 abbrev pub is_text : List ℕ → Bool
 is_text file = is_utf8 file && not (has_newline file)
 
--- the request suits the child: its names are those that c is told, and its file is named by text on one line
+-- the request suits the child: its names are those that c is told, and its files are named by text on one line
 abbrev pub suits_child : List Entry → ℕ → HostMessage → Bool
 suits_child past c (AskExtensions names) = bytes_eq names (offered_names past c)
 suits_child past c (Transfer store key file) = is_text file
+suits_child past c (Transferexport store key file) = is_text file
+suits_child past c (Renameexport key onto) = is_text onto
 suits_child past c q = true
 
 -- the request may be asked as this job of c
@@ -205,6 +209,22 @@ is_in_turn past c job q = is_at (turn_of q) job && suits_child past c q
 abbrev pub asks_in_turn : List Entry → ℕ → ℕ → List ℕ → Option HostMessage → Bool
 asks_in_turn past c job line None = false
 asks_in_turn past c job line (Some q) = is_in_turn past c job q && bytes_eq line (on_wire past c job (host_line q))
+
+-- ---- the name before a request
+
+-- the line is the canonical one that says a name, which is text
+abbrev pub says_name : List Entry → ℕ → ℕ → List ℕ → Option HostMessage → Bool
+says_name past c job line (Some (Export name)) = is_text name && bytes_eq line (on_wire past c job (host_line (Export name)))
+says_name past c job line q = false
+
+abbrev pub is_led : Option HostMessage → Bool
+is_led None = false
+is_led (Some q) = has_lead q
+
+-- the entry asks a request that has a lead
+abbrev pub needs_lead : List Entry → What → Bool
+needs_lead past (Ask child job task line) = is_led (host_reading (addressed past child line).1)
+needs_lead past w = false
 
 -- ---- what an event may append first
 
@@ -217,6 +237,11 @@ abbrev pub may_ask : List Entry → ℕ → ℕ → ℕ → Bool
 may_ask past by t c =
     is_greeted past c (length (asked_jobs past c)) && may_work past by t c
     && (is_tagged past c || is_empty (open_jobs past c))
+
+-- a name may be said by this number before the next job of c, which is a later one: for some task a request may be asked then
+abbrev pub may_lead : List Entry → ℕ → ℕ → Bool
+may_lead past by c =
+    is_at Later (length (asked_jobs past c)) && list_any (λ t. may_ask past by t c) (0 ∷ each_of (claimed_for c) past)
 
 -- why a child may be ended where nothing is due: at a full journal instead of taking its line
 abbrev pub may_stop : List Entry → ℕ → Why → Bool
@@ -235,6 +260,9 @@ may_come o past by (Claim task child) =
     && ((child == 0 && by == 0) || (is_prepared past child && is_live past child && not (is_mute past child)))
 may_come o past by (Start child slot offer) = by == 0 && child == count is_start past + 1 && nat_lt child (2 ^ 32)
 may_come o past by (NoStart slot) = by == 0
+may_come o past by (Lead child job line) =
+    is_live past child && not (is_mute past child) && job == length (asked_jobs past child)
+    && says_name past child job line (host_reading (addressed past child line).1) && may_lead past by child
 may_come o past by (Ask child job task line) =
     is_live past child && not (is_mute past child) && job == length (asked_jobs past child)
     && asks_in_turn past child job line (host_reading (addressed past child line).1) && may_ask past by task child
@@ -251,14 +279,30 @@ may_come o past by (Noted task chunk count) =
 
 -- ---- legal
 
--- the entry may stand behind past, after which the entries of owed are due
-abbrev pub MayStand : Opening → List Entry → List Entry → Entry → Type 0
-MayStand o past [] e = IsTrue (may_come o past e.by e.what)
-MayStand o past (d ∷ ds) e = e ≡ d
+-- After a name a request of that job is due, by the same number. Which one it is the name doesn't say: this entry stands for each.
+abbrev pub led_by : ℕ → What → List Entry
+led_by by (Lead child job line) = record { by = by; what = Ask child job 0 [] } ∷ []
+led_by by w = []
 
--- what is due behind it
+-- the entry asks this job of c
+abbrev pub asks_job : ℕ → ℕ → What → Bool
+asks_job c j (Ask child job task line) = child == c && job == j
+asks_job c j w = false
+
+-- the entry is the one that is due; or it is by its number, asks that job, and is a request that has a lead and may come
+abbrev pub IsDue : Opening → List Entry → What → Entry → Entry → Type 0
+IsDue o past (Ask child job task line) d e =
+    IsTrue (e.by == d.by && asks_job child job e.what && needs_lead past e.what && may_come o past e.by e.what)
+IsDue o past w d e = e ≡ d
+
+-- The entry may stand after past, where the entries of owed are due. A request that has a lead stands only where it is due.
+abbrev pub MayStand : Opening → List Entry → List Entry → Entry → Type 0
+MayStand o past [] e = IsTrue (not (needs_lead past e.what) && may_come o past e.by e.what)
+MayStand o past (d ∷ ds) e = IsDue o past d.what d e
+
+-- what is due after it
 abbrev pub still_owed : Opening → List Entry → List Entry → Entry → List Entry
-still_owed o past [] e = due_after o past e
+still_owed o past [] e = due_after o past e ++ led_by e.by e.what
 still_owed o past (d ∷ ds) e = ds
 
 abbrev pub owed_from : Opening → List Entry → List Entry → List Entry → List Entry
@@ -305,6 +349,7 @@ kind_of (Settled child job verdict) = 10
 kind_of (Lost child task) = 11
 kind_of (Answered task answer) = 12
 kind_of (Noted task chunk count) = 13
+kind_of (Lead child job line) = 14
 
 -- ---- the same by places
 
@@ -314,13 +359,21 @@ pub record LegalByPlaces (o : Opening) (journal : List Entry) : Type 0 where
 
 -- ---- the same by groups
 
--- A whole group behind past: where nothing is due its entries may stand one behind the other, nothing is due behind the last, and
--- something behind each before.
+-- A whole group after past: where nothing is due its entries may stand one after the other, nothing is due after the last, and
+-- something after each before.
 pub record IsGroup (o : Opening) (past group : List Entry) : Type 0 where
   pub some : group ≡ [] → ⊥
   pub stands : StandsFrom o past [] group
   pub whole : owed_from o past [] group ≡ []
   pub one : (front rest : List Entry) → group ≡ front ++ rest → owed_from o past [] front ≡ [] → (front ≡ []) ⊎ (rest ≡ [])
+
+-- what follows an entry in its group: what it makes due, and after a name one request that it leads
+abbrev pub Follows : Opening → List Entry → Entry → List Entry → Type 0
+Follows o past e rest = go (led_by e.by e.what)
+  where
+    go : List Entry → Type 0
+    go [] = rest ≡ due_after o past e
+    go (d ∷ ds) = (a : Entry) × (rest ≡ a ∷ []) × IsDue o (past ++ e ∷ []) d.what d a
 
 -- the journal is past followed by these groups
 abbrev pub IsGroups : Opening → List Entry → List (List Entry) → List Entry → Type 0

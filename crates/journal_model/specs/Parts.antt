@@ -5,7 +5,7 @@ use Rattle.journal_model.specs.declared.verdict.Why.{Why}
 use Rattle.journal_model.specs.declared.verdict.Why.TheVariants.{Foul, Error, Version}
 use Rattle.annex_model.specs.Talks.{Item, Host, Remote}
 use Rattle.journal_model.specs.declared.entry.What.{What}
-use Rattle.journal_model.specs.declared.entry.What.TheVariants.{Ask, Put, Got, End}
+use Rattle.journal_model.specs.declared.entry.What.TheVariants.{Lead, Ask, Put, Got, End}
 use Rattle.journal_model.specs.declared.entry.Entry.{Entry}
 use Rattle.journal_model.specs.Journal.{is_open, addressed}
 
@@ -29,9 +29,11 @@ abbrev pub is_for : ℕ → Option ℕ → Bool
 is_for j None = false
 is_for j (Some k) = k == j
 
--- what the entry adds to the part of job j of c, where it stands between past and rest: a request or a reply of the
+-- what the entry adds to the part of job j of c, where it stands between past and rest: a name, a request or a reply of the
 -- host's, or a line that is for the job while it is open, but for the line that ends its child
 abbrev pub item_of : ℕ → ℕ → List Entry → What → List Entry → Option Item
+item_of c j past (Lead child job line) rest =
+    if child == c && job == j then Some record { side = Host; at = length past; text = (addressed past c line).1 } else None
 item_of c j past (Ask child job task line) rest =
     if child == c && job == j then Some record { side = Host; at = length past; text = (addressed past c line).1 } else None
 item_of c j past (Put child job line) rest =

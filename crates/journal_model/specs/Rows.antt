@@ -1,15 +1,15 @@
 -- The worked journals: one check over one child, with changes; two checks over one tagged child; and what a child may say beside
 -- an answer, or in place of one.
-use Rattle.std.specs.Prelude.{ℕ, true, false, List, [], ◌∷◌, ◌++◌, map, codes}
+use Rattle.std.specs.Prelude.{ℕ, true, false, List, [], ◌∷◌, ◌++◌, map, take, codes}
 use Rattle.task_text.specs.declared.task.Task.{Task}
 use Rattle.task_text.specs.declared.task.Work.TheVariants.{Check, Store}
 use Rattle.reg_file.specs.Registers.{nothing_set}
 use Rattle.journal_model.specs.declared.verdict.Why.{Why}
 use Rattle.journal_model.specs.declared.verdict.Why.TheVariants.{Closed, Foul, Error}
-use Rattle.journal_model.specs.declared.verdict.Verdict.TheVariants.{Done, Failed, Absent, Unknown, Unsupported, Ended}
-use Rattle.journal_model.specs.declared.answer.Answer.TheVariants.{Present, Absent as AbsentAnswer, Unknown as UnknownAnswer, NotPrepared, Ended as EndedAnswer}
+use Rattle.journal_model.specs.declared.verdict.Verdict.TheVariants.{Done, Failed, Absent, Unknown, Unsupported, Ended, Unsent}
+use Rattle.journal_model.specs.declared.answer.Answer.TheVariants.{Stored, Present, Absent as AbsentAnswer, Unsent as UnsentAnswer, Unknown as UnknownAnswer, NotPrepared, Ended as EndedAnswer}
 use Rattle.journal_model.specs.declared.entry.What.{What}
-use Rattle.journal_model.specs.declared.entry.What.TheVariants.{Claim, Start, Ask, Sent, Got, End, Verdict as Settled, Answer as Answered}
+use Rattle.journal_model.specs.declared.entry.What.TheVariants.{Claim, Start, Lead, Ask, Sent, Mute, Got, End, Verdict as Settled, Answer as Answered}
 use Rattle.journal_model.specs.declared.entry.Entry.{Entry}
 use Rattle.journal_model.specs.declared.opening.Opening.{Opening}
 
@@ -246,3 +246,38 @@ two_stores key file = opening_of (store_of (codes "WORM--a") (codes "f") ∷ sto
 
 abbrev pub first_claimed : List Entry
 first_claimed = greeting ++ by_main (Claim 1 1) ∷ []
+
+-- ---- a name, and the request that it leads
+
+-- a tagged child that is prepared, and a task claimed for it
+abbrev pub claimed_tagged : List Entry
+claimed_tagged = take 11 tagged_greeting
+
+abbrev pub name_said : Entry
+name_said = by_main (Lead 1 2 (codes "J 2 EXPORT x y"))
+
+abbrev pub export_asked : Entry
+export_asked = by_main (Ask 1 2 1 (codes "J 2 TRANSFEREXPORT STORE WORM--a f"))
+
+abbrev pub exported : List Entry
+exported =
+    claimed_tagged
+    ++ name_said ∷ export_asked
+    ∷ by_main (Sent 1)
+    ∷ by_main (Sent 1)
+    ∷ by_main (Got 1 (codes "J 2 TRANSFER-SUCCESS STORE WORM--a"))
+    ∷ by_main (Settled 1 2 (Done 15))
+    ∷ by_main (Answered 1 Stored)
+    ∷ by_main (End 1 Closed)
+    ∷ []
+
+-- the name was written, and not the request
+abbrev pub half_written : List Entry
+half_written =
+    claimed_tagged
+    ++ name_said ∷ export_asked
+    ∷ by_main (Sent 1)
+    ∷ by_main (Mute 1)
+    ∷ by_main (Settled 1 2 Unsent)
+    ∷ by_main (Answered 1 UnsentAnswer)
+    ∷ []

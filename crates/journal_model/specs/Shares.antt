@@ -6,7 +6,7 @@ use Rattle.journal_model.specs.declared.verdict.Why.TheVariants.{Memory, Closed}
 use Rattle.journal_model.specs.declared.verdict.Verdict.{Verdict}
 use Rattle.journal_model.specs.declared.verdict.Verdict.TheVariants.{Ended, Unsent}
 use Rattle.journal_model.specs.declared.entry.What.{What}
-use Rattle.journal_model.specs.declared.entry.What.TheVariants.{Ask, Put, Sent, Mute, Got, End, Verdict as Settled, Lost}
+use Rattle.journal_model.specs.declared.entry.What.TheVariants.{Lead, Ask, Put, Sent, Mute, Got, End, Verdict as Settled, Lost}
 use Rattle.journal_model.specs.declared.entry.Entry.{Entry}
 
 -- ---- by their numbers
@@ -58,6 +58,7 @@ is_said c _ = false
 
 -- each entry that names c but its start and the claims for it
 abbrev pub is_of_child : ℕ → What → Bool
+is_of_child c (Lead child job line) = child == c
 is_of_child c (Ask child job task line) = child == c
 is_of_child c (Put child job line) = child == c
 is_of_child c (Sent child) = child == c
@@ -96,14 +97,16 @@ by_link c (End child why) = child == c && not (is_closed why)
 by_link c (Settled child job verdict) = child == c
 by_link c _ = false
 
--- what asking over a link does: a request, which may be lost, beside these
+-- what asking over a link does: a request, which may be lost, and a name before it, beside these
 abbrev pub by_asker : ℕ → What → Bool
+by_asker c (Lead child job line) = child == c
 by_asker c (Ask child job task line) = child == c
 by_asker c (Lost child task) = child == c
 by_asker c w = by_link c w
 
--- what asking alone does: a request, which may be lost
+-- what asking alone does: a request, which may be lost, and a name before it
 abbrev pub by_asking : ℕ → What → Bool
+by_asking c (Lead child job line) = child == c
 by_asking c (Ask child job task line) = child == c
 by_asking c (Lost child task) = child == c
 by_asking c w = false

@@ -21,6 +21,12 @@ pub enum What {
     NoStart {
         slot: u32,
     },
+    /// The name of an exported file, which is said before the request of the job that is asked next.
+    Lead {
+        child: u32,
+        job: u64,
+        line: Bytes,
+    },
     /// The request of a job, for a task, or for the greeting where that is 0.
     Ask {
         child: u32,

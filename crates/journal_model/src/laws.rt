@@ -11,13 +11,13 @@ ghost use Rattle.journal_model.specs.declared.entry.Entry.{Entry};
 ghost use Rattle.journal_model.specs.declared.opening.Opening.{Opening};
 ghost use Rattle.journal_model.specs.Journal.{got_lines, verdict_of, is_tagged, is_full};
 ghost use Rattle.journal_model.specs.Parts.{part, part_by_places};
-ghost use Rattle.journal_model.specs.Due.{due_after, due_by_got, replies_at};
-ghost use Rattle.journal_model.specs.Legality.{Legal, IsGroup, LegalByGroups, LegalByPlaces, FirstWrong, owed_after, may_come, is_busy, is_claimed, is_answered, is_prepared, count};
+ghost use Rattle.journal_model.specs.Due.{due_by_got, replies_at};
+ghost use Rattle.journal_model.specs.Legality.{Legal, IsGroup, LegalByGroups, LegalByPlaces, FirstWrong, MayStand, Follows, owed_after, may_come, is_busy, is_claimed, is_answered, is_prepared, count};
 ghost use Rattle.journal_model.specs.Registers.{is_got};
 ghost use Rattle.journal_model.specs.Projection.{JobFits, PartIsAsked};
 ghost use Rattle.journal_model.specs.Wires.{Wired};
 ghost use Rattle.journal_model.specs.Output.{answer_line};
-ghost use Rattle.journal_model.specs.Room.{room_for, room_for_all, room_of, is_put};
+ghost use Rattle.journal_model.specs.Room.{room_for, room_for_all, room_of, is_put, is_ask};
 ghost use Rattle.journal_model.specs.Rows.{one_check, check_present, not_closed, other_key, not_settled, sample_key, by_main, settled, answered, greeting, two_checks, crossed, unknown_job, tag_left_off, tagged_greeting, end_with, not_extended, no_disk, checking, away, settled_by_aside, out_of_disk, one_left, ask_configs, listing, one_listed, set_up, two_stores, first_claimed};
 
 /// The journal of one check is legal, and so it is before its child is closed.
@@ -137,10 +137,10 @@ pub fn room_and_lists()
     ensures unsupported { due_by_got one_check one_listed 1 (codes "UNSUPPORTED-REQUEST") ≡ end_with (Foul 13) (2 ∷ []) }
 {}
 
-/// A whole group keeps a journal legal. It is an entry that may come, and then what that makes due.
+/// A whole group keeps a journal legal. It is an entry that may stand, and then what that makes due, or a name and a request that it leads.
 pub fn group_keeps_legal()
     ensures legal { (o : Opening) (past group : List Entry) → Legal o past → IsGroup o past group → Legal o (past ++ group) }
-    ensures first { (o : Opening) (past : List Entry) (e : Entry) (rest : List Entry) → IsGroup o past (e ∷ rest) ↔ (IsTrue (may_come o past e.by e.what) × (rest ≡ due_after o past e)) }
+    ensures first { (o : Opening) (past : List Entry) (e : Entry) (rest : List Entry) → IsGroup o past (e ∷ rest) ↔ (MayStand o past [] e × Follows o past e rest) }
 {}
 
 /// Three ways to say which journals are legal: along the list, place by place, and group by group.
@@ -156,11 +156,12 @@ pub fn parts_fit()
 {}
 
 /// A legal journal is no longer than its room, to which entries add what each of them takes. A group takes what its first entry
-/// does, none for a Claim, a Sent, a Mute, an End or an Answer, and two for each reply; only behind a line of a child stand replies.
+/// does, none for a Claim, a Sent, a Mute, an End or an Answer, two for each reply and three for a request after a name; replies stand only
+/// after a line of a child.
 pub fn room_suffices()
     ensures long { (o : Opening) (journal : List Entry) → Legal o journal → length journal ≤ room_of o journal }
     ensures grows { (o : Opening) (past more : List Entry) → room_of o (past ++ more) ≡ room_of o past + room_for_all more }
-    ensures group { (o : Opening) (past : List Entry) (e : Entry) (rest : List Entry) → IsGroup o past (e ∷ rest) → room_for_all (e ∷ rest) ≡ room_for e.what + 2 * count is_put rest }
+    ensures group { (o : Opening) (past : List Entry) (e : Entry) (rest : List Entry) → IsGroup o past (e ∷ rest) → room_for_all (e ∷ rest) ≡ room_for e.what + 2 * count is_put rest + 3 * count is_ask rest }
     ensures no_reply { (o : Opening) (past : List Entry) (e : Entry) (rest : List Entry) → IsGroup o past (e ∷ rest) → is_got e.what ≡ false → count is_put rest ≡ 0 }
 {}
 

@@ -6,6 +6,7 @@ mod entry;
 pub mod half_laws;
 mod holder;
 pub mod laws;
+pub mod lead_laws;
 pub mod note_laws;
 mod opening;
 pub mod opening_laws;

@@ -46,6 +46,10 @@ fn is_what(what: &What) -> bool
             let _numbers = (*child, *job, *task);
             is_line(line)
         }
+        What::Lead { child, job, line } => {
+            let _numbers = (*child, *job);
+            is_line(line)
+        }
         What::Put { child, job, line } => {
             let _numbers = (*child, *job);
             is_line(line)

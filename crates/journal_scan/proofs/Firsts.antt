@@ -3,7 +3,7 @@ use Rattle.std.proofs.Common.{sym, subst, ◌≡◌, ℕ, List, [], ◌∷◌, r
 use Rattle.std.specs.Prelude.{find, IfSome, filter, option_and_then, is_some, ◌==◌, ◌&&◌, ◌||◌}
 use Rattle.std.specs.List.{cons_option}
 use Rattle.journal_model.specs.declared.entry.What.{What}
-use Rattle.journal_model.specs.declared.entry.What.TheVariants.{Claim, Start, NoStart, Ask, Put, Sent, Mute, Got, End, Verdict as Settled, Lost, Answer as Answered, Note as Noted}
+use Rattle.journal_model.specs.declared.entry.What.TheVariants.{Claim, Start, NoStart, Lead, Ask, Put, Sent, Mute, Got, End, Verdict as Settled, Lost, Answer as Answered, Note as Noted}
 use Rattle.journal_model.specs.declared.entry.Entry.{Entry}
 use Rattle.journal_model.specs.declared.verdict.Verdict.{Verdict}
 use Rattle.journal_model.specs.Journal.{first_of, each_of, is_settled, settles, verdict_in, verdict_of}
@@ -39,6 +39,7 @@ settles_gives c j (Settled child job verdict) = go (child == c && job == j)
 settles_gives c j (Claim task child) = refl
 settles_gives c j (Start child slot offer) = refl
 settles_gives c j (NoStart slot) = refl
+settles_gives c j (Lead child job line) = refl
 settles_gives c j (Ask child job task line) = refl
 settles_gives c j (Put child job line) = refl
 settles_gives c j (Sent child) = refl

@@ -1,5 +1,5 @@
 pub mod Firsts
 pub mod Parted
 pub mod Written
-pub mod FirstItem
+pub mod NoneBefore
 pub mod Weighing

@@ -6,7 +6,7 @@ use Rattle.std.proofs.lemmas.Bool.Decides.{nat_tests}
 use Rattle.std.proofs.Math.Dec.{leb}
 use Rattle.annex_model.specs.Messages.{remote_reading}
 use Rattle.journal_model.specs.declared.entry.What.{What}
-use Rattle.journal_model.specs.declared.entry.What.TheVariants.{Claim, Start, NoStart, Ask, Put, Sent, Mute, Got, End, Verdict as Settled, Lost, Answer as Answered, Note as Noted}
+use Rattle.journal_model.specs.declared.entry.What.TheVariants.{Claim, Start, NoStart, Lead, Ask, Put, Sent, Mute, Got, End, Verdict as Settled, Lost, Answer as Answered, Note as Noted}
 use Rattle.journal_model.specs.declared.entry.Entry.{Entry}
 use Rattle.journal_model.specs.Journal.{first_of, each_of, writes, is_job, got_from, line_from, got_lines, unsent, sends, is_unsent}
 use Rattle.journal_model.specs.Due.{is_version_one}
@@ -87,6 +87,7 @@ got_gives c (Got child line) = go (child == c)
 got_gives c (Claim task child) = refl
 got_gives c (Start child slot offer) = refl
 got_gives c (NoStart slot) = refl
+got_gives c (Lead child job line) = refl
 got_gives c (Ask child job task line) = refl
 got_gives c (Put child job line) = refl
 got_gives c (Sent child) = refl
@@ -128,6 +129,7 @@ found_line (d ∷ past) c e h = go (got_from c d.what) refl h (found_line past c
     given (Claim task child) t = absurd cc
     given (Start child slot offer) t = absurd cc
     given (NoStart slot) t = absurd cc
+    given (Lead child job line) t = absurd cc
     given (Ask child job task line) t = absurd cc
     given (Put child job line) t = absurd cc
     given (Sent child) t = absurd cc
@@ -157,6 +159,7 @@ said_nothing past c h = sym (said_is past c ∙ ap (λ (o : Option Entry). is_ve
 
 -- the line of an entry that writes one
 abbrev written_in : What → Line
+written_in (Lead child job line) = (None, line)
 written_in (Ask child job task line) = (Some job, line)
 written_in (Put child job line) = (None, line)
 written_in _ = (None, [])
@@ -165,6 +168,11 @@ written_is : (c : ℕ) (w : What) → (l : Line) → writes c w ≡ Some l → w
 written_is c (Ask child job task line) l h = go (child == c) h
   where
     go : (b : Bool) → cond b (Some (Some job, line)) None ≡ Some l → (Some job, line) ≡ l
+    go true e = cc
+    go false e = absurd cc
+written_is c (Lead child job line) l h = go (child == c) h
+  where
+    go : (b : Bool) → cond b (Some (None, line)) None ≡ Some l → (None, line) ≡ l
     go true e = cc
     go false e = absurd cc
 written_is c (Put child job line) l h = go (child == c) h
@@ -187,6 +195,7 @@ written_is c (Noted task chunk count) l h = absurd cc
 hosts_is : (w : What) → (written_in w).1 ≡ hosts_line w
 hosts_is (Ask child job task line) = refl
 hosts_is (Put child job line) = refl
+hosts_is (Lead child job line) = refl
 hosts_is (Claim task child) = refl
 hosts_is (Start child slot offer) = refl
 hosts_is (NoStart slot) = refl

@@ -2,9 +2,10 @@
 use Rattle.std.specs.Prelude.{ℕ, ◌≡◌, ◌<◌, ◌==◌, ◌&&◌, ◌||◌, not, Bool, true, false, if◌then◌else◌, List, [], ◌∷◌, Option, Some, None, option_map, option_and_then, is_some, length, take, slice_get}
 use Rattle.annex_model.specs.Talks.{Item, is_remote}
 use Rattle.journal_model.specs.declared.entry.What.{What}
-use Rattle.journal_model.specs.declared.entry.What.TheVariants.{NoStart, Ask, Put, Got}
+use Rattle.journal_model.specs.declared.entry.What.TheVariants.{NoStart, Lead, Ask, Put, Got}
 use Rattle.journal_model.specs.declared.entry.Entry.{Entry}
-use Rattle.journal_model.specs.Journal.{asks, each_of, writes, is_settled, is_unsent}
+use Rattle.std.specs.List.{prefix_len}
+use Rattle.journal_model.specs.Journal.{asks, each_of, writes, addressed, is_settled, is_unsent}
 
 -- a child couldn't be started
 abbrev pub is_no_start : What → Bool
@@ -25,22 +26,32 @@ abbrev pub got_line : What → List ℕ
 got_line (Got child line) = line
 got_line _ = []
 
--- the entry's line is the host's, in this job
+-- the entry is the job's request, or a reply in it
 abbrev pub is_hosts : ℕ → ℕ → What → Bool
 is_hosts c j (Ask child job task line) = child == c && job == j
 is_hosts c j (Put child job line) = child == c && job == j
 is_hosts c j _ = false
 
 abbrev pub hosts_line : What → List ℕ
+hosts_line (Lead child job line) = line
 hosts_line (Ask child job task line) = line
 hosts_line (Put child job line) = line
 hosts_line _ = []
 
 -- ---- a job's part
 
-abbrev pub first_text : List Item → Option (List ℕ)
-first_text [] = None
-first_text (i ∷ rest) = Some i.text
+-- how many entries stand before its request
+abbrev pub asked_at : List Entry → ℕ → ℕ → ℕ
+asked_at entries c j = prefix_len (λ e. not (is_hosts c j e.what)) entries
+
+-- the text of the entry's line, without its tag, after these
+abbrev pub text_after : List Entry → ℕ → Option Entry → Option (List ℕ)
+text_after before c None = None
+text_after before c (Some e) = Some (addressed before c (hosts_line e.what)).1
+
+-- the text of the job's request
+abbrev pub request_text : List Entry → ℕ → ℕ → Option (List ℕ)
+request_text entries c j = text_after (take (asked_at entries c j) entries) c (slice_get entries (asked_at entries c j))
 
 -- the text of the item, where the remote says it
 abbrev pub remote_text : Option Item → Option (List ℕ)

@@ -103,7 +103,7 @@ pub fn has_open(entries: &[Entry], task: u32) -> bool
 }
 
 /// The task that the entry claims for the child.
-fn claimed_for(what: &What, c: u32) -> Option<u32>
+pub fn claimed_for(what: &What, c: u32) -> Option<u32>
     ensures { result ≡ claimed_for c what.now }
 {
     match what {

@@ -24,6 +24,7 @@ fn line_bytes(what: &What) -> usize
     ensures { result ≡ line_bytes what.now }
 {
     match what {
+        What::Lead { line, .. } => line.view().len(),
         What::Ask { line, .. } => line.view().len(),
         What::Put { line, .. } => line.view().len(),
         What::Got { line, .. } => line.view().len(),
@@ -239,7 +240,7 @@ fn writes(what: &What, c: u32) -> Option<Option<u64>>
 {
     match what {
         What::Ask { child, job, .. } if *child == c => Some(Some(*job)),
-        What::Put { child, .. } if *child == c => Some(None),
+        What::Lead { child, .. } | What::Put { child, .. } if *child == c => Some(None),
         _ => None,
     }
 }

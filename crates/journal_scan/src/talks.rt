@@ -1,14 +1,13 @@
 // What the journal says of a job's part.
-ghost use Rattle.std.specs.Prelude.{◌≡◌, ◌≤◌, true, false, not, length, IfSome, option_copied, slice_get};
-ghost use Rattle.std.specs.List.{prefix_len};
+ghost use Rattle.std.specs.Prelude.{◌≡◌, ◌≤◌, true, false, length, IfSome, option_copied, slice_get};
 ghost use Rattle.journal_model.specs.Journal.{addressed, any, offers};
-ghost use Rattle.journal_model.specs.Parts.{part, item_of, item_at, ends_at, is_place};
-ghost use Rattle.journal_scan.specs.Looks.{is_hosts, hosts_line, first_text, remote_text};
+ghost use Rattle.journal_model.specs.Parts.{item_of, item_at, ends_at, is_place};
+ghost use Rattle.journal_scan.specs.Looks.{is_hosts, hosts_line, asked_at, request_text, remote_text};
 
 use crate::{children, lines};
 use journal_model::{Entry, What, Why};
 
-/// Whether the line of the entry is the host's, in this job.
+/// Whether the entry is the job's request, or a reply in it.
 fn is_hosts(what: &What, c: u32, j: u64) -> bool
     ensures { result ≡ is_hosts c j what.now }
 {
@@ -24,15 +23,16 @@ pub fn hosts_line(what: &What) -> &[u8]
     ensures { result.now ≡ hosts_line what.now }
 {
     match what {
+        What::Lead { line, .. } => line.view(),
         What::Ask { line, .. } => line.view(),
         What::Put { line, .. } => line.view(),
         _ => &[],
     }
 }
 
-/// How many entries stand before the job's first.
+/// How many entries stand before the job's request.
 fn before_job(entries: &[Entry], child: u32, job: u64) -> usize
-    ensures value { result ≡ prefix_len (λ e. not (is_hosts child job e.what)) entries.now }
+    ensures value { result ≡ asked_at entries.now child job }
     ensures bound { result ≤ length entries.now }
 {
     entries
@@ -50,8 +50,8 @@ pub fn entry_at(entries: &[Entry], at: usize) -> Option<&Entry>
 
 /// The same, where it may be known already.
 fn place(entries: &[Entry], known: Option<usize>, child: u32, job: u64) -> usize
-    requires { IfSome known (λ at. at ≡ prefix_len (λ e. not (is_hosts child job e.what)) entries.now) }
-    ensures value { result ≡ prefix_len (λ e. not (is_hosts child job e.what)) entries.now }
+    requires { IfSome known (λ at. at ≡ asked_at entries.now child job) }
+    ensures value { result ≡ asked_at entries.now child job }
     ensures bound { result ≤ length entries.now }
 {
     match known {
@@ -72,17 +72,17 @@ fn text_of<'a>(past: &[Entry], plain: bool, child: u32, line: &'a [u8]) -> &'a [
     }
 }
 
-/// The text that the job's part begins with. The place of its first entry may be known, and that the child was offered no tags.
-pub fn first_text(
+/// The text of the job's request. Its place may be known, and that the child was offered no tags.
+pub fn request_text(
     entries: &[Entry],
     known: Option<usize>,
     plain: bool,
     child: u32,
     job: u64,
 ) -> Option<&[u8]>
-    requires known { IfSome known (λ at. at ≡ prefix_len (λ e. not (is_hosts child job e.what)) entries.now) }
+    requires known { IfSome known (λ at. at ≡ asked_at entries.now child job) }
     requires plain { plain ≡ true → any (offers child) entries.now ≡ false }
-    ensures { option_copied result ≡ first_text (part entries.now child job) }
+    ensures { option_copied result ≡ request_text entries.now child job }
 {
     let at = place(entries, known, child, job);
     match entry_at(entries, at) {

@@ -6,16 +6,15 @@ use Rattle.std.proofs.lemmas.List.{append_cancel_left}
 use Rattle.journal_model.specs.declared.verdict.Why.{Why}
 use Rattle.journal_model.specs.declared.verdict.Why.TheVariants.{Memory}
 use Rattle.journal_model.specs.declared.entry.What.{What}
-use Rattle.journal_model.specs.declared.entry.What.TheVariants.{Ask, Put, Sent, Mute, Got, End, Verdict as Settled, Lost}
+use Rattle.journal_model.specs.declared.entry.What.TheVariants.{Lead, Ask, Put, Sent, Mute, Got, End, Verdict as Settled, Lost}
 use Rattle.journal_model.specs.declared.entry.Entry.{Entry}
 use Rattle.journal_model.specs.declared.opening.Opening.{Opening}
 use Rattle.journal_model.specs.Journal.{any}
-use Rattle.journal_model.specs.Due.{due_by}
+use Rattle.journal_model.specs.Due.{made_by}
 use Rattle.journal_model.proofs.Looks.{either_left, either_right}
 use Rattle.journal_model.proofs.Heard.{heard_on}
-use Rattle.host_core.specs.Steps.{group_of}
 use Rattle.journal_model.specs.Shares.{are_own, Moved, is_by_line, is_memory, is_closed, is_heard, is_said, is_of_child, by_ear, by_mouth, by_link, by_asker}
-use Rattle.link_roles.specs.Doors.{Passed, Appended}
+use Rattle.link_roles.specs.Doors.{Passed, Stands}
 use Rattle.journal_model.specs.Halves.{EarValue, MouthValue, EarWired, MouthWired, LinkWired}
 use Rattle.link_roles.proofs.Roles.{moved_by, moved_on, moved_wider, none_made, all_narrower}
 use Rattle.journal_model.proofs.Ears.{ear_apart, no_gots}
@@ -55,6 +54,7 @@ mouth_links c (Settled child job verdict) h = one (child == c) (not (is_by_line 
 mouth_links c w h = absurd cc
 
 pub link_asks : (c : ℕ) (w : What) → by_link c w ≡ true → by_asker c w ≡ true
+link_asks c (Lead child job line) h = absurd cc
 link_asks c (Ask child job task line) h = absurd cc
 link_asks c (Lost child task) h = absurd cc
 link_asks c (Put child job line) h = h
@@ -120,14 +120,14 @@ link_on {old = old} e m is s = moved_on s (λ none h.
     (link_apart old s.others e m is (any_narrower (is_heard e.child) (is_of_child e.child) (heard_of e.child) s.others none)
     (any_narrower (is_said e.child) (is_of_child e.child) (said_of e.child) s.others none) h))
 
--- an entry of another kind was made
-pub link_makes : {n : ℕ} {a : Bool} {o : Opening} {old new : List Entry} {makes : What → Bool} {w : What} {Found : List Entry → Type 0} (e : EarValue) (m : MouthValue) → m.child ≡ e.child
-    → (s : Appended o n a old new w Found) → list_all makes (w ∷ due_by o s.past w) ≡ true
-    → any (is_heard e.child) (group_of o s.past n w) ≡ false → any (is_said e.child) (group_of o s.past n w) ≡ false
+-- entries of other kinds were made
+pub link_makes : {n : ℕ} {a : Bool} {o : Opening} {old new : List Entry} {makes : What → Bool} {ws : List Entry → List What} {Found : List Entry → Type 0} (e : EarValue) (m : MouthValue) → m.child ≡ e.child
+    → (s : Stands o n a old new ws Found) → list_all makes (ws s.past) ≡ true
+    → any (is_heard e.child) (made_by n (ws s.past)) ≡ false → any (is_said e.child) (made_by n (ws s.past)) ≡ false
     → Moved n a makes (is_of_child e.child) old new (LinkWired old e m) (LinkWired new e m)
-link_makes {n} {o = o} {old = old} {w = w} e m is s own heard said = moved_by s own (λ none h.
+link_makes {n} {old = old} {ws = ws} e m is s own heard said = moved_by s own (λ none h.
     subst (λ (j : List Entry). LinkWired j e m) (sym s.is)
-    (link_apart s.past (group_of o s.past n w) e m is heard said
+    (link_apart s.past (made_by n (ws s.past)) e m is heard said
     (subst (λ (j : List Entry). LinkWired j e m) (sym s.passed.is)
     (link_apart old s.passed.others e m is (any_narrower (is_heard e.child) (is_of_child e.child) (heard_of e.child) s.passed.others none)
     (any_narrower (is_said e.child) (is_of_child e.child) (said_of e.child) s.passed.others none) h))))

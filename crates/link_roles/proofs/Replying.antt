@@ -4,26 +4,27 @@ use Rattle.std.specs.Prelude.{◌&&◌, ◌||◌}
 use Rattle.journal_model.specs.declared.verdict.Why.{Why}
 use Rattle.journal_model.specs.declared.verdict.Why.TheVariants.{Eof, ReadFault, LongLine, Memory}
 use Rattle.annex_model.specs.Lines.{has_newline}
-use Rattle.annex_model.specs.Messages.{HostMessage, host_line}
+use Rattle.annex_model.specs.Messages.{HostMessage}
 use Rattle.journal_model.specs.declared.entry.What.{What}
 use Rattle.journal_model.specs.declared.entry.What.TheVariants.{End}
 use Rattle.journal_model.specs.declared.entry.Entry.{Entry}
 use Rattle.journal_model.specs.declared.opening.Opening.{Opening}
-use Rattle.journal_model.specs.Journal.{starts, ends, is_started, is_ended, is_full, is_mute, has_spoken, open_jobs, is_tagged, why_of, unsent, on_wire, verdict_of}
+use Rattle.journal_model.specs.Journal.{starts, ends, is_started, is_ended, is_full, is_mute, has_spoken, open_jobs, is_tagged, why_of, unsent, verdict_of}
 use Rattle.journal_model.specs.Legality.{Legal, is_empty}
+use Rattle.journal_model.specs.Due.{made_by}
 use Rattle.journal_model.specs.Wires.{may_hear}
-use Rattle.journal_model.proofs.Looks.{same, either_left, either_right, any-append}
+use Rattle.journal_model.proofs.Looks.{both, same, either_left, either_right, any-append}
 use Rattle.journal_model.proofs.Linking.{unended}
 use Rattle.talk_serial.specs.declared.request.Request.{Request}
-use Rattle.talk_serial.specs.Requests.{message_of}
+use Rattle.talk_serial.specs.Requests.{message_of, name_of}
 use Rattle.host_core.specs.declared.event.Event.{Event}
 use Rattle.host_core.specs.declared.event.Event.TheVariants.{Look, Lookup, Listen, Fetch, Got, Ask, Stop, Sent, Mute}
 use Rattle.host_core.specs.declared.event.Reply.{Reply}
 use Rattle.host_core.specs.declared.event.Reply.TheVariants.{Done, Over, Job, Read, Wait, Odd, Line}
-use Rattle.host_core.specs.Steps.{Step, step_of, told, shut_for, only, odd, gone, is_gone, is_asked, is_awaited, is_idle, listening, resting, next_job, next_line, settled_so, group_of, may_request, may_end}
+use Rattle.host_core.specs.Steps.{Step, step_of, told, shut_for, only, odd, gone, is_gone, is_asked, is_awaited, is_idle, listening, resting, next_job, next_line, settled_so, group_of, is_named_well, may_request, may_end}
 use Rattle.link_roles.specs.Replies.{gone_why, is_done, settled_as, listening_of, fetched_of, asked_of}
 use Rattle.link_roles.specs.Events.{IsListening, IsFetched, IsAsked, Says, can_end}
-use Rattle.link_roles.specs.Doors.{Passed, Made, Appended, Ends, Sends, Mutes, Takes, Waits}
+use Rattle.link_roles.specs.Doors.{Passed, Made, Stands, Appended, Ends, Sends, Mutes, Takes, Waits}
 use Rattle.link_roles.proofs.Roles.{any_on, asked_on, or_true}
 
 -- ---- events that append nothing
@@ -172,9 +173,13 @@ fetched_so o past n c shut started reply e = by_gone (is_gone past c) refl
 nothing : {n : ℕ} {a : Bool} {old past new : List Entry} (s : Step) → Passed n a old past → s.group ≡ [] → new ≡ past ++ s.group → Passed n a old new
 nothing {past = past} s p g e = record { others = p.others; is = e ∙ ap (λ (x : List Entry). past ++ x) g ∙ append-nil past ∙ p.is; apart = p.apart; none = p.none }
 
+stands : {o : Opening} {n : ℕ} {a : Bool} {old past new : List Entry} {ws : List Entry → List What} {Found : List Entry → Type 0} (s : Step) → Passed n a old past → (Legal o old → Legal o past) → Found past
+    → s.group ≡ made_by n (ws past) → new ≡ past ++ s.group → Stands o n a old new ws Found
+stands {past = past} s p l f g e = record { past = past; passed = p; legal = l; found = f; is = e ∙ ap (λ (x : List Entry). past ++ x) g }
+
 here : {o : Opening} {n : ℕ} {a : Bool} {old past new : List Entry} {w : What} {Found : List Entry → Type 0} (s : Step) → Passed n a old past → (Legal o old → Legal o past) → Found past → s.group ≡ group_of o past n w
     → new ≡ past ++ s.group → Appended o n a old new w Found
-here {past = past} s p l f g e = record { past = past; passed = p; legal = l; found = f; is = e ∙ ap (λ (x : List Entry). past ++ x) g }
+here s p l f g e = stands s p l f g e
 
 ended_so : {new : List Entry} (past : List Entry) (s : Step) (c : ℕ) → is_ended past c ≡ true → new ≡ past ++ s.group → is_ended new c ≡ true
 ended_so {new} past s c h e = any_on (ends c) past s.group new e h
@@ -264,28 +269,32 @@ module _ {o : Opening} {n : ℕ} {a : Bool} {old new : List Entry} where
       by_end false e = by_full (is_full m.past) refl e
 
   pub asked_so : {reply : Reply} (c t : ℕ) (request : Request) → Made o n a old new (Ask c t request) reply
-      → IsAsked o n a old new c t (message_of request) (asked_of reply)
-  asked_so {reply} c t request m = by_may (may_request m.past n t c (message_of request)) refl
+      → IsAsked o n a old new c t (name_of request) (message_of request) (asked_of reply)
+  asked_so {reply} c t request m = by_may (may_request m.past n t c (message_of request) && is_named_well (name_of request)) refl
     where
       q : HostMessage
       q = message_of request
 
+      name : Option (List ℕ)
+      name = name_of request
+
+      may : Bool
+      may = may_request m.past n t c q && is_named_well name
+
       s : Step
       s = step_of o m.past n (Ask c t request)
 
-      turn : (r : Reply) → reply ≡ r → IsAsked o n a old new c t q (asked_of r) → IsAsked o n a old new c t q (asked_of reply)
-      turn r k h = subst (λ (x : Reply). IsAsked o n a old new c t q (asked_of x)) (sym k) h
+      turn : (r : Reply) → reply ≡ r → IsAsked o n a old new c t name q (asked_of r) → IsAsked o n a old new c t name q (asked_of reply)
+      turn r k h = subst (λ (x : Reply). IsAsked o n a old new c t name q (asked_of x)) (sym k) h
 
-      by_gone : (b : Bool) → is_gone m.past c ≡ b → may_request m.past n t c q ≡ true → IsAsked o n a old new c t q (asked_of reply)
+      by_gone : (b : Bool) → is_gone m.past c ≡ b → may ≡ true → IsAsked o n a old new c t name q (asked_of reply)
       by_gone true g f =
           turn (gone m.past c) (m.reply_is ∙ (rw (f, g) refl)) (here s m.passed m.legal (g, refl) (rw (f, g) refl) m.is)
       by_gone false g f =
-          let j = next_job m.past c in
-          turn (Job j) (m.reply_is ∙ (rw (f, g) refl)) (
-            on_wire m.past c j (host_line q),
-            here s m.passed m.legal (record { may = f; live = either_left (is_ended m.past c) (is_mute m.past c) g; loud = either_right (is_ended m.past c) (is_mute m.past c) g; next = refl }, refl) (rw (f, g) refl) m.is,
-          )
+          let asks : may_request m.past n t c q ≡ true = (both (may_request m.past n t c q) (is_named_well name) f).0 in
+          turn (Job (next_job m.past c)) (m.reply_is ∙ (rw (f, g) refl))
+          (stands s m.passed m.legal record { may = asks; live = either_left (is_ended m.past c) (is_mute m.past c) g; loud = either_right (is_ended m.past c) (is_mute m.past c) g; next = refl } (rw (f, g) refl) m.is)
 
-      by_may : (b : Bool) → may_request m.past n t c q ≡ b → IsAsked o n a old new c t q (asked_of reply)
+      by_may : (b : Bool) → may ≡ b → IsAsked o n a old new c t name q (asked_of reply)
       by_may false f = turn Odd (m.reply_is ∙ (rw f refl)) (nothing s m.passed (rw f refl) m.is)
       by_may true f = by_gone (is_gone m.past c) refl f

@@ -7,12 +7,12 @@ use Rattle.journal_model.specs.declared.entry.Entry.{Entry}
 use Rattle.journal_model.specs.declared.opening.Opening.{Opening}
 use Rattle.journal_model.specs.Journal.{any, starts, is_started, ends, is_ended, asks, asked_jobs}
 use Rattle.journal_model.specs.Legality.{Legal}
-use Rattle.journal_model.specs.Due.{made_by, due_by}
+use Rattle.journal_model.specs.Due.{made_by}
 use Rattle.journal_model.proofs.Looks.{both, same, any-append, each_of-append}
 use Rattle.std.proofs.lemmas.List.Folds.{list_any-append}
-use Rattle.host_core.specs.Steps.{group_of, is_asked}
+use Rattle.host_core.specs.Steps.{is_asked}
 use Rattle.journal_model.specs.Shares.{are_others, are_by, are_own, makes_only, Moved}
-use Rattle.link_roles.specs.Doors.{Passed, Appended, IsSameDoor}
+use Rattle.link_roles.specs.Doors.{Passed, Stands, IsSameDoor}
 
 -- ---- lists of entries
 
@@ -90,21 +90,21 @@ by_own p n xs h = all_weaker (λ (e : Entry). e.by == n) (λ (e : Entry). not (p
 
 -- ---- what a role did
 
--- others went on, and it made an entry of its own kind
-pub moved_by : {n : ℕ} {a : Bool} {makes mine : What → Bool} {o : Opening} {old new : List Entry} {w : What} {Found : List Entry → Type 0} {Before After : Type 0}
-    → (s : Appended o n a old new w Found) → list_all makes (w ∷ due_by o s.past w) ≡ true
+-- others went on, and it made entries of its own kind
+pub moved_by : {n : ℕ} {a : Bool} {makes mine : What → Bool} {o : Opening} {old new : List Entry} {ws : List Entry → List What} {Found : List Entry → Type 0} {Before After : Type 0}
+    → (s : Stands o n a old new ws Found) → list_all makes (ws s.past) ≡ true
     → (any mine s.passed.others ≡ false → Before → After) → Moved n a makes mine old new Before After
-moved_by {n} {a} {makes} {mine} {o} {old} {new} {w} s own kept = record {
+moved_by {n} {a} {makes} {mine} {o} {old} {new} {ws} s own kept = record {
   more = s.passed.others ++ group;
   is = s.is ∙ ap (λ (l : List Entry). l ++ group) s.passed.is ∙ append_assoc old s.passed.others group;
   own = all-append (λ (e : Entry). not (e.by == n) || makes e.what) s.passed.others group (others_make makes n s.passed.others s.passed.apart)
-      (made_only makes n (w ∷ due_by o s.past w) own);
-  lone = λ h. by_append n s.passed.others group (subst (λ (l : List Entry). are_by n l ≡ true) (sym (s.passed.none h)) refl) (made_are_by n (w ∷ due_by o s.past w));
+      (made_only makes n (ws s.past) own);
+  lone = λ h. by_append n s.passed.others group (subst (λ (l : List Entry). are_by n l ≡ true) (sym (s.passed.none h)) refl) (made_are_by n (ws s.past));
   kept = λ h. kept (others_none mine n s.passed.others s.passed.apart (all_left (λ (e : Entry). not (mine e.what) || e.by == n) s.passed.others group h));
 }
   where
     group : List Entry
-    group = group_of o s.past n w
+    group = made_by n (ws s.past)
 
 -- others alone went on
 pub moved_on : {n : ℕ} {a : Bool} {makes mine : What → Bool} {old new : List Entry} {Before After : Type 0}

@@ -10,7 +10,7 @@ use Rattle.journal_model.specs.declared.verdict.Why.{Why}
 use Rattle.journal_model.specs.declared.verdict.Verdict.{Verdict}
 use Rattle.journal_model.specs.declared.verdict.Verdict.TheVariants.{Ended}
 use Rattle.journal_model.specs.declared.entry.What.{What}
-use Rattle.journal_model.specs.declared.entry.What.TheVariants.{Ask, Put, Sent, Got, End, Verdict as Settled}
+use Rattle.journal_model.specs.declared.entry.What.TheVariants.{Lead, Ask, Put, Sent, Got, End, Verdict as Settled}
 use Rattle.journal_model.specs.declared.entry.Entry.{Entry}
 use Rattle.journal_model.specs.declared.opening.Opening.{Opening}
 use Rattle.journal_model.specs.Journal.{any, each_of, writes, sends, mutes, ends, verdict_of, is_ended, is_mute, is_started, is_settled, asked_jobs, open_jobs, unsent}
@@ -112,6 +112,7 @@ untouched c [] h = record { written = refl; sent = refl }
 untouched c (e ∷ more) h = step e.what (either_left (is_of_child c e.what) (any (is_of_child c) more) h) (untouched c more (either_right (is_of_child c e.what) (any (is_of_child c) more) h))
   where
     step : (w : What) → is_of_child c w ≡ false → Untouched c more → Untouched c (record { by = e.by; what = w } ∷ more)
+    step (Lead child job line) h r = record { written = rw h r.written; sent = r.sent }
     step (Ask child job task line) h r = record { written = rw h r.written; sent = r.sent }
     step (Put child job line) h r = record { written = rw h r.written; sent = r.sent }
     step (Sent child) h r = record { written = r.written; sent = rw h r.sent }

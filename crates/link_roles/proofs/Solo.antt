@@ -4,12 +4,13 @@ use Rattle.std.specs.Prelude.{◌==◌, ◌||◌, cond}
 use Rattle.std.specs.List.{list_all, cons_option}
 use Rattle.journal_model.specs.declared.verdict.Why.TheVariants.{Memory, Closed}
 use Rattle.journal_model.specs.declared.verdict.Verdict.{Verdict}
-use Rattle.annex_model.specs.Messages.{HostMessage, host_line}
+use Rattle.annex_model.specs.Messages.{HostMessage}
 use Rattle.journal_model.specs.declared.entry.What.{What}
 use Rattle.journal_model.specs.declared.entry.What.TheVariants.{Ask, End, Lost}
 use Rattle.journal_model.specs.declared.entry.Entry.{Entry}
 use Rattle.journal_model.specs.declared.opening.Opening.{Opening}
-use Rattle.journal_model.specs.Journal.{asks, asked_jobs, ends, is_started, is_ended, is_mute, open_jobs, verdict_of, why_of, on_wire}
+use Rattle.journal_model.specs.Journal.{asks, asked_jobs, ends, is_started, is_ended, is_mute, open_jobs, verdict_of, why_of}
+use Rattle.journal_model.specs.Due.{made_by}
 use Rattle.journal_model.specs.Legality.{Legal, is_empty, may_stop, has_busy_task}
 use Rattle.journal_model.specs.Halves.{EarWired}
 use Rattle.journal_model.proofs.Ears.{ear_stop}
@@ -20,7 +21,7 @@ use Rattle.journal_model.proofs.Looks.{both, same, any-append, each_of-append}
 use Rattle.journal_model.proofs.Linking.{why_alone}
 use Rattle.host_core.specs.declared.event.Event.TheVariants.{Stop}
 use Rattle.host_core.specs.declared.event.Reply.{Reply}
-use Rattle.host_core.specs.Steps.{group_of, step_of, is_gone, next_job}
+use Rattle.host_core.specs.Steps.{asking, group_of, step_of, is_gone, next_job}
 use Rattle.journal_model.specs.Shares.{are_by, makes_only, Moved, by_link, is_of_child}
 use Rattle.link_roles.specs.Doors.{Passed, Made, Ends}
 use Rattle.link_roles.specs.Asks.{HasAsked, HeardOut, IsHeardOut, lost_as}
@@ -51,24 +52,21 @@ kept_alone {n} {mine = mine} alone s p = s.kept (by_own mine n s.more (s.lone al
 pub still_alone : {n : ℕ} {a : Bool} {old new : List Entry} → a ≡ true → Passed n a old new → new ≡ old
 still_alone {old = old} alone s = s.is ∙ ap (λ (l : List Entry). old ++ l) (s.none alone) ∙ append-nil old
 
-pub asked_alone : (o : Opening) (n : ℕ) (a : Bool) (old new : List Entry) (c t : ℕ) (q : HostMessage) (v : Verdict) → a ≡ true → HasAsked o n a (by_link c) old new c t q (λ j. HeardOut c j new) v → AskedAlone o old new n c t q v
-asked_alone o n a old new c t q v alone (inr s) =
+pub asked_alone : (o : Opening) (n : ℕ) (a : Bool) (old new : List Entry) (c t : ℕ) (name : Option (List ℕ)) (q : HostMessage) (v : Verdict) → a ≡ true → HasAsked o n a (by_link c) old new c t name q (λ j. HeardOut c j new) v
+    → AskedAlone o old new n c t name q v
+asked_alone o n a old new c t name q v alone (inr s) =
     let e = still_alone alone s.passed in
     inr (record {
       gone = ap (λ (j : List Entry). is_gone j c) (sym e) ∙ s.found.0;
       made = s.is ∙ ap (λ (j : List Entry). j ++ group_of o j n (Lost c t)) e;
       lost = s.found.1 ∙ ap (λ (j : List Entry). lost_as (why_of j c)) e;
     })
-asked_alone o n a old new c t q v alone (inl s) =
+asked_alone o n a old new c t name q v alone (inl s) =
     let k = s.asked in
     let e = still_alone alone k.passed in
-    let f = k.found.0 in
+    let f = k.found in
     let job : s.job ≡ next_job old c = f.next ∙ ap (λ (j : List Entry). next_job j c) e in
-    let line : s.line ≡ on_wire old c (next_job old c) (host_line q) =
-    k.found.1 ∙ ap (λ (j : List Entry). on_wire j c s.job (host_line q)) e ∙ ap (λ (i : ℕ). on_wire old c i (host_line q)) job in
-    let mid : s.mid ≡ old ++ group_of o old n (Ask c (next_job old c) t (on_wire old c (next_job old c) (host_line q))) =
-    k.is ∙ ap (λ (j : List Entry). j ++ group_of o j n (Ask c s.job t s.line)) e
-    ∙ ap (λ (i : ℕ). old ++ group_of o old n (Ask c i t s.line)) job ∙ ap (λ (l : List ℕ). old ++ group_of o old n (Ask c (next_job old c) t l)) line in
+    let mid : s.mid ≡ old ++ made_by n (asking old t c name q) = k.is ∙ ap (λ (j : List Entry). j ++ made_by n (asking j t c name q)) e in
     inl (record {
       live = ap (λ (j : List Entry). is_ended j c) (sym e) ∙ f.live;
       loud = ap (λ (j : List Entry). is_mute j c) (sym e) ∙ f.loud;

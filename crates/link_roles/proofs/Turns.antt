@@ -10,9 +10,8 @@ use Rattle.journal_model.specs.Due.{due_by, due_by_got, made_by}
 use Rattle.journal_model.specs.Wires.{may_hear, is_heard_in_turn}
 use Rattle.journal_model.proofs.Soft.{soft_stretch, soft_got}
 use Rattle.journal_model.proofs.Heard.{heard_on, heard_got}
-use Rattle.host_core.specs.Steps.{group_of}
 use Rattle.journal_model.specs.Shares.{is_of_child, Moved}
-use Rattle.link_roles.specs.Doors.{Passed, Appended}
+use Rattle.link_roles.specs.Doors.{Passed, Stands, Appended}
 use Rattle.link_roles.proofs.Roles.{moved_by, moved_on}
 use Rattle.journal_model.proofs.Turns.{without, hears_on}
 
@@ -29,11 +28,11 @@ pub turn_on : {n : ℕ} {a : Bool} {old new : List Entry} {makes : What → Bool
 turn_on c s = moved_on s (on c s)
 
 module _ {n : ℕ} {a : Bool} {o : Opening} {old new : List Entry} {makes : What → Bool} (c : ℕ) where
-  -- an entry was made that is no line of the child, and makes none due
-  pub turn_makes : {w : What} {Found : List Entry → Type 0} (s : Appended o n a old new w Found) → list_all makes (w ∷ due_by o s.past w) ≡ true
-      → got_lines (group_of o s.past n w) c ≡ [] → Moved n a makes (is_of_child c) old new (InTurn c old) (InTurn c new)
-  turn_makes {w} s own none' =
-      moved_by s own (λ none h. subst (InTurn c) (sym s.is) (heard_on c s.past (group_of o s.past n w) none' (on c s.passed none h)))
+  -- entries were made that are no lines of the child
+  pub turn_makes : {ws : List Entry → List What} {Found : List Entry → Type 0} (s : Stands o n a old new ws Found) → list_all makes (ws s.past) ≡ true
+      → got_lines (made_by n (ws s.past)) c ≡ [] → Moved n a makes (is_of_child c) old new (InTurn c old) (InTurn c new)
+  turn_makes {ws} s own none' =
+      moved_by s own (λ none h. subst (InTurn c) (sym s.is) (heard_on c s.past (made_by n (ws s.past)) none' (on c s.passed none h)))
 
   -- a line was fed where it might be
   pub turn_takes : (line : List ℕ) (s : Appended o n a old new (Got c line) (λ past. is_ended past c ≡ false)) → list_all makes (Got c line ∷ due_by o s.past (Got c line)) ≡ true

@@ -26,7 +26,7 @@ use Rattle.link_roles.specs.declared.ear.Heard.{Heard}
 use Rattle.link_roles.specs.declared.ear.Heard.TheVariants.{Fed as HeardLine, Read as HeardMore, Over as HeardOver}
 use Rattle.link_roles.specs.declared.events.Asked.{Asked}
 use Rattle.link_roles.specs.declared.events.Asked.TheVariants.{Job, Lost, Odd}
-use Rattle.link_roles.specs.Doors.{Passed, Appended, Ends}
+use Rattle.link_roles.specs.Doors.{Passed, Stands, Ends}
 use Rattle.link_roles.specs.Events.{IsAsked}
 use Rattle.link_roles.specs.Asks.{IsWritten}
 use Rattle.link_roles.specs.Hearings.{IsHearing}
@@ -34,7 +34,7 @@ use Rattle.link_roles.specs.Writings.{settles_by_line, settles_written, written_
 use Rattle.link_roles.proofs.Roles.{moved_by, moved_on, moved_from, moved_still, moved_then, moved_wider, none_made, all_narrower, any_on}
 use Rattle.link_roles.proofs.Ears.{ending_by_ear, got_by_ear}
 use Rattle.link_roles.proofs.Linked.{any_narrower, ear_links, heard_of, link_apart, link_mouth, link_on, mouth_links, said_of}
-use Rattle.link_roles.proofs.Asking.{link_asked}
+use Rattle.link_roles.proofs.Asking.{link_asked, asker_asks, none_made_of}
 use Rattle.link_roles.proofs.Settling.{all_kinds, written_more, unsent_same, Untouched}
 
 abbrev pub Writes : ℕ → List Entry → Type 0
@@ -114,12 +114,12 @@ moved_as f g s = record { more = s.more; is = s.is; own = s.own; lone = s.lone; 
 pub writes_on : {n : ℕ} {a : Bool} {old new : List Entry} {makes : What → Bool} (c : ℕ) → Passed n a old new → Moved n a makes (is_of_child c) old new (Writes c old) (Writes c new)
 writes_on {old = old} c s = moved_on s (λ none h. subst (Writes c) (sym s.is) (written_apart old s.others c none h))
 
--- an entry was made that settles none by a line, nor makes such a verdict due
-pub writes_made : {n : ℕ} {a : Bool} {o : Opening} {old new : List Entry} {makes : What → Bool} {w : What} {Found : List Entry → Type 0} (c : ℕ) (s : Appended o n a old new w Found)
-    → list_all makes (w ∷ due_by o s.past w) ≡ true → any (settles_by_line c) (group_of o s.past n w) ≡ false → Moved n a makes (is_of_child c) old new (Writes c old) (Writes c new)
-writes_made {n} {o = o} {old = old} {w = w} c s own quiet = moved_by s own (λ none h.
+-- entries were made that settle none by a line
+pub writes_made : {n : ℕ} {a : Bool} {o : Opening} {old new : List Entry} {makes : What → Bool} {ws : List Entry → List What} {Found : List Entry → Type 0} (c : ℕ) (s : Stands o n a old new ws Found)
+    → list_all makes (ws s.past) ≡ true → any (settles_by_line c) (made_by n (ws s.past)) ≡ false → Moved n a makes (is_of_child c) old new (Writes c old) (Writes c new)
+writes_made {n} {old = old} {ws = ws} c s own quiet = moved_by s own (λ none h.
     subst (Writes c) (sym s.is)
-    (written_on s.past (group_of o s.past n w) c quiet (subst (Writes c) (sym s.passed.is) (written_apart old s.passed.others c none h))))
+    (written_on s.past (made_by n (ws s.past)) c quiet (subst (Writes c) (sym s.passed.is) (written_apart old s.passed.others c none h))))
 
 ended_quiet : (c k by : ℕ) (why : Why) (jobs : List ℕ) → any (settles_by_line c) (made_by by (map (λ i. Settled k i (Ended why)) jobs)) ≡ false
 ended_quiet c k by why [] = refl
@@ -283,12 +283,12 @@ pub lone_waited : {n k : ℕ} {a b : Bool} {x y z : List Entry} {P Q : Type 0} (
 lone_waited c d e m en ea ec s w t = moved_then by_link is_of_child en ea ec s (moved_from (λ h. (h, w)) t)
 
 -- a request was asked, or lost
-pub lone_asked : (o : Opening) {n : ℕ} {a : Bool} {old mid : List Entry} (t : ℕ) (q : HostMessage) (e : EarValue) (m : MouthValue) → m.child ≡ e.child → (x : Asked) → IsAsked o n a old mid e.child t q x
+pub lone_asked : (o : Opening) {n : ℕ} {a : Bool} {old mid : List Entry} (t : ℕ) (name : Option (List ℕ)) (q : HostMessage) (e : EarValue) (m : MouthValue) → m.child ≡ e.child → (x : Asked) → IsAsked o n a old mid e.child t name q x
     → Moved n a (by_asker e.child) (is_of_child e.child) old mid (LoneWired old e m) (LoneWired mid e m)
-lone_asked o {n} {a} {old} {mid} t q e m is x h = lone_both e e m m refl (link_asked o t q e m is x h) (go x h)
+lone_asked o {n} {a} {old} {mid} t name q e m is x h = lone_both e e m m refl (link_asked o t name q e m is x h) (go x h)
   where
-    go : (x : Asked) → IsAsked o n a old mid e.child t q x → Moved n a (by_asker e.child) (is_of_child e.child) old mid (Writes e.child old) (Writes e.child mid)
-    go (Job j) h = writes_made e.child h.1 (rw (same e.child) refl) refl
+    go : (x : Asked) → IsAsked o n a old mid e.child t name q x → Moved n a (by_asker e.child) (is_of_child e.child) old mid (Writes e.child old) (Writes e.child mid)
+    go (Job j) h = writes_made e.child h (asker_asks h.past n t e.child q name) (none_made_of (settles_by_line e.child) (λ child job line. refl) (λ child job task line. refl) h.past n t e.child q name)
     go (Lost why) h = writes_made e.child h (rw (same e.child) refl) refl
     go Odd h = writes_on e.child h
 

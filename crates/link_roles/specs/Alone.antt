@@ -1,14 +1,15 @@
 -- What a link does where nobody else steps the core: its entries stand directly after what was seen.
-use Rattle.std.specs.Prelude.{ℕ, ◌≡◌, ◌⊎◌, if◌then◌else◌, IsTrue, true, false, List, [], ◌∷◌, ◌++◌, Some}
+use Rattle.std.specs.Prelude.{ℕ, ◌≡◌, ◌⊎◌, if◌then◌else◌, IsTrue, true, false, List, [], ◌∷◌, ◌++◌, Option, Some}
 use Rattle.std.specs.List.{list_all}
 use Rattle.journal_model.specs.declared.verdict.Why.TheVariants.{Closed}
 use Rattle.journal_model.specs.declared.verdict.Verdict.{Verdict}
-use Rattle.annex_model.specs.Messages.{HostMessage, host_line}
-use Rattle.journal_model.specs.declared.entry.What.TheVariants.{Ask, End, Lost}
+use Rattle.annex_model.specs.Messages.{HostMessage}
+use Rattle.journal_model.specs.declared.entry.What.TheVariants.{End, Lost}
 use Rattle.journal_model.specs.declared.entry.Entry.{Entry}
 use Rattle.journal_model.specs.declared.opening.Opening.{Opening}
-use Rattle.journal_model.specs.Journal.{asked_jobs, on_wire, verdict_of, why_of, is_ended, is_mute}
-use Rattle.host_core.specs.Steps.{group_of, is_gone, next_job}
+use Rattle.journal_model.specs.Journal.{asked_jobs, verdict_of, why_of, is_ended, is_mute}
+use Rattle.journal_model.specs.Due.{made_by}
+use Rattle.host_core.specs.Steps.{asking, group_of, is_gone, next_job}
 use Rattle.journal_model.specs.Shares.{are_by, by_link, is_by_line}
 use Rattle.journal_model.specs.Halves.{EarValue, MouthValue, LinkWired, IsSameEar, IsSameMouth}
 use Rattle.link_roles.specs.Asks.{lost_as, IsHeardOut}
@@ -25,12 +26,12 @@ pub record GoesOn (number c : ℕ) (old new : List Entry) : Type 0 where
 abbrev pub Closes : ℕ → ℕ → List Entry → List Entry → Type 0
 Closes by c old new = new ≡ (if is_ended old c then old else old ++ record { by = by; what = End c Closed } ∷ [])
 
--- It was the child's next job, and was settled so without another request. A verdict that a line gave came of what was written,
--- and is the last that was heard.
-pub record IsSettled (o : Opening) (old new : List Entry) (by c t : ℕ) (q : HostMessage) (verdict : Verdict) : Type 0 where
+-- It was the child's next job, with the name before it where one is said, and was settled so without another request. A verdict that
+-- a line gave came of what was written, and is the last that was heard.
+pub record IsSettled (o : Opening) (old new : List Entry) (by c t : ℕ) (name : Option (List ℕ)) (q : HostMessage) (verdict : Verdict) : Type 0 where
   pub live : is_ended old c ≡ false
   pub loud : is_mute old c ≡ false
-  pub goes : GoesOn by c (old ++ group_of o old by (Ask c (next_job old c) t (on_wire old c (next_job old c) (host_line q)))) new
+  pub goes : GoesOn by c (old ++ made_by by (asking old t c name q)) new
   pub settled : verdict_of new c (next_job old c) ≡ Some verdict
   pub heard : is_by_line verdict ≡ true → IsHeardOut c (next_job old c) verdict new
 
@@ -40,8 +41,8 @@ pub record IsLost (o : Opening) (old new : List Entry) (by c t : ℕ) (verdict :
   pub made : new ≡ old ++ group_of o old by (Lost c t)
   pub lost : verdict ≡ lost_as (why_of old c)
 
-abbrev pub AskedAlone : Opening → List Entry → List Entry → ℕ → ℕ → ℕ → HostMessage → Verdict → Type 0
-AskedAlone o old new by c t q verdict = IsSettled o old new by c t q verdict ⊎ IsLost o old new by c t verdict
+abbrev pub AskedAlone : Opening → List Entry → List Entry → ℕ → ℕ → ℕ → Option (List ℕ) → HostMessage → Verdict → Type 0
+AskedAlone o old new by c t name q verdict = IsSettled o old new by c t name q verdict ⊎ IsLost o old new by c t verdict
 
 -- both halves stay those of the child and of its start, and stay wired, and requests stay written before they are answered
 pub record KeepsLink (old new : List Entry) (ear ear' : EarValue) (mouth mouth' : MouthValue) : Type 0 where

@@ -3,17 +3,17 @@ use Rattle.std.specs.Prelude.{ℕ, ◌≡◌, ◌⊎◌, ◌<◌, ◌^◌, IsTru
 use Rattle.journal_model.specs.declared.verdict.Why.{Why}
 use Rattle.journal_model.specs.declared.verdict.Verdict.{Verdict}
 use Rattle.journal_model.specs.declared.verdict.Verdict.TheVariants.{Ended, Unsent}
-use Rattle.annex_model.specs.Messages.{HostMessage, host_line}
+use Rattle.annex_model.specs.Messages.{HostMessage}
 use Rattle.journal_model.specs.declared.entry.What.{What}
-use Rattle.journal_model.specs.declared.entry.What.TheVariants.{Ask, Lost, Verdict as SettledEntry}
+use Rattle.journal_model.specs.declared.entry.What.TheVariants.{Lost, Verdict as SettledEntry}
 use Rattle.journal_model.specs.declared.entry.Entry.{Entry}
 use Rattle.journal_model.specs.declared.opening.Opening.{Opening}
-use Rattle.journal_model.specs.Journal.{any, on_wire, verdict_of, why_of, is_ended, is_mute, has_spoken, unsent}
-use Rattle.host_core.specs.Steps.{is_gone}
+use Rattle.journal_model.specs.Journal.{any, verdict_of, why_of, is_ended, is_mute, has_spoken, unsent}
+use Rattle.host_core.specs.Steps.{is_gone, asking}
 use Rattle.link_roles.specs.declared.lone.Settling.{Settling}
 use Rattle.link_roles.specs.declared.lone.Settling.TheVariants.{Settled, Again, Over}
 use Rattle.journal_model.specs.Shares.{Moved, is_of_child, is_by_line, by_link}
-use Rattle.link_roles.specs.Doors.{Appended}
+use Rattle.link_roles.specs.Doors.{Stands, Appended}
 use Rattle.link_roles.specs.Events.{IsJob}
 
 -- what the child's end, or else its mute, stands for
@@ -28,14 +28,13 @@ never w = false
 abbrev pub Grows : ℕ → Bool → (What → Bool) → List Entry → List Entry → Type 0
 Grows number alone makes old new = Moved number alone makes never old new (Unit {0}) (Unit {0})
 
--- It was the child's next job, and was settled so. In between the role made nothing but what `makes` picks. Where others left the
--- child alone, this is known of the job.
-pub record IsSettledSo (o : Opening) (number : ℕ) (alone : Bool) (makes : What → Bool) (old new : List Entry) (c t : ℕ) (q : HostMessage) (Known : ℕ → Type 0) (verdict : Verdict) : Type 0 where
+-- It was the child's next job, with the name before it where one is said, and was settled so. In between the role made nothing but
+-- what `makes` picks. Where others left the child alone, this is known of the job.
+pub record IsSettledSo (o : Opening) (number : ℕ) (alone : Bool) (makes : What → Bool) (old new : List Entry) (c t : ℕ) (name : Option (List ℕ)) (q : HostMessage) (Known : ℕ → Type 0) (verdict : Verdict) : Type 0 where
   pub job : ℕ
   pub small : job < 2 ^ 64
-  pub line : List ℕ
   pub mid : List Entry
-  pub asked : Appended o number alone old mid (Ask c job t line) (λ past. IsJob number c t q job past × (line ≡ on_wire past c job (host_line q)))
+  pub asked : Stands o number alone old mid (λ past. asking past t c name q) (IsJob number c t q job)
   pub on : Moved number alone makes (is_of_child c) mid new (Unit {0}) (Known job)
   pub settled : verdict_of new c job ≡ Some verdict
 
@@ -44,9 +43,9 @@ abbrev pub IsLostSo : Opening → ℕ → Bool → List Entry → List Entry →
 IsLostSo o number alone old new c t verdict =
     Appended o number alone old new (Lost c t) (λ past. IsTrue (is_gone past c) × (verdict ≡ lost_as (why_of past c)))
 
-abbrev pub HasAsked : Opening → ℕ → Bool → (What → Bool) → List Entry → List Entry → ℕ → ℕ → HostMessage → (ℕ → Type 0) → Verdict → Type 0
-HasAsked o number alone makes old new c t q Known verdict =
-    IsSettledSo o number alone makes old new c t q Known verdict ⊎ IsLostSo o number alone old new c t verdict
+abbrev pub HasAsked : Opening → ℕ → Bool → (What → Bool) → List Entry → List Entry → ℕ → ℕ → Option (List ℕ) → HostMessage → (ℕ → Type 0) → Verdict → Type 0
+HasAsked o number alone makes old new c t name q Known verdict =
+    IsSettledSo o number alone makes old new c t name q Known verdict ⊎ IsLostSo o number alone old new c t verdict
 
 -- The child's last entry is this verdict of this job. All lines to it were written, or writing had failed.
 pub record IsHeardOut (c job : ℕ) (verdict : Verdict) (journal : List Entry) : Type 0 where

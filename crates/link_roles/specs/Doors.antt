@@ -1,5 +1,5 @@
 -- What a step through a door does to the journal that the door has seen.
-use Rattle.std.specs.Prelude.{ℕ, ◌≡◌, ◌⊎◌, Bool, true, false, List, [], ◌++◌, Result, MatchResult}
+use Rattle.std.specs.Prelude.{ℕ, ◌≡◌, ◌⊎◌, Bool, true, false, List, [], ◌∷◌, ◌++◌, Result, MatchResult}
 use Rattle.ann_key.specs.declared.bytes.NoMemory.{NoMemory}
 use Rattle.journal_model.specs.declared.verdict.Why.{Why}
 use Rattle.journal_model.specs.declared.verdict.Why.TheVariants.{Full}
@@ -8,11 +8,12 @@ use Rattle.journal_model.specs.declared.entry.What.TheVariants.{Sent, Mute, Got,
 use Rattle.journal_model.specs.declared.entry.Entry.{Entry}
 use Rattle.journal_model.specs.declared.opening.Opening.{Opening}
 use Rattle.journal_model.specs.Legality.{Legal}
+use Rattle.journal_model.specs.Due.{due_by, made_by}
 use Rattle.journal_model.specs.Journal.{is_ended, is_mute, unsent}
 use Rattle.host_core.specs.declared.event.Event.{Event}
 use Rattle.host_core.specs.declared.event.Reply.{Reply}
 use Rattle.host_core.specs.declared.event.Reply.TheVariants.{Wait}
-use Rattle.host_core.specs.Steps.{step_of, group_of, told}
+use Rattle.host_core.specs.Steps.{step_of, told}
 use Rattle.journal_model.specs.Shares.{are_others}
 
 -- others have made entries, and where nobody else steps the core they have made none
@@ -36,13 +37,17 @@ pub record Made (o : Opening) (number : ℕ) (alone : Bool) (old new : List Entr
 abbrev pub Stepped : Opening → ℕ → Bool → List Entry → List Entry → Event → Result Reply NoMemory → Type 0
 Stepped o number alone old new event result = MatchResult result (Made o number alone old new event) (λ _. Passed number alone old new)
 
--- after entries of others stands the entry, with what it makes due, and at its place this was so
-pub record Appended (o : Opening) (number : ℕ) (alone : Bool) (old new : List Entry) (w : What) (Found : List Entry → Type 0) : Type 0 where
+-- after entries of others stand these, which may depend on what stands before, and at their place this was so
+pub record Stands (o : Opening) (number : ℕ) (alone : Bool) (old new : List Entry) (ws : List Entry → List What) (Found : List Entry → Type 0) : Type 0 where
   pub past : List Entry
   pub passed : Passed number alone old past
   pub legal : Legal o old → Legal o past
   pub found : Found past
-  pub is : new ≡ past ++ group_of o past number w
+  pub is : new ≡ past ++ made_by number (ws past)
+
+-- the entry stands there, with what it makes due
+abbrev pub Appended : Opening → ℕ → Bool → List Entry → List Entry → What → (List Entry → Type 0) → Type 0
+Appended o number alone old new w Found = Stands o number alone old new (λ past. w ∷ due_by o past w) Found
 
 -- some event is answered by Wait where this is the journal, by a core that is shut or not: there is something to wait for
 pub record Waits (o : Opening) (number : ℕ) (journal : List Entry) : Type 0 where

@@ -2,24 +2,24 @@
 use Rattle.std.specs.Prelude.{ℕ, ◌≡◌, IsTrue, Bool, true, false, List, [], ◌∷◌, ◌++◌, Option}
 use Rattle.journal_model.specs.declared.verdict.Why.{Why}
 use Rattle.journal_model.specs.declared.verdict.Why.TheVariants.{Eof, ReadFault, LongLine, Memory}
-use Rattle.annex_model.specs.Messages.{HostMessage, host_line}
-use Rattle.journal_model.specs.declared.entry.What.TheVariants.{Ask as AskEntry, Lost as LostEntry}
+use Rattle.annex_model.specs.Messages.{HostMessage}
+use Rattle.journal_model.specs.declared.entry.What.TheVariants.{Lost as LostEntry}
 use Rattle.journal_model.specs.declared.entry.Entry.{Entry}
 use Rattle.journal_model.specs.declared.opening.Opening.{Opening}
-use Rattle.journal_model.specs.Journal.{is_ended, is_mute, unsent, on_wire, why_of}
+use Rattle.journal_model.specs.Journal.{is_ended, is_mute, unsent, why_of}
 use Rattle.journal_model.specs.Wires.{may_hear}
 use Rattle.host_core.specs.declared.event.Event.{Event}
 use Rattle.host_core.specs.declared.event.Event.TheVariants.{Listen, Fetch}
 use Rattle.host_core.specs.declared.event.Reply.{Reply}
 use Rattle.host_core.specs.declared.event.Reply.TheVariants.{Wait, Over as OverReply}
-use Rattle.host_core.specs.Steps.{step_of, told, is_gone, next_job, may_request}
+use Rattle.host_core.specs.Steps.{step_of, told, is_gone, next_job, may_request, asking}
 use Rattle.link_roles.specs.declared.events.Listening.{Listening}
 use Rattle.link_roles.specs.declared.events.Listening.TheVariants.{Read, Rest, Over}
 use Rattle.link_roles.specs.declared.events.Fetched.{Fetched}
 use Rattle.link_roles.specs.declared.events.Fetched.TheVariants.{Line, Rest as NoLine, Over as NoMore}
 use Rattle.link_roles.specs.declared.events.Asked.{Asked}
 use Rattle.link_roles.specs.declared.events.Asked.TheVariants.{Job, Lost, Odd}
-use Rattle.link_roles.specs.Doors.{Passed, Appended}
+use Rattle.link_roles.specs.Doors.{Passed, Stands, Appended}
 
 -- what a link finds by itself: nothing of these asks for more than a child that was started
 abbrev pub can_end : Why → Bool
@@ -64,10 +64,10 @@ pub record IsJob (number : ℕ) (c t : ℕ) (q : HostMessage) (job : ℕ) (past 
   pub loud : is_mute past c ≡ false
   pub next : job ≡ next_job past c
 
--- the request stands in the journal as the child's next job, or as lost where the child is gone; or it might not be asked
-abbrev pub IsAsked : Opening → ℕ → Bool → List Entry → List Entry → ℕ → ℕ → HostMessage → Asked → Type 0
-IsAsked o number alone old new c t q (Job job) =
-    (line : List ℕ) × Appended o number alone old new (AskEntry c job t line) (λ past. IsJob number c t q job past × (line ≡ on_wire past c job (host_line q)))
-IsAsked o number alone old new c t q (Lost why) =
+-- The request stands in the journal as the child's next job, with the name before it where one is said, or as lost where the child
+-- is gone; or it might not be asked.
+abbrev pub IsAsked : Opening → ℕ → Bool → List Entry → List Entry → ℕ → ℕ → Option (List ℕ) → HostMessage → Asked → Type 0
+IsAsked o number alone old new c t name q (Job job) = Stands o number alone old new (λ past. asking past t c name q) (IsJob number c t q job)
+IsAsked o number alone old new c t name q (Lost why) =
     Appended o number alone old new (LostEntry c t) (λ past. IsTrue (is_gone past c) × (why ≡ why_of past c))
-IsAsked o number alone old new c t q Odd = Passed number alone old new
+IsAsked o number alone old new c t name q Odd = Passed number alone old new

@@ -6,7 +6,7 @@ ghost use Rattle.journal_model.specs.Legality.{Legal, may_stop};
 ghost use Rattle.journal_model.specs.declared.verdict.Why.TheVariants.{Closed};
 ghost use Rattle.link_roles.specs.Alone.{Closes};
 ghost use Rattle.host_core.specs.Steps.{is_asked, takes_no_memory};
-ghost use Rattle.talk_serial.specs.Requests.{message_of};
+ghost use Rattle.talk_serial.specs.Requests.{message_of, name_of};
 ghost use Rattle.link_roles.specs.Doors.{Stepped, Made, Passed, Ends, Sends, Mutes, Takes, IsSameDoor};
 ghost use Rattle.link_roles.specs.Replies.{gone_why, is_done, settled_as, fetched_of, asked_of, listening_of};
 ghost use Rattle.link_roles.specs.Events.{IsListening, IsFetched, IsAsked, can_end};
@@ -224,14 +224,14 @@ pub fn mute<D: Door>(door: &mut D, child: u32)
     let _done = make(door, Event::Mute { child });
 }
 
-/// Asks a request, if it may be asked.
+/// Asks a request, with its name before it where it has one, if it may be asked.
 pub fn ask<D: Door>(
     door: &mut D,
     child: u32,
     task: u32,
     request: Request,
 ) -> Result<Asked, NoMemory>
-    ensures asked { IfOk result (IsAsked (D.opening door.old) (D.number door.old) (D.alone door.old) (D.seen door.old) (D.seen door.new) child task (message_of request)) }
+    ensures asked { IfOk result (IsAsked (D.opening door.old) (D.number door.old) (D.alone door.old) (D.seen door.old) (D.seen door.new) child task (name_of request) (message_of request)) }
     ensures err { OnErr result (Passed (D.number door.old) (D.alone door.old) (D.seen door.old) (D.seen door.new)) }
     ensures door { IsSameDoor D.opening D.number D.seen D.alone D.loans D.home door.old door.new }
 {

@@ -4,7 +4,7 @@ ghost use Rattle.journal_model.specs.Journal.{is_started, is_ended, why_of, verd
 ghost use Rattle.journal_model.specs.Legality.{Legal, said_version};
 ghost use Rattle.journal_model.specs.Projection.{IsNamed};
 ghost use Rattle.host_core.specs.Steps.{is_asked, may_request};
-ghost use Rattle.talk_serial.specs.Requests.{message_of};
+ghost use Rattle.talk_serial.specs.Requests.{message_of, name_of};
 ghost use Rattle.link_roles.specs.Doors.{IsSameDoor, Passed, Ends};
 ghost use Rattle.journal_model.specs.declared.verdict.Why.TheVariants.{Memory};
 ghost use Rattle.journal_model.specs.Shares.{Moved, by_link, by_asker, is_of_child};
@@ -292,7 +292,7 @@ impl<I: Sink, O: Source> Lone<I, O> {
         self.settle_last(door, job)
     }
 
-    /// Asks one request, writes its line, and goes on until it is settled. Nothing is heard while a line is to be written, nor
+    /// Asks one request, writes its lines, and goes on until it is settled. Nothing is heard while a line is to be written, nor
     /// after the verdict. `NoMemory` comes only before it is asked; later running out of memory ends the child.
     pub fn ask<D: Door>(
         &mut self,
@@ -303,7 +303,7 @@ impl<I: Sink, O: Source> Lone<I, O> {
         requires started { is_started (D.seen door.old) self.old.ear.child ≡ true }
         requires legal { Legal (D.opening door.old) (D.seen door.old) }
         requires may { D.alone door.old ≡ true → may_request (D.seen door.old) (D.number door.old) task self.old.ear.child (message_of request.now) ≡ true }
-        ensures asked { IfOk result (HasAsked (D.opening door.old) (D.number door.old) (D.alone door.old) (by_link self.old.ear.child) (D.seen door.old) (D.seen door.new) self.old.ear.child task (message_of request.now) (λ job. HeardOut self.old.ear.child job (D.seen door.new))) }
+        ensures asked { IfOk result (HasAsked (D.opening door.old) (D.number door.old) (D.alone door.old) (by_link self.old.ear.child) (D.seen door.old) (D.seen door.new) self.old.ear.child task (name_of request.now) (message_of request.now) (λ job. HeardOut self.old.ear.child job (D.seen door.new))) }
         ensures named { IfOk result (IsNamed (message_of request.now)) }
         ensures none { OnErr result (Passed (D.number door.old) (D.alone door.old) (D.seen door.old) (D.seen door.new)) }
         ensures moved { Moved (D.number door.old) (D.alone door.old) (by_asker self.old.ear.child) (is_of_child self.old.ear.child) (D.seen door.old) (D.seen door.new) (LoneWired (D.seen door.old) self.old.ear self.old.mouth) (LoneWired (D.seen door.new) self.new.ear self.new.mouth) }

@@ -7,7 +7,7 @@ use Rattle.journal_model.specs.declared.verdict.Why.{Why}
 use Rattle.journal_model.specs.declared.verdict.Why.TheVariants.{Closed}
 use Rattle.journal_model.specs.declared.verdict.Verdict.{Verdict}
 use Rattle.journal_model.specs.declared.entry.What.{What}
-use Rattle.journal_model.specs.declared.entry.What.TheVariants.{Start, NoStart, Ask, Put, Sent, Mute, Got, End, Verdict as Settled, Lost}
+use Rattle.journal_model.specs.declared.entry.What.TheVariants.{Start, NoStart, Lead, Ask, Put, Sent, Mute, Got, End, Verdict as Settled, Lost}
 use Rattle.journal_model.specs.declared.entry.Entry.{Entry}
 use Rattle.journal_model.specs.declared.opening.Opening.{Opening}
 use Rattle.journal_model.specs.Journal.{any, ends, mutes, offers, is_ended, is_mute, is_tagged, verdict_of, why_of}
@@ -34,6 +34,7 @@ no_start_in c w h = refl
 
 -- it is of no other child
 pub apart_in : (c d : ℕ) → (c == d) ≡ false → (w : What) → in_stint c w ≡ true → is_of_child d w ≡ false
+apart_in c d other (Lead child job line) h = ap (λ (k : ℕ). k == d) (same_number child c h) ∙ other
 apart_in c d other (Ask child job task line) h = ap (λ (k : ℕ). k == d) (same_number child c h) ∙ other
 apart_in c d other (Put child job line) h = ap (λ (k : ℕ). k == d) (same_number child c h) ∙ other
 apart_in c d other (Sent child) h = ap (λ (k : ℕ). k == d) (same_number child c h) ∙ other

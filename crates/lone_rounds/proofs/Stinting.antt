@@ -4,7 +4,7 @@ use Rattle.std.specs.Prelude.{◌&&◌, is_some}
 use Rattle.std.specs.List.{list_all, list_any}
 use Rattle.journal_model.specs.declared.verdict.Why.TheVariants.{Closed}
 use Rattle.journal_model.specs.declared.entry.What.{What}
-use Rattle.journal_model.specs.declared.entry.What.TheVariants.{Claim, NoStart, Start, Ask, Put, Sent, Mute, Got, End, Verdict as Settled, Lost, Answer as Answered, Note}
+use Rattle.journal_model.specs.declared.entry.What.TheVariants.{Claim, NoStart, Start, Lead, Ask, Put, Sent, Mute, Got, End, Verdict as Settled, Lost, Answer as Answered, Note}
 use Rattle.journal_model.specs.declared.entry.Entry.{Entry}
 use Rattle.journal_model.specs.declared.opening.Opening.{Opening}
 use Rattle.journal_model.specs.Journal.{any, each_of, is_ended, is_started, open_jobs, starts}
@@ -160,6 +160,7 @@ served_lost old new offer c g more h =
 
 worker_in : (c : ℕ) (w : What) → by_worker c w ≡ true → in_stint c w ≡ true
 worker_in c (Claim task child) h = refl
+worker_in c (Lead child job line) h = h
 worker_in c (Ask child job task line) h = (both (child == c) (not (task == 0)) h).0
 worker_in c (Lost child task) h = (both (child == c) (not (task == 0)) h).0
 worker_in c (Note task chunk count) h = refl

@@ -7,7 +7,7 @@ use Rattle.ann_outside.specs.Causes.{AddsOne, Stays}
 use Rattle.ann_outside.specs.Starts.{Starts}
 use Rattle.journal_model.specs.declared.answer.Answer.{Answer}
 use Rattle.journal_model.specs.declared.entry.What.{What}
-use Rattle.journal_model.specs.declared.entry.What.TheVariants.{Claim, Start, NoStart, Ask, Put, Sent, Mute, Got, End, Verdict as Settled, Lost, Answer as Answered, Note}
+use Rattle.journal_model.specs.declared.entry.What.TheVariants.{Claim, Start, NoStart, Lead, Ask, Put, Sent, Mute, Got, End, Verdict as Settled, Lost, Answer as Answered, Note}
 use Rattle.journal_model.specs.declared.entry.Entry.{Entry}
 use Rattle.journal_model.specs.declared.opening.Opening.{Opening}
 use Rattle.journal_model.specs.Journal.{any, is_ended}
@@ -94,6 +94,7 @@ abbrev pub in_stint : ℕ → What → Bool
 in_stint c (Claim task child) = true
 in_stint c (Start child slot offer) = false
 in_stint c (NoStart slot) = false
+in_stint c (Lead child job line) = child == c
 in_stint c (Ask child job task line) = child == c
 in_stint c (Put child job line) = child == c
 in_stint c (Sent child) = child == c

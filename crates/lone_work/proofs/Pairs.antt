@@ -4,27 +4,29 @@ use Rattle.std.proofs.lemmas.Bool.Decides.{nat_tests}
 use Rattle.std.specs.Prelude.{◌&&◌, ◌||◌, nat_lt}
 use Rattle.std.specs.List.{list_any}
 use Rattle.std.proofs.lemmas.List.Folds.{list_any-append}
-use Rattle.annex_model.specs.Messages.{HostMessage, host_line, host_reading, is_askable}
+use Rattle.annex_model.specs.Messages.{HostMessage, Export, host_line, host_reading, is_askable}
 use Rattle.annex_model.proofs.Classes.{test_askable}
 use Rattle.annex_model.proofs.Readings.{canonical_read}
 use Rattle.journal_model.specs.declared.verdict.Why.{Why}
 use Rattle.journal_model.specs.declared.verdict.Verdict.{Verdict}
 use Rattle.journal_model.specs.declared.entry.What.{What}
-use Rattle.journal_model.specs.declared.entry.What.TheVariants.{Ask, Put, Sent, Mute, Got, End, Verdict as Settled, Lost, Note}
+use Rattle.journal_model.specs.declared.entry.What.TheVariants.{Lead, Ask, Put, Sent, Mute, Got, End, Verdict as Settled, Lost, Note}
 use Rattle.journal_model.specs.declared.entry.Entry.{Entry}
 use Rattle.journal_model.specs.declared.opening.Opening.{Opening}
-use Rattle.journal_model.specs.Journal.{any, addressed, each_of, is_open, is_settled, is_started, on_wire, verdict_of, why_of}
+use Rattle.journal_model.specs.Journal.{any, addressed, each_of, is_open, is_settled, is_started, verdict_of, why_of}
+use Rattle.journal_model.specs.Due.{made_by}
 use Rattle.journal_model.specs.Legality.{Legal, has_open_job, is_claimed_by, is_held_by, holder, is_in_turn, job_for, may_ask, may_note, task_of}
 use Rattle.journal_model.specs.Makers.{is_of_task, is_taken_by}
 use Rattle.journal_model.specs.Shares.{are_own, makes_only, by_link}
 use Rattle.journal_model.proofs.Holding.{holder_append}
 use Rattle.journal_model.proofs.Idling.{claimed_positive}
 use Rattle.journal_model.proofs.Looks.{entry, same, each_of-append, settled_none}
+use Rattle.journal_model.proofs.Named.{same_addressed}
 use Rattle.journal_model.proofs.PartsGrow.{and_right}
 use Rattle.journal_model.proofs.Testing.{or_left, neither, by_either, all-split}
 use Rattle.journal_model.proofs.Working.{all_asked, closed_all, held_taken, holder_apart, jobs_stay_closed, no_jobs_in, settled_closed, taken_by-append, taken_claimed, tasks_kept}
 use Rattle.host_core.proofs.Wiring.{wired_text}
-use Rattle.host_core.specs.Steps.{Step, step_of, append, next_job}
+use Rattle.host_core.specs.Steps.{Step, step_of, append, asking, may_request, next_job, next_on_wire}
 use Rattle.host_core.specs.declared.event.Event.TheVariants.{Note as NoteEvent}
 use Rattle.host_core.specs.declared.event.Reply.{Reply}
 use Rattle.host_core.specs.declared.event.Reply.TheVariants.{Done}
@@ -115,28 +117,25 @@ module _ (o : Opening) (n t : ℕ) where
 
   -- ---- a request
 
-  reads : (past : List Entry) (c job : ℕ) (q : HostMessage) → IsJob n c t q job past → job < 2 ^ 64 → host_reading (addressed past c (on_wire past c job (host_line q))).1 ≡ Some q
-  reads past c job q j small =
-      let askable : is_askable q ≡ true = and_right (is_started past c && may_ask past n t c && is_in_turn past c (next_job past c) q) (is_askable q) j.may in
-      ap host_reading (wired_text past c job (host_line q) small) ∙ canonical_read q (test_askable q askable)
+  reads : (past : List Entry) (c : ℕ) (q : HostMessage) → may_request past n t c q ≡ true → next_job past c < 2 ^ 64 → host_reading (addressed past c (next_on_wire past c q)).1 ≡ Some q
+  reads past c q may small =
+      let askable : is_askable q ≡ true = and_right (is_started past c && may_ask past n t c && is_in_turn past c (next_job past c) q) (is_askable q) may in
+      ap host_reading (wired_text past c (next_job past c) (host_line q) small) ∙ canonical_read q (test_askable q askable)
 
-  settled_at : (past more : List Entry) (c job : ℕ) (q : HostMessage) (v : Verdict) → AtTask o n t past → IsJob n c t q job past → job < 2 ^ 64
-      → any (is_of_task t) more ≡ false → Legal o (past ++ entry n (Ask c job t (on_wire past c job (host_line q))) ∷ more)
-      → verdict_of (past ++ entry n (Ask c job t (on_wire past c job (host_line q))) ∷ more) c job ≡ Some v
-      → AsksNow o n t past (past ++ entry n (Ask c job t (on_wire past c job (host_line q))) ∷ more) q v
-  settled_at past more c job q v at j small none legal settled = record {
-    at = record { legal = legal; held = ap (is_held_by n) held ∙ at.held; shut = shut };
+  -- the task is held, no job of it is open, and its line reads as the request
+  settled_at : (past more : List Entry) (c job : ℕ) (line : List ℕ) (q : HostMessage) (v : Verdict) → is_claimed_by past n t ≡ true → has_open_job past t ≡ false
+      → host_reading (addressed past c line).1 ≡ Some q → any (is_of_task t) more ≡ false → Legal o (past ++ entry n (Ask c job t line) ∷ more)
+      → verdict_of (past ++ entry n (Ask c job t line) ∷ more) c job ≡ Some v → AsksNow o n t past (past ++ entry n (Ask c job t line) ∷ more) q v
+  settled_at past more c job line q v claimed closed reads none legal settled = record {
+    at = record { legal = legal; held = ap (is_held_by n) held ∙ claimed; shut = shut };
     asked = record {
       request = Some q;
       kept = refl;
-      added = askings-ask past more t n c job line (Some q) v at.shut (any_narrower (asks_for t) (is_of_task t) (asks_of t) more none) (reads past c job q j small) settled;
+      added = askings-ask past more t n c job line (Some q) v closed (any_narrower (asks_for t) (is_of_task t) (asks_of t) more none) reads settled;
     };
-    noted = notings-unnoted past group t at.shut (any_narrower (notes_for t) (is_of_task t) (notes_of t) more none);
+    noted = notings-unnoted past group t closed (any_narrower (notes_for t) (is_of_task t) (notes_of t) more none);
   }
     where
-      line : List ℕ
-      line = on_wire past c job (host_line q)
-
       group : List Entry
       group = entry n (Ask c job t line) ∷ more
 
@@ -151,7 +150,7 @@ module _ (o : Opening) (n t : ℕ) where
       shut = ap (list_any (λ q. is_open (past ++ group) q.0 q.1)) (each_of-append (job_for t) past group ∙ ap (λ (x : List (ℕ × ℕ)). each_of (job_for t) past ++ x) jobs)
           ∙ list_any-append (λ (q : ℕ × ℕ). is_open (past ++ group) q.0 q.1) (each_of (job_for t) past) ((c, job) ∷ [])
           ∙ neither (list_any (λ q. is_open (past ++ group) q.0 q.1) (each_of (job_for t) past)) (is_open (past ++ group) c job || false)
-          (closed_all past group (each_of (job_for t) past) (all_asked t past) at.shut)
+          (closed_all past group (each_of (job_for t) past) (all_asked t past) closed)
           (rw (settled_closed (past ++ group) c job (verdict_settles (past ++ group) c job v settled)) refl)
 
   lost_at : (past : List Entry) (c : ℕ) (q : HostMessage) → AtTask o n t past → Legal o (past ++ entry n (Lost c t) ∷ []) → AsksNow o n t past (past ++ entry n (Lost c t) ∷ []) q (lost_as (why_of past c))
@@ -170,38 +169,70 @@ module _ (o : Opening) (n t : ℕ) where
     noted = notings-unnoted past (entry n (Lost c t) ∷ []) t at.shut refl;
   }
 
-  -- after entries that make nothing of the task
-  asks_from : (old mid new : List Entry) (q : HostMessage) (v : Verdict) → SameTask o n t old mid → AsksNow o n t mid new q v → AsksNow o n t old new q v
-  asks_from old mid new q v s a = record {
+  -- after entries that ask and note nothing of the task
+  asks_from : (old mid new : List Entry) (q : HostMessage) (v : Verdict) → askings mid t ≡ askings old t → notings mid t ≡ notings old t → AsksNow o n t mid new q v → AsksNow o n t old new q v
+  asks_from old mid new q v asks notes a = record {
     at = a.at;
     asked = record {
       request = a.asked.request;
       kept = a.asked.kept;
-      added = a.asked.added ∙ ap (λ (xs : List Asking). xs ++ record { request = a.asked.request; verdict = v } ∷ []) s.asked;
+      added = a.asked.added ∙ ap (λ (xs : List Asking). xs ++ record { request = a.asked.request; verdict = v } ∷ []) asks;
     };
-    noted = a.noted ∙ s.noted;
+    noted = a.noted ∙ notes;
   }
 
-  pub asked : {a : Bool} {makes : What → Bool} {Known : ℕ → Type 0} {old new : List Entry} (c : ℕ) (q : HostMessage) (v : Verdict)
-      → ((w : What) → makes w ≡ true → is_of_task t w ≡ false) → AtTask o n t old → Legal o new → HasAsked o n a makes old new c t q Known v → AsksNow o n t old new q v
-  asked {makes = makes} {old = old} {new = new} c q v none at legal (inl s) =
+  -- the request, and the name before it, and then what makes nothing of the task
+  settled_named : (past more : List Entry) (c : ℕ) (name : Option (List ℕ)) (q : HostMessage) (v : Verdict) → AtTask o n t past → host_reading (addressed past c (next_on_wire past c q)).1 ≡ Some q
+      → any (is_of_task t) more ≡ false → Legal o (past ++ (made_by n (asking past t c name q) ++ more))
+      → verdict_of (past ++ (made_by n (asking past t c name q) ++ more)) c (next_job past c) ≡ Some v → AsksNow o n t past (past ++ (made_by n (asking past t c name q) ++ more)) q v
+  settled_named past more c None q v at reads none legal settled = settled_at past more c (next_job past c) (next_on_wire past c q) q v at.held at.shut reads none legal settled
+  settled_named past more c (Some name) q v at reads none legal settled =
+      subst (λ (x : List Entry). AsksNow o n t past x q v) back
+      (asks_from past mid (mid ++ entry n (Ask c (next_job past c) t (next_on_wire past c q)) ∷ more) q v (asked_on past (lead ∷ []) at refl) (noted_on past (lead ∷ []) at refl)
+      (settled_at mid more c (next_job past c) (next_on_wire past c q) q v held closed
+      (ap (λ (r : Option ℕ × List ℕ). host_reading r.1) (same_addressed past n c (next_job past c) (next_on_wire past c (Export name)) c (next_on_wire past c q)) ∙ reads) none
+      (subst (Legal o) (sym back) legal) (subst (λ (x : List Entry). verdict_of x c (next_job past c) ≡ Some v) (sym back) settled)))
+    where
+      lead : Entry
+      lead = entry n (Lead c (next_job past c) (next_on_wire past c (Export name)))
+
+      mid : List Entry
+      mid = past ++ lead ∷ []
+
+      back : mid ++ entry n (Ask c (next_job past c) t (next_on_wire past c q)) ∷ more ≡ past ++ lead ∷ entry n (Ask c (next_job past c) t (next_on_wire past c q)) ∷ more
+      back = append_assoc past (lead ∷ []) (entry n (Ask c (next_job past c) t (next_on_wire past c q)) ∷ more)
+
+      held : is_claimed_by mid n t ≡ true
+      held = ap (is_held_by n) (holder_append past (lead ∷ []) t) ∙ at.held
+
+      closed : has_open_job mid t ≡ false
+      closed = jobs_stay_closed past (lead ∷ []) t refl at.shut
+
+  -- whoever asks holds the task still
+  asking_holds : (past : List Entry) (c : ℕ) (name : Option (List ℕ)) (q : HostMessage) → is_claimed_by past n t ≡ true → is_claimed_by (past ++ made_by n (asking past t c name q)) n t ≡ true
+  asking_holds past c None q held = ap (is_held_by n) (holder_append past (made_by n (asking past t c None q)) t) ∙ held
+  asking_holds past c (Some name) q held = ap (is_held_by n) (holder_append past (made_by n (asking past t c (Some name) q)) t) ∙ held
+
+  pub asked : {a : Bool} {makes : What → Bool} {Known : ℕ → Type 0} {old new : List Entry} (c : ℕ) (name : Option (List ℕ)) (q : HostMessage) (v : Verdict)
+      → ((w : What) → makes w ≡ true → is_of_task t w ≡ false) → AtTask o n t old → Legal o new → HasAsked o n a makes old new c t name q Known v → AsksNow o n t old new q v
+  asked {makes = makes} {old = old} {new = new} c name q v none at legal (inl s) =
       let p : List Entry = s.asked.past in
       let before : SameTask o n t old p = passed at (s.asked.legal at.legal) s.asked.passed in
-      let j : IsJob n c t q s.job p = s.asked.found.0 in
-      let e : Entry = entry n (Ask c s.job t (on_wire p c s.job (host_line q))) in
-      let mid_is : s.mid ≡ p ++ e ∷ [] = s.asked.is ∙ ap (λ (l : List ℕ). p ++ entry n (Ask c s.job t l) ∷ []) s.asked.found.1 in
-      let is : new ≡ p ++ e ∷ s.on.more = s.on.is ∙ ap (λ (x : List Entry). x ++ s.on.more) mid_is ∙ append_assoc p (e ∷ []) s.on.more in
-      let held : is_claimed_by (p ++ e ∷ []) n t ≡ true = ap (is_held_by n) (holder_append p (e ∷ []) t) ∙ before.at.held in
-      let whole : Legal o (p ++ e ∷ s.on.more) = subst (Legal o) is legal in
-      let un = apart makes none (p ++ e ∷ []) s.on.more (subst (Legal o) (sym (append_assoc p (e ∷ []) s.on.more)) whole) held s.on.own in
+      let j : IsJob n c t q s.job p = s.asked.found in
+      let group : List Entry = made_by n (asking p t c name q) in
+      let is : new ≡ p ++ (group ++ s.on.more) = s.on.is ∙ ap (λ (x : List Entry). x ++ s.on.more) s.asked.is ∙ append_assoc p group s.on.more in
+      let whole : Legal o (p ++ (group ++ s.on.more)) = subst (Legal o) is legal in
+      let un = apart makes none (p ++ group) s.on.more (subst (Legal o) (sym (append_assoc p group s.on.more)) whole) (asking_holds p c name q before.at.held) s.on.own in
+      let small : next_job p c < 2 ^ 64 = subst (λ (k : ℕ). k < 2 ^ 64) j.next s.small in
       subst (λ (x : List Entry). AsksNow o n t old x q v) (sym is)
-      (asks_from old p (p ++ e ∷ s.on.more) q v before
-      (settled_at p s.on.more c s.job q v before.at j s.small un whole (subst (λ (x : List Entry). verdict_of x c s.job ≡ Some v) is s.settled)))
-  asked {old = old} {new = new} c q v none at legal (inr s) =
+      (asks_from old p (p ++ (group ++ s.on.more)) q v before.asked before.noted
+      (settled_named p s.on.more c name q v before.at (reads p c q j.may small) un whole
+      (subst (λ (k : ℕ). verdict_of (p ++ (group ++ s.on.more)) c k ≡ Some v) j.next (subst (λ (x : List Entry). verdict_of x c s.job ≡ Some v) is s.settled))))
+  asked {old = old} {new = new} c name q v none at legal (inr s) =
       let p : List Entry = s.past in
       let before : SameTask o n t old p = passed at (s.legal at.legal) s.passed in
       subst (λ (x : List Entry). AsksNow o n t old x q v) (sym s.is)
-      (asks_from old p (p ++ entry n (Lost c t) ∷ []) q v before
+      (asks_from old p (p ++ entry n (Lost c t) ∷ []) q v before.asked before.noted
       (subst (λ (w : Verdict). AsksNow o n t p (p ++ entry n (Lost c t) ∷ []) q w) (sym s.found.1) (lost_at p c q before.at (subst (Legal o) s.is legal))))
 
   -- ---- a note

@@ -2,12 +2,12 @@
 use Rattle.std.proofs.Common.{◌≡◌, ℕ, ◌<◌, ◌≤◌, List, [], ◌∷◌, ◌++◌, length, append-nil, refl, sym, ap, subst, ◌∙◌, Bool, true, false, not, ◌==◌, cond, Some, None, Option, inl, inr, arith}
 use Rattle.std.specs.Prelude.{◌&&◌, ◌||◌, nat_lt, filter, Result, Ok, Err}
 use Rattle.ann_key.specs.declared.bytes.NoMemory.{NoMemory}
-use Rattle.std.specs.List.{cons_option}
+use Rattle.std.specs.List.{cons_option, list_all}
 use Rattle.std.specs.Option.{option_or}
 use Rattle.std.proofs.lemmas.Bool.Decides.{nat_tests}
 use Rattle.std.proofs.lemmas.List.{append_cancel_left}
 use Rattle.std.proofs.lemmas.List.Elements.{filter-append}
-use Rattle.annex_model.specs.Messages.{HostMessage, AskExtensions, Transfer, is_askable}
+use Rattle.annex_model.specs.Messages.{HostMessage, AskExtensions, Transfer, Transferexport, Renameexport, is_askable}
 use Rattle.annex_model.specs.Turns.{turn_of}
 use Rattle.annex_model.specs.declared.turn.Turn.TheVariants.{Later}
 use Rattle.journal_model.specs.declared.verdict.Verdict.{Verdict}
@@ -25,7 +25,9 @@ use Rattle.journal_model.proofs.Looks.{both, same, differ, any-append, each_of-a
 use Rattle.journal_model.proofs.Projecting.{invariant}
 use Rattle.journal_model.proofs.Testing.{or_left}
 use Rattle.journal_model.proofs.Verdicts.{unasked_none}
-use Rattle.host_core.specs.Steps.{may_request, next_job}
+use Rattle.host_core.specs.Steps.{asking, may_request, next_job}
+use Rattle.journal_model.specs.Due.{made_by}
+use Rattle.link_roles.proofs.Asking.{asks_next}
 use Rattle.task_run.specs.Askers.{names_in_line}
 use Rattle.link_roles.specs.Doors.{Passed}
 use Rattle.link_roles.specs.Asks.{Grows, HasAsked, never}
@@ -81,13 +83,18 @@ gives_none {X} makes f none n (e ∷ more) own by =
 
 -- ---- what was made
 
+-- a request, and the name before it
+server_asks : (past : List Entry) (c t : ℕ) (q : HostMessage) (name : Option (List ℕ)) → list_all (by_server c t) (asking past t c name q) ≡ true
+server_asks past c t q None = rw (same c, same t) refl
+server_asks past c t q (Some name) = rw (same c, same t) refl
+
 module _ {n : ℕ} {a : Bool} {old new : List Entry} where
   -- a request, or a lost one
-  pub asked_moved : {o : Opening} {Known : ℕ → Type 0} (c t : ℕ) (q : HostMessage) (v : Verdict) → HasAsked o n a (by_link c) old new c t q Known v
+  pub asked_moved : {o : Opening} {Known : ℕ → Type 0} (c t : ℕ) (name : Option (List ℕ)) (q : HostMessage) (v : Verdict) → HasAsked o n a (by_link c) old new c t name q Known v
       → Moved n a (by_server c t) (is_of_child c) old new (Unit {0}) (Unit {0})
-  asked_moved c t q v (inl s) =
-      moved_both refl refl (moved_by s.asked (rw (same c, same t) refl) (λ none u. u)) (moved_wider (link_serves c t) (λ w h. h) s.on (λ own k u. u))
-  asked_moved c t q v (inr s) = moved_by s (rw (same c, same t) refl) (λ none u. u)
+  asked_moved c t name q v (inl s) =
+      moved_both refl refl (moved_by s.asked (server_asks s.asked.past c t q name) (λ none u. u)) (moved_wider (link_serves c t) (λ w h. h) s.on (λ own k u. u))
+  asked_moved c t name q v (inr s) = moved_by s (rw (same c, same t) refl) (λ none u. u)
 
   -- what was made, beside what it keeps
   pub keeping : {makes makes' mine : What → Bool} {Before After : Type 0} → Moved n a makes mine old new (Unit {0}) (Unit {0}) → Moved n a makes' mine old new Before After
@@ -147,19 +154,13 @@ verdict_settled past c k v h = go (is_settled past c k) refl
     go false e = absurd (let bad : None ≡ Some v = sym (settled_none past c k e) ∙ h in cc)
 
 -- and after one request that was settled
-idle_settled : (old more new : List Entry) (c by job t : ℕ) (line : List ℕ) (v : Verdict) → new ≡ (old ++ record { by = by; what = Ask c job t line } ∷ []) ++ more
+idle_settled : (old one more new : List Entry) (c job : ℕ) (v : Verdict) → new ≡ (old ++ one) ++ more → asked_jobs one c ≡ job ∷ []
     → asked_jobs more c ≡ [] → verdict_of new c job ≡ Some v → open_jobs old c ≡ [] → open_jobs new c ≡ []
-idle_settled old more new c by job t line v is none settled idle =
+idle_settled old one more new c job v is here_job none settled idle =
     ap (filter is_left) jobs ∙ filter-append is_left (asked_jobs old c) (job ∷ []) ∙ ap (λ (ks : List ℕ). ks ++ filter is_left (job ∷ [])) before ∙ last
   where
-    one : List Entry
-    one = record { by = by; what = Ask c job t line } ∷ []
-
     is_left : ℕ → Bool
     is_left k = not (is_settled new c k)
-
-    here_job : asked_jobs one c ≡ job ∷ []
-    here_job = rw (same c) refl
 
     jobs : asked_jobs new c ≡ asked_jobs old c ++ job ∷ []
     jobs =
@@ -197,18 +198,20 @@ module _ {n : ℕ} {old new : List Entry} (c t : ℕ) where
         idle = idle;
       }
 
-  pub turn_asked : {o : Opening} {a : Bool} {Known : ℕ → Type 0} (q : HostMessage) (v : Verdict) → a ≡ true → HasAsked o n a (by_link c) old new c t q Known v → HasTurn old c t → HasTurn new c t
-  turn_asked {o} {a} {Known} q v lone (inl s) h =
+  pub turn_asked : {o : Opening} {a : Bool} {Known : ℕ → Type 0} (name : Option (List ℕ)) (q : HostMessage) (v : Verdict) → a ≡ true → HasAsked o n a (by_link c) old new c t name q Known v → HasTurn old c t → HasTurn new c t
+  turn_asked {o} {a} {Known} name q v lone (inl s) h =
       let p : s.asked.past ≡ old = none_passed lone s.asked.passed in
-      let mid_is : s.mid ≡ old ++ record { by = n; what = Ask c s.job t s.line } ∷ [] =
-      s.asked.is ∙ ap (λ (x : List Entry). x ++ record { by = n; what = Ask c s.job t s.line } ∷ []) p in
-      let is : new ≡ (old ++ record { by = n; what = Ask c s.job t s.line } ∷ []) ++ s.on.more = s.on.is ∙ ap (λ (x : List Entry). x ++ s.on.more) mid_is in
+      let group : List Entry = made_by n (asking old t c name q) in
+      let mid_is : s.mid ≡ old ++ group = s.asked.is ∙ ap (λ (x : List Entry). x ++ made_by n (asking x t c name q)) p in
+      let is : new ≡ (old ++ group) ++ s.on.more = s.on.is ∙ ap (λ (x : List Entry). x ++ s.on.more) mid_is in
       let none : asked_jobs s.on.more c ≡ [] = gives_none (by_link c) (asks c) (link_asks c) n s.on.more s.on.own (s.on.lone lone) in
-      turn_on lone (asked_moved {o = o} {Known = Known} c t q v (inl s)) (idle_settled old s.on.more new c n s.job t s.line v is none s.settled h.idle) h
-  turn_asked {o} {a} {Known} q v lone (inr s) h =
+      let job : next_job old c ≡ s.job = ap (λ (x : List Entry). next_job x c) (sym p) ∙ sym s.asked.found.next in
+      let jobs : asked_jobs group c ≡ s.job ∷ [] = asks_next old n t c q name ∙ ap (λ (j : ℕ). j ∷ []) job in
+      turn_on lone (asked_moved {o = o} {Known = Known} c t name q v (inl s)) (idle_settled old group s.on.more new c s.job v is jobs none s.settled h.idle) h
+  turn_asked {o} {a} {Known} name q v lone (inr s) h =
       let p : s.past ≡ old = none_passed lone s.passed in
       let is : new ≡ old ++ record { by = n; what = Lost c t } ∷ [] = s.is ∙ ap (λ (x : List Entry). x ++ record { by = n; what = Lost c t } ∷ []) p in
-      turn_on lone (asked_moved {o = o} {Known = Known} c t q v (inr s)) (ap (λ (x : List Entry). open_jobs x c) is ∙ idle_on old (record { by = n; what = Lost c t } ∷ []) c refl h.idle) h
+      turn_on lone (asked_moved {o = o} {Known = Known} c t name q v (inr s)) (ap (λ (x : List Entry). open_jobs x c) is ∙ idle_on old (record { by = n; what = Lost c t } ∷ []) c refl h.idle) h
 
   pub turn_passed : {a : Bool} → a ≡ true → Passed n a old new → HasTurn old c t → HasTurn new c t
   turn_passed lone s h = subst (λ (x : List Entry). HasTurn x c t) (sym (none_passed lone s)) h
@@ -223,6 +226,8 @@ module _ {n : ℕ} {old new : List Entry} (c t : ℕ) where
 suits : (past : List Entry) (c : ℕ) (q : HostMessage) → turn_of q ≡ Later → names_in_line q ≡ true → names_text q ≡ true → suits_child past c q ≡ true
 suits past c (AskExtensions names) e line text = absurd cc
 suits past c (Transfer store key file) e line text = rw (text, line) refl
+suits past c (Transferexport store key file) e line text = rw (text, line) refl
+suits past c (Renameexport key onto) e line text = rw (text, line) refl
 suits past c q e line text = refl
 
 -- a prepared child was asked two jobs

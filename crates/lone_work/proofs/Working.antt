@@ -7,7 +7,7 @@ use Rattle.ann_outside.specs.DeskCauses.{Counts}
 use Rattle.ann_outside.specs.declared.file_desk.Call.{Call}
 use Rattle.journal_model.specs.declared.answer.Answer.{Answer}
 use Rattle.journal_model.specs.declared.entry.What.{What}
-use Rattle.journal_model.specs.declared.entry.What.TheVariants.{Claim, Ask, Lost, Note, Answer as Answered}
+use Rattle.journal_model.specs.declared.entry.What.TheVariants.{Claim, Lead, Ask, Lost, Note, Answer as Answered}
 use Rattle.journal_model.specs.declared.entry.Entry.{Entry}
 use Rattle.journal_model.specs.declared.opening.Opening.{Opening}
 use Rattle.journal_model.specs.Legality.{Legal, claims, is_busy, is_claimed, is_free, least_free, numbers_of}
@@ -133,6 +133,7 @@ module _ (o : Opening) (setup : Setup) (n c : ℕ) where
 
 link_works : (c : ℕ) (w : What) → by_link c w ≡ true → by_worker c w ≡ true
 link_works c (Claim task child) h = absurd cc
+link_works c (Lead child job line) h = absurd cc
 link_works c (Ask child job task line) h = absurd cc
 link_works c (Lost child task) h = absurd cc
 link_works c (Note task chunk count) h = absurd cc

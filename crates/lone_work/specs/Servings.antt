@@ -1,9 +1,9 @@
 -- How a number stands that serves a task over a child, and what serving makes.
 use Rattle.std.specs.Prelude.{ℕ, ◌≡◌, ◌==◌, ◌&&◌, Bool, true, List, []}
 use Rattle.std.specs.Str.{is_utf8}
-use Rattle.annex_model.specs.Messages.{HostMessage, Transfer}
+use Rattle.annex_model.specs.Messages.{HostMessage, Transfer, Transferexport, Renameexport}
 use Rattle.journal_model.specs.declared.entry.What.{What}
-use Rattle.journal_model.specs.declared.entry.What.TheVariants.{Ask, Lost, Note}
+use Rattle.journal_model.specs.declared.entry.What.TheVariants.{Lead, Ask, Lost, Note}
 use Rattle.journal_model.specs.declared.entry.Entry.{Entry}
 use Rattle.journal_model.specs.declared.opening.Opening.{Opening}
 use Rattle.journal_model.specs.Journal.{is_started, open_jobs}
@@ -30,8 +30,9 @@ pub record Serves (o : Opening) (number : ℕ) (alone : Bool) (c t : ℕ) (seen 
   pub book : IsBook o.notes
   pub turn : alone ≡ true → HasTurn seen c t
 
--- requests for t over c, which may be lost, notes of t, and what c's link does
+-- requests for t over c, with the names before them, which may be lost, notes of t, and what c's link does
 abbrev pub by_server : ℕ → ℕ → What → Bool
+by_server c t (Lead child job line) = child == c
 by_server c t (Ask child job task line) = child == c && task == t
 by_server c t (Lost child task) = child == c && task == t
 by_server c t (Note task chunk count) = task == t
@@ -42,9 +43,11 @@ pub record ServesOn (o : Opening) (number : ℕ) (alone : Bool) (c t : ℕ) (old
   pub serves : Serves o number alone c t new
   pub moved : Moved number alone (by_server c t) (is_of_child c) old new Before After
 
--- the file that the message names, if it names one, is named by text
+-- the files that the message names are named by text
 abbrev pub names_text : HostMessage → Bool
 names_text (Transfer store key file) = is_utf8 file
+names_text (Transferexport store key file) = is_utf8 file
+names_text (Renameexport key onto) = is_utf8 onto
 names_text q = true
 
 -- what an asker over a link and a door made of both: they are the same, and it serves the same task still

@@ -8,7 +8,7 @@ use Rattle.ann_outside.specs.DeskCauses.{Counts}
 use Rattle.ann_outside.specs.declared.file_desk.Call.{Call}
 use Rattle.journal_model.specs.declared.answer.Answer.{Answer}
 use Rattle.journal_model.specs.declared.entry.What.{What}
-use Rattle.journal_model.specs.declared.entry.What.TheVariants.{Claim, Ask, Lost, Answer as Answered, Note}
+use Rattle.journal_model.specs.declared.entry.What.TheVariants.{Claim, Lead, Ask, Lost, Answer as Answered, Note}
 use Rattle.journal_model.specs.declared.entry.Entry.{Entry}
 use Rattle.journal_model.specs.declared.opening.Opening.{Opening}
 use Rattle.journal_model.specs.Journal.{any, each_of, is_started, open_jobs}
@@ -88,9 +88,10 @@ claimed_task w = None
 abbrev pub claims_in : List Entry → List ℕ
 claims_in entries = each_of claimed_task entries
 
--- what a worker of c makes: claims for it, requests of tasks, notes and answers, and what its link does
+-- what a worker of c makes: claims for it, requests of tasks with the names before them, notes and answers, and what its link does
 abbrev pub by_worker : ℕ → What → Bool
 by_worker c (Claim task child) = child == c
+by_worker c (Lead child job line) = child == c
 by_worker c (Ask child job task line) = child == c && not (task == 0)
 by_worker c (Lost child task) = child == c && not (task == 0)
 by_worker c (Note task chunk count) = true

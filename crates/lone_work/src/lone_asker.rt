@@ -14,12 +14,14 @@ use std::alloc::Global;
 use talk_serial::Request;
 use task_run::Asker;
 
-// The name of the request's file, if it has one. It is text, as what the core may ask is.
+// The name of the request's file, if it has one, or the new name that it gives. It is text, as what the core may ask is.
 fn file_of(request: &Request) -> Option<&str>
     ensures { names_text (message_of request.now) ≡ true }
 {
     match request {
         Request::Transfer { file, .. } => Some(file.view()),
+        Request::TransferExport { file, .. } => Some(file.view()),
+        Request::RenameExport { onto, .. } => Some(onto.view()),
         _ => None,
     }
 }

@@ -1,5 +1,5 @@
 -- From one child that was asked to the next, and what is said of the last.
-use Rattle.std.proofs.Common.{◌≡◌, ◌⊎◌, inl, inr, ◌∙◌, ℕ, zero, suc, ◌+◌, ◌≤◌, ◌<◌, List, [], ◌∷◌, ◌++◌, refl, sym, ap, subst, Bool, true, false, not, ◌==◌, length, length-append, slice_set, slice_index_or, arith}
+use Rattle.std.proofs.Common.{◌≡◌, ◌⊎◌, inl, inr, ◌∙◌, ℕ, zero, suc, ◌+◌, ◌≤◌, ◌<◌, List, [], ◌∷◌, ◌++◌, refl, sym, ap, subst, Bool, true, false, not, ◌==◌, length, length-append, slice_set, slice_index_or, arith, None}
 use Rattle.std.specs.Prelude.{◌&&◌, ◌||◌, if◌then◌else◌, IfSome, codes, Result, Ok, Err}
 use Rattle.ann_key.specs.declared.bytes.NoMemory.{NoMemory}
 use Rattle.std.specs.List.{list_all, list_any}
@@ -29,7 +29,7 @@ before_refl (c ∷ cs) = (record { journal = refl; opening = refl; number = refl
 -- a child that was asked after nothing had been asked of it was asked
 asked_before : (q : HostMessage) (d c c' : ChildValue) (v : Verdict) → IsAsBefore d c → IsAsked q c c' v → IsAsked q d c' v
 asked_before q d c c' v b a = record {
-  asked = subst (λ (o : Opening). AskedAlone o d.journal c'.journal 0 1 0 q v) b.opening (subst (λ (j : List Entry). AskedAlone c.opening j c'.journal 0 1 0 q v) b.journal a.asked);
+  asked = subst (λ (o : Opening). AskedAlone o d.journal c'.journal 0 1 0 None q v) b.opening (subst (λ (j : List Entry). AskedAlone c.opening j c'.journal 0 1 0 None q v) b.journal a.asked);
   told = subst (λ (j : List Entry). IfSome (final_in v) (λ f. Ends (replies_at c'.opening c'.journal) q (part c'.journal 1 (next_job j 1)) f.0 f.1)) b.journal a.told;
   opening = a.opening ∙ b.opening;
   number = a.number ∙ b.number;

@@ -5,16 +5,20 @@ use Rattle.ann_key.specs.declared.bytes.NoMemory.{NoMemory}
 use Rattle.std.specs.List.{list_all}
 use Rattle.std.specs.Option.{option_or}
 use Rattle.std.proofs.lemmas.List.Folds.{list_all-append}
-use Rattle.annex_model.specs.Messages.{HostMessage, Transfer, Checkpresent, Remove, host_line, is_askable, is_sent_key}
+use Rattle.annex_model.specs.Messages.{HostMessage, Transfer, Checkpresent, Remove, Transferexport, Checkpresentexport, Removeexport, Renameexport, host_line, is_askable, is_sent_key}
+use Rattle.annex_model.specs.Talks.{IsLead, has_lead}
 use Rattle.journal_model.specs.declared.verdict.Verdict.{Verdict}
 use Rattle.journal_model.specs.declared.entry.What.{What}
-use Rattle.journal_model.specs.declared.entry.What.TheVariants.{Ask, Lost}
+use Rattle.journal_model.specs.declared.entry.What.TheVariants.{Lead, Ask, Lost}
 use Rattle.journal_model.specs.declared.entry.Entry.{Entry}
 use Rattle.journal_model.specs.declared.opening.Opening.{Opening}
 use Rattle.journal_model.specs.Journal.{any, asks, is_started, is_tagged, open_jobs, asked_jobs, on_wire, verdict_of}
 use Rattle.journal_model.specs.Legality.{Legal, is_done, is_empty, is_greeted, is_in_turn, is_prepared, is_text, prepares}
 use Rattle.journal_model.specs.Shares.{are_by, by_asker, by_link}
 use Rattle.journal_model.proofs.Looks.{both, any-append, each_of-append, verdict_of-append}
+use Rattle.talk_serial.specs.declared.request.Request.{Request}
+use Rattle.talk_serial.specs.Requests.{message_of, name_of}
+use Rattle.talk_serial.proofs.Reading.{unnamed}
 use Rattle.host_core.specs.Steps.{group_of, may_request, next_job}
 use Rattle.link_roles.specs.Alone.{AskedAlone, KeepsLink}
 use Rattle.child_start.proofs.Jobs.{idle_asked, or_true}
@@ -61,6 +65,7 @@ all_both : (xs ys : List Entry) → list_all (λ (e : Entry). by_asker 1 e.what)
 all_both xs ys h k = list_all-append (λ (e : Entry). by_asker 1 e.what) xs ys ∙ ap (λ (b : Bool). b && list_all (λ (e : Entry). by_asker 1 e.what) ys) h ∙ k
 
 link_asks : (w : What) → by_link 1 w ≡ true → by_asker 1 w ≡ true
+link_asks (Lead child job line) h = absurd cc
 link_asks (Ask child job task line) h = absurd cc
 link_asks (Lost child task) h = absurd cc
 link_asks w h = h
@@ -94,7 +99,7 @@ record Asked (old new : List Entry) : Type 0 where
   pub own : list_all (λ e. by_asker 1 e.what) more ≡ true
   pub main : are_by 0 more ≡ true
 
-asked_more : (o : Opening) (old new : List Entry) (q : HostMessage) (v : Verdict) → AskedAlone o old new 0 1 0 q v → Asked old new
+asked_more : (o : Opening) (old new : List Entry) (q : HostMessage) (v : Verdict) → AskedAlone o old new 0 1 0 None q v → Asked old new
 asked_more o old new q v (inl s) =
     let request : List Entry = group_of o old 0 (Ask 1 (next_job old 1) 0 (on_wire old 1 (next_job old 1) (host_line q))) in
     record {
@@ -127,7 +132,7 @@ serves_grown c c' s a legal idle k = record {
       omega (arith, s.greeted, longer);
 }
 
-pub serves_asked : (c c' : ChildValue) (q : HostMessage) (v : Verdict) → IsServing c → AskedAlone c.opening c.journal c'.journal 0 1 0 q v → Legal c'.opening c'.journal
+pub serves_asked : (c c' : ChildValue) (q : HostMessage) (v : Verdict) → IsServing c → AskedAlone c.opening c.journal c'.journal 0 1 0 None q v → Legal c'.opening c'.journal
     → KeepsLink c.journal c'.journal c.ear c'.ear c.mouth c'.mouth → IsServing c'
 serves_asked c c' q v s a legal k =
     serves_grown c c' s (asked_more c.opening c.journal c'.journal q v a) legal (idle_asked c.opening c.journal c'.journal 0 1 0 q v s.linked.idle a) k
@@ -139,20 +144,38 @@ serves_same c c' s same legal k =
 
 -- ---- whatever came of asking
 
-module _ (r : Result Verdict NoMemory) (q : HostMessage) (c c' : ChildValue) (k : ℕ) (first : k ≡ 1) (asked : IfOk r (AskedAlone c.opening c.journal c'.journal 0 k 0 q)) where
-  asked_one : IfOk r (AskedAlone c.opening c.journal c'.journal 0 1 0 q)
-  asked_one = subst (λ (n : ℕ). IfOk r (AskedAlone c.opening c.journal c'.journal 0 n 0 q)) first asked
+-- no such request has a lead, so no name was said before it
+pub mirrored_leads : (q : HostMessage) → is_mirrored q ≡ true → has_lead q ≡ false
+mirrored_leads (Transferexport store key file) h = absurd cc
+mirrored_leads (Checkpresentexport key) h = absurd cc
+mirrored_leads (Removeexport key) h = absurd cc
+mirrored_leads (Renameexport key onto) h = absurd cc
+mirrored_leads q h = refl
+
+mirrored_plain : (q : HostMessage) → is_mirrored q ≡ true → IsLead q []
+mirrored_plain (Transfer store key file) h = refl
+mirrored_plain (Checkpresent key) h = refl
+mirrored_plain (Remove key) h = refl
+mirrored_plain q h = absurd cc
+
+pub asked_plain : (o : Opening) (old new : List Entry) (k : ℕ) (r : Request) (x : Result Verdict NoMemory) → is_mirrored (message_of r) ≡ true → IfOk x (AskedAlone o old new 0 k 0 (name_of r) (message_of r))
+    → IfOk x (AskedAlone o old new 0 k 0 None (message_of r))
+asked_plain o old new k r x h a = subst (λ (n : Option (List ℕ)). IfOk x (AskedAlone o old new 0 k 0 n (message_of r))) (unnamed r (mirrored_leads (message_of r) h)) a
+
+module _ (r : Result Verdict NoMemory) (q : HostMessage) (c c' : ChildValue) (k : ℕ) (first : k ≡ 1) (asked : IfOk r (AskedAlone c.opening c.journal c'.journal 0 k 0 None q)) where
+  asked_one : IfOk r (AskedAlone c.opening c.journal c'.journal 0 1 0 None q)
+  asked_one = subst (λ (n : ℕ). IfOk r (AskedAlone c.opening c.journal c'.journal 0 n 0 None q)) first asked
 
   pub asked_if : IsLinked c → is_mirrored q ≡ true → Legal c'.opening c'.journal → c'.opening ≡ c.opening → c'.number ≡ c.number → IfOk r (IsAsked q c c')
   asked_if linked mirrored legal opening number = go r asked_one
     where
-      go : (x : Result Verdict NoMemory) → IfOk x (AskedAlone c.opening c.journal c'.journal 0 1 0 q) → IfOk x (IsAsked q c c')
-      go (Ok v) a = record { asked = a; told = asked_told c c' q v linked (in_turn c.journal 2 q mirrored refl).1 legal a; opening = opening; number = number }
+      go : (x : Result Verdict NoMemory) → IfOk x (AskedAlone c.opening c.journal c'.journal 0 1 0 None q) → IfOk x (IsAsked q c c')
+      go (Ok v) a = record { asked = a; told = asked_told c c' q v linked (in_turn c.journal 2 q mirrored refl).1 (mirrored_plain q mirrored) legal a; opening = opening; number = number }
       go (Err e) a = tt
 
   pub serving_if : IsServing c → OnErr r (c'.journal ≡ c.journal) → Legal c'.opening c'.journal → KeepsLink c.journal c'.journal c.ear c'.ear c.mouth c'.mouth → IsServing c'
   serving_if s same legal link = go r asked_one same
     where
-      go : (x : Result Verdict NoMemory) → IfOk x (AskedAlone c.opening c.journal c'.journal 0 1 0 q) → OnErr x (c'.journal ≡ c.journal) → IsServing c'
+      go : (x : Result Verdict NoMemory) → IfOk x (AskedAlone c.opening c.journal c'.journal 0 1 0 None q) → OnErr x (c'.journal ≡ c.journal) → IsServing c'
       go (Ok v) a e = serves_asked c c' q v s a legal link
       go (Err x) a e = serves_same c c' s e legal link

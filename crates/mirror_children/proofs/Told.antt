@@ -4,8 +4,9 @@ use Rattle.std.specs.Prelude.{◌&&◌, IfSome}
 use Rattle.std.specs.List.{list_all}
 use Rattle.annex_model.specs.declared.final_line.Final.{Final}
 use Rattle.annex_model.specs.Messages.{HostMessage, host_line, host_reading, is_askable}
-use Rattle.annex_model.specs.Talks.{Host, Item}
-use Rattle.annex_model.specs.Hearings.{request_in}
+use Rattle.annex_model.specs.Talks.{Host, IsLead, Item}
+use Rattle.annex_model.specs.Hearings.{asked_by, request_in}
+use Rattle.annex_model.proofs.Leads.{plain_asked}
 use Rattle.annex_model.proofs.Classes.{test_askable}
 use Rattle.annex_model.proofs.Readings.{canonical_read}
 use Rattle.journal_model.specs.declared.verdict.Why.{Why}
@@ -65,9 +66,9 @@ by_part replies q (i ∷ is) v first f =
     by_fit replies q (i ∷ is) (final_in v) (subst (λ (r : HostMessage). PartFits replies r (i ∷ is) (Some v)) is_q f.3)
 
 -- the part begins with the request
-first_asked : (o : Opening) (past more : List Entry) (q : HostMessage) → Legal o past → is_tagged past 1 ≡ false → is_askable q ≡ true
+first_asked : (o : Opening) (past more : List Entry) (q : HostMessage) → Legal o past → is_tagged past 1 ≡ false → is_askable q ≡ true → IsLead q []
     → request_in (part (past ++ record { by = 0; what = Ask 1 (next_job past 1) 0 (on_wire past 1 (next_job past 1) (host_line q)) } ∷ more) 1 (next_job past 1)) ≡ Some q
-first_asked o past more q legal none askable =
+first_asked o past more q legal none askable plain =
     let job : ℕ = next_job past 1 in
     let line : List ℕ = on_wire past 1 job (host_line q) in
     let asked : Entry = record { by = 0; what = Ask 1 job 0 line } in
@@ -76,14 +77,14 @@ first_asked o past more q legal none askable =
     let reads : host_reading (addressed past 1 line).1 ≡ Some q = ap host_reading (wired_so past job (host_line q) none) ∙ canonical_read q (test_askable q askable) in
     let own : part_from 1 job past (asked ∷ more) ≡ record { side = Host; at = length past; text = (addressed past 1 line).1 } ∷ part_from 1 job (past ++ asked ∷ []) more = rw (same job) refl in
     let whole : part (past ++ asked ∷ more) 1 job ≡ part past 1 job ++ part_from 1 job past (asked ∷ more) = part_from-append 1 job [] past (asked ∷ more) (λ p. refl) in
-    rw (whole, fresh, own) reads
+    rw (whole, fresh, own) (ap (λ (r : Option HostMessage). asked_by r (part_from 1 job (past ++ asked ∷ []) more)) reads ∙ plain_asked q (part_from 1 job (past ++ asked ∷ []) more) plain)
 
-settled_told : (c c' : ChildValue) (q : HostMessage) (v : Verdict) → IsLinked c → is_askable q ≡ true → Legal c'.opening c'.journal → IsSettled c.opening c.journal c'.journal 0 1 0 q v → IsTold q c c' v
-settled_told c c' q v l askable legal s =
+settled_told : (c c' : ChildValue) (q : HostMessage) (v : Verdict) → IsLinked c → is_askable q ≡ true → IsLead q [] → Legal c'.opening c'.journal → IsSettled c.opening c.journal c'.journal 0 1 0 None q v → IsTold q c c' v
+settled_told c c' q v l askable plain legal s =
     let job : ℕ = next_job c.journal 1 in
     let asked : Entry = record { by = 0; what = Ask 1 job 0 (on_wire c.journal 1 job (host_line q)) } in
     let is : c'.journal ≡ c.journal ++ asked ∷ s.goes.more = s.goes.is ∙ append_assoc c.journal (asked ∷ []) s.goes.more in
-    let first : request_in (part c'.journal 1 job) ≡ Some q = ap (λ (j : List Entry). request_in (part j 1 job)) is ∙ first_asked c.opening c.journal s.goes.more q l.legal (untagged c l) askable in
+    let first : request_in (part c'.journal 1 job) ≡ Some q = ap (λ (j : List Entry). request_in (part j 1 job)) is ∙ first_asked c.opening c.journal s.goes.more q l.legal (untagged c l) askable plain in
     let replies = replies_at c'.opening c'.journal in
     by_part replies q (part c'.journal 1 job) v first (subst (λ (x : Option Verdict). Fits replies (part c'.journal 1 job) x) s.settled (parts_fit c'.opening c'.journal legal 1 job))
 
@@ -91,6 +92,6 @@ lost_told : (c c' : ChildValue) (q : HostMessage) (v : Verdict) (why : Option Wh
 lost_told c c' q v None e = subst (IsTold q c c') (sym e) tt
 lost_told c c' q v (Some why) e = subst (IsTold q c c') (sym e) tt
 
-pub asked_told : (c c' : ChildValue) (q : HostMessage) (v : Verdict) → IsLinked c → is_askable q ≡ true → Legal c'.opening c'.journal → AskedAlone c.opening c.journal c'.journal 0 1 0 q v → IsTold q c c' v
-asked_told c c' q v l askable legal (inl s) = settled_told c c' q v l askable legal s
-asked_told c c' q v l askable legal (inr g) = lost_told c c' q v (why_of c.journal 1) g.lost
+pub asked_told : (c c' : ChildValue) (q : HostMessage) (v : Verdict) → IsLinked c → is_askable q ≡ true → IsLead q [] → Legal c'.opening c'.journal → AskedAlone c.opening c.journal c'.journal 0 1 0 None q v → IsTold q c c' v
+asked_told c c' q v l askable plain legal (inl s) = settled_told c c' q v l askable plain legal s
+asked_told c c' q v l askable plain legal (inr g) = lost_told c c' q v (why_of c.journal 1) g.lost

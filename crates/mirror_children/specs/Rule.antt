@@ -1,5 +1,5 @@
 -- The mirror rule: which children a call asks, in which order, and what it says.
-use Rattle.std.specs.Prelude.{ℕ, ◌≡◌, ◌==◌, ◌&&◌, ◌||◌, not, Bool, true, false, if◌then◌else◌, List, [], ◌∷◌, ◌++◌, length, Result, Ok, Err, IfSome, codes, decimal}
+use Rattle.std.specs.Prelude.{ℕ, ◌≡◌, ◌==◌, ◌&&◌, ◌||◌, not, Bool, true, false, if◌then◌else◌, List, [], ◌∷◌, ◌++◌, length, None, Result, Ok, Err, IfSome, codes, decimal}
 use Rattle.std.specs.List.{list_all, list_any, before_first}
 use Rattle.ann_key.specs.declared.bytes.NoMemory.{NoMemory}
 use Rattle.annex_model.specs.Messages.{HostMessage, Transfer, Checkpresent, Remove, is_sent_key}
@@ -48,7 +48,7 @@ IsTold q old new v = IfSome (final_in v) (λ f. Ends (replies_at new.opening new
 
 -- the request was put to the child, as its next job, and came to this verdict, or it was lost, since the child had ended or was mute
 pub record IsAsked (q : HostMessage) (old new : ChildValue) (v : Verdict) : Type 0 where
-  pub asked : AskedAlone old.opening old.journal new.journal 0 1 0 q v
+  pub asked : AskedAlone old.opening old.journal new.journal 0 1 0 None q v
   pub told : IsTold q old new v
   pub opening : new.opening ≡ old.opening
   pub number : new.number ≡ old.number

@@ -3,7 +3,7 @@ use Rattle.std.proofs.Common.{◌≡◌, ℕ, List, [], ◌∷◌, refl, ap, sub
 use Rattle.std.specs.Prelude.{◌&&◌}
 use Rattle.std.specs.List.{list_all}
 use Rattle.journal_model.specs.declared.entry.What.{What}
-use Rattle.journal_model.specs.declared.entry.What.TheVariants.{NoStart, Ask, Lost}
+use Rattle.journal_model.specs.declared.entry.What.TheVariants.{NoStart, Lead, Ask, Lost}
 use Rattle.journal_model.specs.declared.entry.Entry.{Entry}
 use Rattle.journal_model.specs.Legality.{Legal}
 use Rattle.journal_model.specs.Shares.{by_asker}
@@ -19,6 +19,7 @@ use Rattle.mirror_starts.proofs.Stopping.{sound}
 greeting_asks : (w : What) → is_of_greeting_for Serve 1 w ≡ true → by_asker 1 w ≡ true
 greeting_asks (Ask child job task line) h = (both (child == 1) (task == 0 && is_greeting_line_for Serve job line) h).0
 greeting_asks (Lost child task) h = (both (child == 1) (task == 0) h).0
+greeting_asks (Lead child job line) h = absurd (let bad : false ≡ true = h in cc)
 greeting_asks w h = h
 
 greeting_asks_all : (es : List Entry) → list_all (λ (e : Entry). is_of_greeting_for Serve 1 e.what) es ≡ true → list_all (λ (e : Entry). by_asker 1 e.what) es ≡ true

@@ -7,7 +7,7 @@ use Rattle.std.proofs.lemmas.Bool.Decides.{nat_tests}
 use Rattle.journal_model.specs.declared.verdict.Verdict.{Verdict}
 use Rattle.journal_model.specs.declared.verdict.Why.{Why}
 use Rattle.journal_model.specs.declared.entry.What.{What}
-use Rattle.journal_model.specs.declared.entry.What.TheVariants.{Claim, Start, NoStart, Ask, Put, Sent, Mute, Got, End, Verdict as Settled, Lost, Answer as Answered, Note}
+use Rattle.journal_model.specs.declared.entry.What.TheVariants.{Claim, Start, NoStart, Lead, Ask, Put, Sent, Mute, Got, End, Verdict as Settled, Lost, Answer as Answered, Note}
 use Rattle.journal_model.specs.declared.entry.Entry.{Entry}
 use Rattle.journal_model.specs.declared.opening.Opening.{Opening}
 use Rattle.journal_model.specs.Journal.{any, asks, asked_jobs, each_of, ends, is_ended, is_open, is_started, open_jobs, starts, verdict_of, why_of, writes}
@@ -36,6 +36,7 @@ use Rattle.pool_starts.specs.Slots.{in_pool, offers_tags}
 -- ---- one entry of the child
 
 pub own_in : (c : ℕ) (w : What) → is_of_child c w ≡ true → in_stint c w ≡ true
+own_in c (Lead child job line) h = h
 own_in c (Ask child job task line) h = h
 own_in c (Put child job line) h = h
 own_in c (Sent child) h = h
@@ -76,6 +77,7 @@ own_pool first c le w h = go w h
     at child e = low first child (let is = same_number child c e in omega (arith, is, le))
 
     go : (w : What) → is_of_child c w ≡ true → in_pool first w ≡ true
+    go (Lead child job line) e = at child e
     go (Ask child job task line) e = at child e
     go (Put child job line) e = at child e
     go (Sent child) e = at child e
@@ -226,6 +228,11 @@ unwritten c (e ∷ xs) h = go e.what h (unwritten c xs)
     go (Ask child job task line) k r = by (child == c) k
       where
         by : (b : Bool) → cons_option (cond b (Some (Some job, line)) None) (each_of (writes c) xs) ≡ [] → ((b && job == 1 && asks_prepare line) || any (prepares c) xs) ≡ false
+        by true x = absurd cc
+        by false x = r x
+    go (Lead child job line) k r = by (child == c) k
+      where
+        by : (b : Bool) → cons_option (cond b (Some (None, line)) None) (each_of (writes c) xs) ≡ [] → any (prepares c) xs ≡ false
         by true x = absurd cc
         by false x = r x
     go (Put child job line) k r = by (child == c) k

@@ -2,7 +2,7 @@
 use Rattle.std.specs.Prelude.{ℕ, zero, suc, ◌≡◌, ◌≤◌, ◌<◌, ◌+◌, ◌==◌, ◌&&◌, ◌||◌, not, if◌then◌else◌, min, nat_le, Bool, true, false, List, [], ◌∷◌, ◌++◌, length, Option, Some, None, option_and_then, unwrap_or}
 use Rattle.std.specs.List.{last_or, list_any}
 use Rattle.journal_model.specs.declared.entry.What.{What}
-use Rattle.journal_model.specs.declared.entry.What.TheVariants.{Claim, Start, NoStart, Ask, Put, Sent, Mute, Got, End, Verdict as Settled, Lost, Answer as Answered, Note}
+use Rattle.journal_model.specs.declared.entry.What.TheVariants.{Claim, Start, NoStart, Lead, Ask, Put, Sent, Mute, Got, End, Verdict as Settled, Lost, Answer as Answered, Note}
 use Rattle.journal_model.specs.declared.entry.Entry.{Entry}
 use Rattle.journal_model.specs.declared.opening.Opening.{Opening}
 use Rattle.journal_model.specs.Journal.{each_of, is_mute, why_of}
@@ -99,6 +99,7 @@ abbrev pub in_pool : ℕ → What → Bool
 in_pool first (Claim task child) = true
 in_pool first (Start child slot offer) = nat_le first child && not (slot == 0)
 in_pool first (NoStart slot) = not (slot == 0)
+in_pool first (Lead child job line) = nat_le first child
 in_pool first (Ask child job task line) = nat_le first child
 in_pool first (Put child job line) = nat_le first child
 in_pool first (Sent child) = nat_le first child

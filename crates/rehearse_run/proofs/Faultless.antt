@@ -16,7 +16,7 @@ use Rattle.journal_model.specs.Due.{due_after, due_by, made_by}
 use Rattle.journal_model.specs.Journal.{any, ends, is_ended, is_live, is_mute, is_started, mutes, open_jobs, starts, why_of}
 use Rattle.journal_model.specs.Legality.{Legal, count, may_come, may_stop}
 use Rattle.journal_model.proofs.Fresh.{fresh}
-use Rattle.journal_model.proofs.Growing.{Legal-induction}
+use Rattle.journal_model.proofs.Growing.{Near, Legal-induction}
 use Rattle.journal_model.proofs.Linking.{why_alone, why_of-append}
 use Rattle.journal_model.proofs.Looks.{any-append, both, either_left, either_right, same, same_number}
 use Rattle.journal_model.proofs.Soft.{is_soft, soft_got, soft_mute, soft_verdicts}
@@ -66,7 +66,7 @@ pub no_read_fault : (o : Opening) (journal : List Entry) → Legal o journal →
 no_read_fault o journal legal =
     Legal-induction o (λ past. ((c : ℕ) → why_of past c ≡ Some ReadFault → ⊥) → any is_read_fault past ≡ false) (λ none. refl) step journal legal
   where
-    step : (p : List Entry) (e : Entry) → Legal o p → (((c : ℕ) → why_of p c ≡ Some ReadFault → ⊥) → any is_read_fault p ≡ false) → may_come o p e.by e.what ≡ true
+    step : (p : List Entry) (e : Entry) → Near o p → (((c : ℕ) → why_of p c ≡ Some ReadFault → ⊥) → any is_read_fault p ≡ false) → may_come o p e.by e.what ≡ true
         → ((c : ℕ) → why_of (p ++ e ∷ due_after o p e) c ≡ Some ReadFault → ⊥) → any is_read_fault (p ++ e ∷ due_after o p e) ≡ false
     step p e l before may none =
         any-append is_read_fault p (e ∷ due_after o p e)

@@ -5,7 +5,7 @@ use Rattle.std.specs.List.{list_all, list_any, cons_option}
 use Rattle.journal_model.specs.declared.verdict.Why.{Why}
 use Rattle.journal_model.specs.declared.verdict.Verdict.{Verdict}
 use Rattle.journal_model.specs.declared.entry.What.{What}
-use Rattle.journal_model.specs.declared.entry.What.TheVariants.{Claim, Start, NoStart, Ask, Put, Sent, Mute, Got, End, Verdict as Settled, Lost, Answer as Answered, Note as Noted}
+use Rattle.journal_model.specs.declared.entry.What.TheVariants.{Claim, Start, NoStart, Lead, Ask, Put, Sent, Mute, Got, End, Verdict as Settled, Lost, Answer as Answered, Note as Noted}
 use Rattle.journal_model.specs.declared.entry.Entry.{Entry}
 use Rattle.journal_model.specs.Journal.{any, each_of}
 use Rattle.journal_model.proofs.Looks.{both, same_number}
@@ -35,6 +35,7 @@ of_link f v c (Settled d j verdict) h = v.settled d j verdict
 of_link f v c (Claim task child) h = absurd cc
 of_link f v c (Start child slot offer) h = absurd cc
 of_link f v c (NoStart slot) h = absurd cc
+of_link f v c (Lead child job line) h = absurd cc
 of_link f v c (Ask child job task line) h = absurd cc
 of_link f v c (Lost child task) h = absurd cc
 of_link f v c (Answered task answer) h = absurd cc
@@ -54,6 +55,7 @@ of_greeting f v c (Mute c') h = v.mute c'
 of_greeting f v c (Got c' line) h = v.got c' line
 of_greeting f v c (End c' why) h = v.ended c' why
 of_greeting f v c (Settled c' j verdict) h = v.settled c' j verdict
+of_greeting f v c (Lead child job line) h = absurd cc
 of_greeting f v c (Claim task child) h = absurd cc
 of_greeting f v c (Start child slot offer) h = absurd cc
 of_greeting f v c (NoStart slot) h = absurd cc

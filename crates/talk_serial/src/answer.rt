@@ -1,7 +1,7 @@
 // What one message is, as a line of an answer.
 ghost use Rattle.std.specs.Prelude.{◌≡◌, ◌∷◌, [], List, ℕ, Some, None, true, false, if◌then◌else◌, bytes_eq};
 ghost use Rattle.ann_key.specs.KeyRefs.{text_of};
-ghost use Rattle.annex_model.specs.Messages.{AskExtensions, Prepare, Initremote, Transfer, Checkpresent, Remove, Getcost, Getavailability, Whereis};
+ghost use Rattle.annex_model.specs.Messages.{AskExtensions, Prepare, Initremote, Transfer, Checkpresent, Remove, Getcost, Getavailability, Whereis, Exportsupported, Transferexport, Checkpresentexport, Removeexport, Renameexport};
 ghost use Rattle.annex_model.specs.Talks.{is_aside, is_same, is_unsupported, is_infofield, one_line};
 ghost use Rattle.wire_msg.specs.Shown.{remote_shown};
 ghost use Rattle.talk_serial.specs.Requests.{message_of};
@@ -154,7 +154,8 @@ fn init_remote(message: &RemoteMsg<'_>) -> Option<Final>
 }
 
 fn transfer(store: bool, key: &Key, message: &RemoteMsg<'_>) -> Option<Final>
-    ensures { (file : List ℕ) → result ≡ one_line (Transfer store key.now file) (remote_shown message.now) }
+    ensures plain { (file : List ℕ) → result ≡ one_line (Transfer store key.now file) (remote_shown message.now) }
+    ensures exported { (file : List ℕ) → result ≡ one_line (Transferexport store key.now file) (remote_shown message.now) }
 {
     match message {
         RemoteMsg::TransferSuccess(direction, said) => {
@@ -171,7 +172,8 @@ fn transfer(store: bool, key: &Key, message: &RemoteMsg<'_>) -> Option<Final>
 }
 
 fn check_present(key: &Key, message: &RemoteMsg<'_>) -> Option<Final>
-    ensures { result ≡ one_line (Checkpresent key.now) (remote_shown message.now) }
+    ensures plain { result ≡ one_line (Checkpresent key.now) (remote_shown message.now) }
+    ensures exported { result ≡ one_line (Checkpresentexport key.now) (remote_shown message.now) }
 {
     match message {
         RemoteMsg::CheckpresentSuccess(said) => last_if(names(said, key), Final::Done),
@@ -182,7 +184,8 @@ fn check_present(key: &Key, message: &RemoteMsg<'_>) -> Option<Final>
 }
 
 fn remove(key: &Key, message: &RemoteMsg<'_>) -> Option<Final>
-    ensures { result ≡ one_line (Remove key.now) (remote_shown message.now) }
+    ensures plain { result ≡ one_line (Remove key.now) (remote_shown message.now) }
+    ensures exported { result ≡ one_line (Removeexport key.now) (remote_shown message.now) }
 {
     match message {
         RemoteMsg::RemoveSuccess(said) => last_if(names(said, key), Final::Done),
@@ -219,6 +222,26 @@ fn where_is(message: &RemoteMsg<'_>) -> Option<Final>
     }
 }
 
+fn export_supported(message: &RemoteMsg<'_>) -> Option<Final>
+    ensures { result ≡ one_line Exportsupported (remote_shown message.now) }
+{
+    match message {
+        RemoteMsg::ExportsupportedSuccess => Some(Final::Done),
+        RemoteMsg::ExportsupportedFailure => Some(Final::Absent),
+        _ => None,
+    }
+}
+
+fn rename(key: &Key, message: &RemoteMsg<'_>) -> Option<Final>
+    ensures { (onto : List ℕ) → result ≡ one_line (Renameexport key.now onto) (remote_shown message.now) }
+{
+    match message {
+        RemoteMsg::RenameexportSuccess(said) => last_if(names(said, key), Final::Done),
+        RemoteMsg::RenameexportFailure(said) => last_if(names(said, key), Final::Failed),
+        _ => None,
+    }
+}
+
 /// What it says as the whole answer to the request, where that has one line.
 pub(super) fn one_line(request: &Request, message: &RemoteMsg<'_>) -> Option<Final>
     ensures { result ≡ one_line (message_of request.now) (remote_shown message.now) }
@@ -233,6 +256,11 @@ pub(super) fn one_line(request: &Request, message: &RemoteMsg<'_>) -> Option<Fin
         Request::CheckPresent { key } => check_present(key, message),
         Request::Remove { key } => remove(key, message),
         Request::WhereIs { .. } => where_is(message),
+        Request::ExportSupported => export_supported(message),
+        Request::TransferExport { store, key, .. } => transfer(*store, key, message),
+        Request::CheckExport { key, .. } => check_present(key, message),
+        Request::RemoveExport { key, .. } => remove(key, message),
+        Request::RenameExport { key, .. } => rename(key, message),
         Request::ListConfigs | Request::GetInfo => None,
     }
 }

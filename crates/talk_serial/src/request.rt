@@ -1,11 +1,12 @@
-ghost use Rattle.std.specs.Prelude.{◌≡◌, true, false, IfOk, IfSome, IsNone, bytes_eq};
+ghost use Rattle.std.specs.Prelude.{◌≡◌, true, false, None, Some, IfOk, IfSome, IsNone, bytes_eq, option_map};
 ghost use Rattle.std.specs.Str.{is_utf8};
 ghost use Rattle.ann_key.specs.KeyRefs.{text_of};
-ghost use Rattle.annex_model.specs.Messages.{Transfer};
+ghost use Rattle.annex_model.specs.Messages.{Transfer, Transferexport, Renameexport};
 ghost use Rattle.wire_msg.specs.Shown.{host_shown};
 ghost use Rattle.annex_model.specs.Extensions.{names_of};
 ghost use Rattle.annex_model.specs.Turns.{turn_of};
-ghost use Rattle.talk_serial.specs.Requests.{message_of, is_request};
+ghost use Rattle.talk_serial.specs.Requests.{message_of, name_of, lead_of, is_request};
+ghost use Rattle.talk_serial.specs.declared.request.Request.TheVariants.{TransferExport, RenameExport};
 
 use ann_key::{Key, KeyRef, NoMemory, Text};
 use annex_model::Turn;
@@ -17,7 +18,9 @@ use wire_msg::HostMsg;
 #[derive(Drop)]
 pub enum Request {
     /// Which extensions of the protocol the remote knows. The host knows INFO and GETGITREMOTENAME, and offers ASYNC or not.
-    Extensions { offer: bool },
+    Extensions {
+        offer: bool,
+    },
     /// To get ready.
     Prepare,
     /// To set up the remote, or to check how it is set up.
@@ -31,13 +34,48 @@ pub enum Request {
     /// What is to be told of the remote.
     GetInfo,
     /// To store the file's content as the key's, or to retrieve the key's content into the file.
-    Transfer { store: bool, key: Key, file: Text },
+    Transfer {
+        store: bool,
+        key: Key,
+        file: Text,
+    },
     /// Whether the remote has the key's content.
-    CheckPresent { key: Key },
+    CheckPresent {
+        key: Key,
+    },
     /// To remove the key's content.
-    Remove { key: Key },
+    Remove {
+        key: Key,
+    },
     /// Where the key's content can be found.
-    WhereIs { key: Key },
+    WhereIs {
+        key: Key,
+    },
+    /// Whether the remote can keep files under names of their own: exports.
+    ExportSupported,
+    /// To store the file's content, which is the key's, under the name, or to retrieve into the file what is there.
+    TransferExport {
+        store: bool,
+        key: Key,
+        file: Text,
+        name: Text,
+    },
+    /// Whether the key's content is there under the name.
+    CheckExport {
+        key: Key,
+        name: Text,
+    },
+    /// To remove the key's content under the name.
+    RemoveExport {
+        key: Key,
+        name: Text,
+    },
+    /// To give the key's content under the name another one.
+    RenameExport {
+        key: Key,
+        name: Text,
+        onto: Text,
+    },
 }
 
 /// The names of extensions that an EXTENSIONS of the host lists, with ASYNC where it is offered.
@@ -93,8 +131,86 @@ fn transfer(
     }
 }
 
+/// The text; None where the bytes are none.
+#[tactic(auto, using(crate::proofs::Reading::no_text))]
+fn text(alloc: Global, bytes: &[u8]) -> Result<Option<Text>, NoMemory>
+    ensures same { IfOk result (λ r. IfSome r (λ t. t ≡ bytes.now)) }
+    ensures none { IfOk result (λ r. IsNone r → is_utf8 bytes.now ≡ false) }
+{
+    match str::from_utf8(bytes) {
+        Ok(text) => Ok(Some(Text::copy(alloc, text)?)),
+        Err(_) => Ok(None),
+    }
+}
+
+/// The request that transfers an exported file, without its name, where the file's name is text.
+fn transfer_export(
+    alloc: Global,
+    store: bool,
+    key: KeyRef<'_>,
+    file: &[u8],
+) -> Result<Option<Request>, NoMemory>
+    ensures asks { IfOk result (λ r. IfSome r (λ r. message_of r ≡ Transferexport store (text_of key.entry) file.now)) }
+    ensures none { IfOk result (λ r. IsNone r → is_utf8 file.now ≡ false) }
+{
+    match text(alloc, file)? {
+        Some(file) => Ok(Some(Request::TransferExport {
+            store,
+            key: Key::copy(alloc, key)?,
+            file,
+            name: Text::from_string(String::new(alloc)),
+        })),
+        None => Ok(None),
+    }
+}
+
+/// The request that renames, without the name that it has, where the new one is text.
+fn rename_export(alloc: Global, key: KeyRef<'_>, onto: &[u8]) -> Result<Option<Request>, NoMemory>
+    ensures asks { IfOk result (λ r. IfSome r (λ r. message_of r ≡ Renameexport (text_of key.entry) onto.now)) }
+    ensures none { IfOk result (λ r. IsNone r → is_utf8 onto.now ≡ false) }
+{
+    match text(alloc, onto)? {
+        Some(onto) => Ok(Some(Request::RenameExport {
+            key: Key::copy(alloc, key)?,
+            name: Text::from_string(String::new(alloc)),
+            onto,
+        })),
+        None => Ok(None),
+    }
+}
+
+fn copy_transfer(
+    alloc: Global,
+    store: bool,
+    key: &Key,
+    file: &Text,
+    name: &Text,
+) -> Result<Request, NoMemory>
+    ensures { IfOk result (λ r. r ≡ TransferExport store key.now file.now name.now) }
+{
+    let key = Key::copy(alloc, key.view())?;
+    let file = Text::copy(alloc, file.view())?;
+    let name = Text::copy(alloc, name.view())?;
+    Ok(Request::TransferExport {
+        store,
+        key,
+        file,
+        name,
+    })
+}
+
+fn copy_rename(alloc: Global, key: &Key, name: &Text, onto: &Text) -> Result<Request, NoMemory>
+    ensures { IfOk result (λ r. r ≡ RenameExport key.now name.now onto.now) }
+{
+    let key = Key::copy(alloc, key.view())?;
+    let name = Text::copy(alloc, name.view())?;
+    let onto = Text::copy(alloc, onto.view())?;
+    Ok(Request::RenameExport { key, name, onto })
+}
+
 impl Request {
-    /// The request that the message asks; None exactly where no request does.
+    /// The request that the message asks; None exactly where no request does. A name that is said before the message isn't in it, and
+    /// is empty here.
     #[tactic(auto, using(crate::proofs::Reading::same_offer, crate::proofs::Reading::unoffered))]
     pub fn read(alloc: Global, message: &HostMsg<'_>) -> Result<Option<Request>, NoMemory>
         ensures asks { IfOk result (λ r. IfSome r (λ r. message_of r ≡ host_shown message.now)) }
@@ -124,13 +240,53 @@ impl Request {
                 let key = Key::copy(alloc, *key)?;
                 Ok(Some(Request::WhereIs { key }))
             }
-            HostMsg::Exportsupported
-            | HostMsg::Export(_)
-            | HostMsg::Transferexport(_, _, _)
-            | HostMsg::Checkpresentexport(_)
-            | HostMsg::Removeexport(_)
-            | HostMsg::Renameexport(_, _) => Ok(None),
-            HostMsg::Value(_) | HostMsg::Creds(_, _) | HostMsg::Error(_) => Ok(None),
+            HostMsg::Exportsupported => Ok(Some(Request::ExportSupported)),
+            HostMsg::Transferexport(store, key, file) => transfer_export(alloc, *store, *key, file),
+            HostMsg::Checkpresentexport(key) => {
+                let key = Key::copy(alloc, *key)?;
+                Ok(Some(Request::CheckExport {
+                    key,
+                    name: Text::from_string(String::new(alloc)),
+                }))
+            }
+            HostMsg::Removeexport(key) => {
+                let key = Key::copy(alloc, *key)?;
+                Ok(Some(Request::RemoveExport {
+                    key,
+                    name: Text::from_string(String::new(alloc)),
+                }))
+            }
+            HostMsg::Renameexport(key, onto) => rename_export(alloc, *key, onto),
+            HostMsg::Export(_) | HostMsg::Value(_) | HostMsg::Creds(_, _) | HostMsg::Error(_) => {
+                Ok(None)
+            }
+        }
+    }
+
+    /// The same request, with this name said before it; None exactly where none is.
+    pub fn with_name(self, name: Text) -> Option<Request>
+        ensures asks { IfSome result (λ r. message_of r ≡ message_of self) }
+        ensures named { IfSome result (λ r. name_of r ≡ Some name) }
+        ensures none { IsNone result → name_of self ≡ None }
+    {
+        match self {
+            Request::TransferExport {
+                store,
+                key,
+                file,
+                ..
+            } => Some(Request::TransferExport {
+                store,
+                key,
+                file,
+                name,
+            }),
+            Request::CheckExport { key, .. } => Some(Request::CheckExport { key, name }),
+            Request::RemoveExport { key, .. } => Some(Request::RemoveExport { key, name }),
+            Request::RenameExport { key, onto, .. } => {
+                Some(Request::RenameExport { key, name, onto })
+            }
+            _ => None,
         }
     }
 
@@ -148,7 +304,12 @@ impl Request {
             | Request::Transfer { .. }
             | Request::CheckPresent { .. }
             | Request::Remove { .. }
-            | Request::WhereIs { .. } => Turn::Later,
+            | Request::WhereIs { .. }
+            | Request::ExportSupported
+            | Request::TransferExport { .. }
+            | Request::CheckExport { .. }
+            | Request::RemoveExport { .. }
+            | Request::RenameExport { .. } => Turn::Later,
         }
     }
 
@@ -170,6 +331,42 @@ impl Request {
             Request::CheckPresent { key } => HostMsg::Checkpresent(key.view()),
             Request::Remove { key } => HostMsg::Remove(key.view()),
             Request::WhereIs { key } => HostMsg::Whereis(key.view()),
+            Request::ExportSupported => HostMsg::Exportsupported,
+            Request::TransferExport {
+                store,
+                key,
+                file,
+                ..
+            } => HostMsg::Transferexport(*store, key.view(), file.view().as_bytes()),
+            Request::CheckExport { key, .. } => HostMsg::Checkpresentexport(key.view()),
+            Request::RemoveExport { key, .. } => HostMsg::Removeexport(key.view()),
+            Request::RenameExport { key, onto, .. } => {
+                HostMsg::Renameexport(key.view(), onto.view().as_bytes())
+            }
+        }
+    }
+
+    /// The name that a request of an exported file says before its own message; None exactly for all other requests.
+    pub fn name(&self) -> Option<&Text>
+        ensures { option_map (λ t. t.now) result ≡ name_of self.now }
+    {
+        match self {
+            Request::TransferExport { name, .. }
+            | Request::CheckExport { name, .. }
+            | Request::RemoveExport { name, .. }
+            | Request::RenameExport { name, .. } => Some(name),
+            _ => None,
+        }
+    }
+
+    /// The message that is said before its own: `EXPORT` with the name of an exported file; None exactly for all other requests. It takes
+    /// no memory.
+    pub fn lead(&self) -> Option<HostMsg<'_>>
+        ensures { option_map host_shown result ≡ lead_of self.now }
+    {
+        match self.name() {
+            Some(name) => Some(HostMsg::Export(name.view().as_bytes())),
+            None => None,
         }
     }
 
@@ -206,6 +403,24 @@ impl Request {
                 let key = Key::copy(alloc, key.view())?;
                 Ok(Request::WhereIs { key })
             }
+            Request::ExportSupported => Ok(Request::ExportSupported),
+            Request::TransferExport {
+                store,
+                key,
+                file,
+                name,
+            } => copy_transfer(alloc, *store, key, file, name),
+            Request::CheckExport { key, name } => {
+                let key = Key::copy(alloc, key.view())?;
+                let name = Text::copy(alloc, name.view())?;
+                Ok(Request::CheckExport { key, name })
+            }
+            Request::RemoveExport { key, name } => {
+                let key = Key::copy(alloc, key.view())?;
+                let name = Text::copy(alloc, name.view())?;
+                Ok(Request::RemoveExport { key, name })
+            }
+            Request::RenameExport { key, name, onto } => copy_rename(alloc, key, name, onto),
         }
     }
 }

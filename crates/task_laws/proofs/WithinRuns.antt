@@ -14,8 +14,8 @@ use Rattle.journal_model.specs.Journal.{any, addressed}
 use Rattle.journal_model.specs.Due.{due_after}
 use Rattle.journal_model.specs.Makers.{is_of_task}
 use Rattle.journal_model.specs.Legality.{Legal, may_come, claims, answers, is_claimed, is_answered, count, may_work}
-use Rattle.journal_model.proofs.Growing.{Legal-induction}
-use Rattle.journal_model.proofs.Holding.{held_unanswered}
+use Rattle.journal_model.proofs.Growing.{Near, Legal-induction}
+use Rattle.journal_model.proofs.Holding.{held_near}
 use Rattle.journal_model.proofs.Looks.{entry}
 use Rattle.journal_model.proofs.Working.{due_untasked, worker, ask_work, claimed_once}
 use Rattle.task_run.specs.Askings.{TaskStretch, past_claim}
@@ -77,7 +77,7 @@ none_held u past (e ∷ xs) h = by_what e.what h (none_held u (past ++ e ∷ [])
 all_held : (o : Opening) (journal : List Entry) (u : ℕ) → 0 < u → Legal o journal → are_held u [] journal ≡ true
 all_held o journal u pos legal = Legal-induction o (λ p. are_held u [] p ≡ true) refl (λ past e l before may. step past e.by e.what l before may) journal legal
   where
-    step : (past : List Entry) (by : ℕ) (w : What) → Legal o past → are_held u [] past ≡ true → may_come o past by w ≡ true → are_held u [] (past ++ entry by w ∷ due_after o past (entry by w)) ≡ true
+    step : (past : List Entry) (by : ℕ) (w : What) → Near o past → are_held u [] past ≡ true → may_come o past by w ≡ true → are_held u [] (past ++ entry by w ∷ due_after o past (entry by w)) ≡ true
     step past by w l before may = held-append u [] past (entry by w ∷ due_after o past (entry by w)) before (by_what w may)
       where
         by_what : (v : What) → may_come o past by v ≡ true → ((not (asks_of u v) || (is_claimed past u && not (is_answered past u))) && are_held u (past ++ entry by w ∷ []) (due_after o past (entry by w))) ≡ true
@@ -94,7 +94,7 @@ all_held o journal u pos legal = Legal-induction o (λ p. are_held u [] p ≡ tr
                 by_test true e =
                     let is : task ≡ u = eqb-true task u e in
                     let work : may_work past by u child ≡ true = subst (λ (k : ℕ). may_work past by k child ≡ true) is (ask_work o past by child job task line m) in
-                    sym (held_unanswered o past l u) ∙ (worker past by u child pos work).1
+                    sym (held_near o past l u) ∙ (worker past by u child pos work).1
             own v m = refl
 
 -- ---- a request of the task stands while it is claimed and not answered

@@ -3,7 +3,7 @@ use Rattle.std.specs.Prelude.{ℕ, ◌≡◌, ◌==◌, not, Bool, true, false, 
 use Rattle.std.specs.List.{list_all}
 use Rattle.ann_key.specs.declared.bytes.NoMemory.{NoMemory}
 use Rattle.annex_model.specs.Lines.{has_newline}
-use Rattle.annex_model.specs.Messages.{HostMessage, Transfer}
+use Rattle.annex_model.specs.Messages.{HostMessage, Transfer, Transferexport, Renameexport}
 use Rattle.journal_model.specs.declared.verdict.Verdict.{Verdict}
 use Rattle.journal_model.specs.declared.verdict.Verdict.TheVariants.{Ended, Unsent}
 
@@ -48,6 +48,8 @@ NoteAdds old new note (Err e) = new ≡ old
 -- the file that the message names, if it names one, holds no line's end
 abbrev pub names_in_line : HostMessage → Bool
 names_in_line (Transfer store key file) = not (has_newline file)
+names_in_line (Transferexport store key file) = not (has_newline file)
+names_in_line (Renameexport key onto) = not (has_newline onto)
 names_in_line q = true
 
 -- the chunks of each layout hold something

@@ -7,7 +7,7 @@ use Rattle.link_roles.proofs.Solo.{keeps_both}
 use Rattle.child_start.specs.declared.starting.RequestOutcome.{RequestOutcome}
 use Rattle.child_start.specs.Stages.{AsksNext}
 use Rattle.child_start.proofs.Jobs.{goes_as}
-use Rattle.child_start.proofs.Requests.{greets_goes, greets_asked, early_job, asked_next, given_up_next}
+use Rattle.child_start.proofs.Requests.{greets_goes, greets_asked, asked_plain, early_job, asked_next, given_up_next}
 use Rattle.child_start.proofs.starting.ask_one.Goals as goal
 
 pub give_up_alone-requires-clause-started : goal.give_up_alone-requires-clause-started
@@ -20,7 +20,8 @@ returns-in-Ok-clause-on g c = λ mode asked.
     let by = g.D.Door.number c.args.door.now in
     let q = message_of c.args.request.now in
     greets_asked (g.D.Door.opening c.args.door.now) seen (g.D.Door.seen c.ask_alone.new.door) by c.args.link.now.ear.child q c.in-Ok.verdict c.requires.main.first c.requires.may.idle
-    (early_job seen by c.args.link.now.ear.child q mode asked c.requires.may.may) c.in-Ok.ensures.asked
+    (early_job seen by c.args.link.now.ear.child q mode asked c.requires.may.may)
+    (asked_plain (g.D.Door.opening c.args.door.now) seen (g.D.Door.seen c.ask_alone.new.door) by c.args.link.now.ear.child c.args.request.now c.in-Ok.verdict c.requires.may.kind c.in-Ok.ensures.asked)
 
 pub returns-in-Ok-clause-asks : goal.returns-in-Ok-clause-asks
 returns-in-Ok-clause-asks g c =
@@ -28,7 +29,8 @@ returns-in-Ok-clause-asks g c =
     let new = g.D.Door.seen c.ask_alone.new.door in
     subst (λ (a : RequestOutcome). AsksNext seen new c.args.link.now.ear.child a) (sym c.asked_as.ensures)
     (asked_next (g.D.Door.opening c.args.door.now) (g.D.Door.opening c.ask_alone.new.door) seen new (g.D.Door.number c.args.door.now) c.args.link.now.ear.child (message_of c.args.request.now) c.in-Ok.verdict
-    (c.ask_alone.ensures.door.legal c.requires.legal) c.requires.may.kind c.in-Ok.ensures.named c.in-Ok.ensures.asked)
+    (c.ask_alone.ensures.door.legal c.requires.legal) c.requires.may.kind c.in-Ok.ensures.named
+    (asked_plain (g.D.Door.opening c.args.door.now) seen new (g.D.Door.number c.args.door.now) c.args.link.now.ear.child c.args.request.now c.in-Ok.verdict c.requires.may.kind c.in-Ok.ensures.asked))
 
 pub returns-in-Err-clause-on : goal.returns-in-Err-clause-on
 returns-in-Err-clause-on g c = λ mode asked.

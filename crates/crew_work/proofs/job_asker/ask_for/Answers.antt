@@ -1,7 +1,7 @@
 use Rattle.std.proofs.Common.{subst}
 use Rattle.journal_model.specs.Legality.{Legal}
 use Rattle.journal_model.specs.declared.opening.Opening.{Opening}
-use Rattle.talk_serial.specs.Requests.{message_of}
+use Rattle.talk_serial.specs.Requests.{message_of, name_of}
 use Rattle.link_roles.proofs.Asking.{grows_on}
 use Rattle.lone_work.proofs.Pairs.{asked, never_untasked, passed}
 use Rattle.crew_work.proofs.Asking.{jobs_asked}
@@ -9,7 +9,7 @@ use Rattle.crew_work.proofs.job_asker.ask_for.Goals as goal
 
 pub returns-in-Ok-clause-asked : goal.returns-in-Ok-clause-asked
 returns-in-Ok-clause-asked g c =
-    asked (g.D.Door.opening c.args.door.now) (g.D.Door.number c.args.door.now) c.args.task c.args.child (message_of c.args.request.now) c.in-Ok.verdict (never_untasked c.args.task) c.requires
+    asked (g.D.Door.opening c.args.door.now) (g.D.Door.number c.args.door.now) c.args.task c.args.child (name_of c.args.request.now) (message_of c.args.request.now) c.in-Ok.verdict (never_untasked c.args.task) c.requires
     (subst (λ (o : Opening). Legal o (g.D.Door.seen c.ask_job.new.door)) c.in-Ok.ensures.door.opening (c.in-Ok.ensures.door.legal c.requires.legal)) c.in-Ok.ensures.asked
 
 pub returns-in-Err-clause-asked : goal.returns-in-Err-clause-asked
@@ -18,7 +18,7 @@ returns-in-Err-clause-asked g c =
     (subst (λ (o : Opening). Legal o (g.D.Door.seen c.ask_job.new.door)) c.in-Err.ensures.door.opening (c.in-Err.ensures.door.legal c.requires.legal)) c.in-Err.ensures.none
 
 pub returns-in-Ok-clause-grows : goal.returns-in-Ok-clause-grows
-returns-in-Ok-clause-grows g c = jobs_asked c.args.child c.args.task (message_of c.args.request.now) c.in-Ok.verdict c.in-Ok.ensures.asked
+returns-in-Ok-clause-grows g c = jobs_asked c.args.child c.args.task (name_of c.args.request.now) (message_of c.args.request.now) c.in-Ok.verdict c.in-Ok.ensures.asked
 
 pub returns-in-Err-clause-grows : goal.returns-in-Err-clause-grows
 returns-in-Err-clause-grows g c = grows_on c.in-Err.ensures.none

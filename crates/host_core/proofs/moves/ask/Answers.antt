@@ -1,17 +1,18 @@
-use Rattle.std.proofs.Common.{◌∙◌, sym}
+use Rattle.std.proofs.Common.{◌≡◌, ◌∙◌, sym, ap, true}
 use Rattle.std.specs.Prelude.{◌&&◌}
+use Rattle.annex_model.specs.Messages.{HostMessage, is_askable}
 use Rattle.journal_model.specs.Journal.{is_started}
 use Rattle.journal_model.specs.Legality.{may_ask, is_in_turn}
 use Rattle.journal_model.proofs.PartsGrow.{and_right}
 use Rattle.talk_serial.specs.Requests.{message_of}
 use Rattle.host_core.specs.Steps.{next_job}
-use Rattle.annex_model.specs.Messages.{is_askable}
 use Rattle.host_core.proofs.moves.ask.Goals as goal
 
-pub ask_line-requires : goal.ask_line-requires
-ask_line-requires c =
+pub line_of-requires : goal.line_of-requires
+line_of-requires c =
     let past = c.args.journal.now.entries in
     let child = c.args.child in
     let q = message_of c.args.request.now in
-    and_right (is_started past child && may_ask past c.args.by c.args.task child && is_in_turn past child (next_job past child) q) (is_askable q)
+    ap is_askable c.message-message.ensures
+    ∙ and_right (is_started past child && may_ask past c.args.by c.args.task child && is_in_turn past child (next_job past child) q) (is_askable q)
     (sym c.may_request.ensures ∙ c.if-not-may_request.false)

@@ -1,4 +1,4 @@
-use Rattle.std.proofs.Common.{◌≡◌, ◌<◌, ◌∙◌, ℕ, List, refl, sym, ap, subst, map, take, length, arith, inr, true, false}
+use Rattle.std.proofs.Common.{◌≡◌, ◌<◌, ◌∙◌, ℕ, List, refl, sym, ap, subst, map, take, length, arith, inr, true, false, None}
 use Rattle.std.specs.Prelude.{is_some}
 use Rattle.annex_model.specs.Messages.{HostMessage}
 use Rattle.journal_model.specs.declared.entry.Entry.{Entry}
@@ -9,7 +9,7 @@ use Rattle.link_roles.specs.Alone.{AskedAlone}
 use Rattle.link_roles.proofs.Roles.{same_both}
 use Rattle.link_roles.proofs.Solo.{keeps_own, keeps_both}
 use Rattle.info_run.specs.Askings.{Asks, MayGoOn}
-use Rattle.info_run.proofs.Asked.{may_next, goes_on, stops, asked_question, one_more, front, front_either}
+use Rattle.info_run.proofs.Asked.{may_next, goes_on, stops, asked_plain, asked_question, one_more, front, front_either}
 use Rattle.info_run.proofs.asking.ask_each.Goals as goal
 
 pub ask_alone-requires-clause-may : goal.ask_alone-requires-clause-may
@@ -39,7 +39,8 @@ returns-then-not-is_final-clause-asks g c =
     let within : c.loop-request.request-index < length c.args.requests.now = omega arith in
     let end =
     stops o (g.D.Door.opening c.ask_alone.new.door) (map message_of (take c.loop-request.request-index c.args.requests.now)) (g.D.Door.seen c.args.door.now) mid new c.args.link.now.ear.child by q (before.door.number ∙ c.requires.main.first) before.goes v
-    ((same_both before.door c.in_ok-verdict.ensures.door).legal c.requires.legal) over (subst (λ (k : ℕ). AskedAlone o mid new by k 0 q v) before.link.same_ear.0 c.in_ok-verdict.ensures.asked) in
+    ((same_both before.door c.in_ok-verdict.ensures.door).legal c.requires.legal) over (subst (λ (k : ℕ). AskedAlone o mid new by k 0 None q v) before.link.same_ear.0
+    (asked_plain o mid new by c.loop-request.link.ear.child c.request-item.result v (asked_question c.args.requests.now c.loop-request.request-index c.request-item.result c.requires.questions (omega arith) c.request-item.is) c.in_ok-verdict.ensures.asked)) in
     front_either c.args.requests.now c.loop-request.request-index c.request-item.result (g.D.Door.seen c.args.door.now) new c.args.link.now.ear.child within c.request-item.is end.0
 
 pub returns-then-not-is_final-clause-comes : goal.returns-then-not-is_final-clause-comes
@@ -54,7 +55,8 @@ returns-then-not-is_final-clause-comes g c =
     let over : is_some (final_in v) ≡ false = cc in
     let end =
     stops o (g.D.Door.opening c.ask_alone.new.door) (map message_of (take c.loop-request.request-index c.args.requests.now)) (g.D.Door.seen c.args.door.now) mid new c.args.link.now.ear.child by q (before.door.number ∙ c.requires.main.first) before.goes v
-    ((same_both before.door c.in_ok-verdict.ensures.door).legal c.requires.legal) over (subst (λ (k : ℕ). AskedAlone o mid new by k 0 q v) before.link.same_ear.0 c.in_ok-verdict.ensures.asked) in
+    ((same_both before.door c.in_ok-verdict.ensures.door).legal c.requires.legal) over (subst (λ (k : ℕ). AskedAlone o mid new by k 0 None q v) before.link.same_ear.0
+    (asked_plain o mid new by c.loop-request.link.ear.child c.request-item.result v (asked_question c.args.requests.now c.loop-request.request-index c.request-item.result c.requires.questions (omega arith) c.request-item.is) c.in_ok-verdict.ensures.asked)) in
     inr end.1
 
 pub loop-request-preserved : goal.loop-request-preserved
@@ -74,7 +76,8 @@ loop-request-preserved g c =
       goes =
           subst (λ (qs : List HostMessage). MayGoOn qs old new c.args.link.now.ear.child) (one_more c.args.requests.now c.loop-request.request-index c.request-item.result within c.request-item.is)
           (goes_on o (map message_of (take c.loop-request.request-index c.args.requests.now)) old mid new c.args.link.now.ear.child by q (before.door.number ∙ c.requires.main.first) before.goes v final
-          (subst (λ (k : ℕ). AskedAlone o mid new by k 0 q v) before.link.same_ear.0 after.asked));
+          (subst (λ (k : ℕ). AskedAlone o mid new by k 0 None q v) before.link.same_ear.0
+          (asked_plain o mid new by c.loop-request.link.ear.child c.request-item.result v (asked_question c.args.requests.now c.loop-request.request-index c.request-item.result c.requires.questions (omega arith) c.request-item.is) after.asked)));
       link = keeps_both before.link after.link;
       door = same_both before.door after.door;
     }

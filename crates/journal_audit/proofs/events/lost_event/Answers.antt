@@ -5,6 +5,6 @@ use Rattle.journal_audit.proofs.Suiting.{suits_lost}
 use Rattle.journal_audit.proofs.events.lost_event.Goals as goal
 
 pub returns : goal.returns
-returns c =
-    suits_lost c.args.core.now.opening c.args.core.now.journal c.args.child c.args.task c.in_ok-request.request
+returns c = λ by.
+    suits_lost c.args.core.now.opening c.args.core.now.journal by c.args.child c.args.task c.in_ok-request.request
     (subst (λ (p : List Entry). MayBeNext p c.args.child c.in_ok-request.request) c.journal.ensures c.in_ok-request.ensures)

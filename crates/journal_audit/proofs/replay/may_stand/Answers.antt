@@ -1,5 +1,5 @@
 use Rattle.std.proofs.Common.{◌≡◌, length, ◌∙◌, sym, ap, subst, List, Some, slice_get}
-use Rattle.std.specs.Prelude.{IsTrue, ◌↔◌}
+use Rattle.std.specs.Prelude.{IsTrue, ◌↔◌, option_map}
 use Rattle.host_core.specs.CoreValue.{CoreValue}
 use Rattle.journal_model.specs.declared.entry.Entry.{Entry}
 use Rattle.journal_look.specs.Shown.{entry_shown}
@@ -12,9 +12,9 @@ pub returns-clause-next : goal.returns-clause-next
 returns-clause-next c =
     let long : c.len.result ≡ length c.args.core.now.journal = c.len.ensures ∙ ap length c.journal.ensures in
     λ past count replayed.
-    next_entry c.args.core.now.opening past (entry_shown c.args.entry) c.args.at c.args.core.now.journal c.if-len-at.core.journal c.is_at.result count replayed
+    next_entry c.args.core.now.opening past (entry_shown c.args.entry) (option_map entry_shown c.args.next) c.args.at c.args.core.now.journal c.if-len-at.core.journal c.is_at.result count replayed
     (λ level. elim c.if-len-at.branch [
-      | then-len-at+in_ok-tell w ↦ subst (λ (h : CoreValue). IsTold c.args.core.now.opening c.args.core.now.journal (entry_shown c.args.entry) h.journal) (sym w.core-is) w.in_ok-tell.ensures.told
+      | then-len-at+in_ok-tell w ↦ subst (λ (h : CoreValue). IsTold c.args.core.now.opening c.args.core.now.journal (entry_shown c.args.entry) (option_map entry_shown c.args.next) h.journal) (sym w.core-is) w.in_ok-tell.ensures.told
       | else-len-at w ↦ absurd (w.if-len-at.false (long ∙ level))
     ])
     (λ longer. elim c.if-len-at.branch [

@@ -1,12 +1,17 @@
-use Rattle.std.proofs.Common.{Option, subst}
-use Rattle.host_core.specs.declared.event.Event.{Event}
-use Rattle.journal_look.specs.Shown.{what_shown, entry_shown}
-use Rattle.journal_audit.specs.Replays.{Suits}
-use Rattle.journal_audit.proofs.Replaying.{told_event}
+use Rattle.std.proofs.Common.{refl, subst, sym}
+use Rattle.std.specs.Prelude.{option_map}
+use Rattle.journal_model.specs.declared.entry.What.{What}
+use Rattle.journal_look.specs.Shown.{entry_shown}
+use Rattle.journal_audit.specs.Replays.{IsTold}
+use Rattle.journal_audit.proofs.Replaying.{on_ok}
 use Rattle.journal_audit.proofs.replay.tell.Goals as goal
 
-pub returns-in_ok-_reply-in-Some-clause-told : goal.returns-in_ok-_reply-in-Some-clause-told
-returns-in_ok-_reply-in-Some-clause-told c =
-    told_event c.args.core.now.opening c.args.core.now.journal (entry_shown c.args.entry) c.in-Some.event c.step.new.self.journal c.requires
-    (subst (λ (x : Option Event). Suits c.args.core.now.opening c.args.core.now.journal (what_shown c.args.entry.what) x) c.in-Some.is c.in_ok-event.ensures)
-    c.in_ok-_reply-in-Some.ensures.journal
+pub returns-in-Some-clause-told : goal.returns-in-Some-clause-told
+returns-in-Some-clause-told c =
+    on_ok c.tell_name.result c.tell_name.ensures.told (λ told.
+    subst (λ (w : What). IsTold c.args.core.now.opening c.args.core.now.journal (record { by = c.args.entry.by; what = w }) (option_map entry_shown c.args.next) c.tell_name.new.core.journal)
+    (sym c.in-Some.ensures.some) (told c.in-Some.field-0-1))
+
+pub returns-in-None-clause-told : goal.returns-in-None-clause-told
+returns-in-None-clause-told c =
+    on_ok c.tell_plain.result c.tell_plain.ensures.told (λ told. told (c.in-None.ensures.none refl) (option_map entry_shown c.args.next))

@@ -8,6 +8,6 @@ pub returns-clause-front : goal.returns-clause-front
 returns-clause-front c = record {
   more = record { side = Remote; at = 13; text = codes "CHECKPRESENT-SUCCESS " ++ sample_key } ∷ [];
   begun = λ e. cc;
-  goes_on = record { replied = refl; answer = refl; last = refl };
+  goes_on = record { replied = record { lead = []; leads = refl; lines = refl }; answer = refl; last = refl };
   replied = refl;
 }

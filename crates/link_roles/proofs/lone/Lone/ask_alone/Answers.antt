@@ -1,10 +1,10 @@
 use Rattle.link_roles.proofs.Solo.{still_alone, asked_alone, keeps_alone}
-use Rattle.talk_serial.specs.Requests.{message_of}
+use Rattle.talk_serial.specs.Requests.{message_of, name_of}
 use Rattle.link_roles.proofs.lone.Lone.ask_alone.Goals as goal
 
 pub returns-in-Ok-clause-asked : goal.returns-in-Ok-clause-asked
 returns-in-Ok-clause-asked g c =
-    asked_alone (g.D.Door.opening c.args.door.now) (g.D.Door.number c.args.door.now) (g.D.Door.alone c.args.door.now) (g.D.Door.seen c.args.door.now) (g.D.Door.seen c.ask.new.door) c.args.self.now.ear.child c.args.task (message_of c.args.request.now) c.in-Ok.verdict
+    asked_alone (g.D.Door.opening c.args.door.now) (g.D.Door.number c.args.door.now) (g.D.Door.alone c.args.door.now) (g.D.Door.seen c.args.door.now) (g.D.Door.seen c.ask.new.door) c.args.self.now.ear.child c.args.task (name_of c.args.request.now) (message_of c.args.request.now) c.in-Ok.verdict
     c.requires.alone c.in-Ok.ensures.asked
 
 pub returns-in-Ok-clause-link : goal.returns-in-Ok-clause-link

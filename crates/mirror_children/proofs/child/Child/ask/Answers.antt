@@ -4,7 +4,7 @@ use Rattle.talk_serial.specs.Requests.{message_of}
 use Rattle.journal_model.specs.Journal.{is_started}
 use Rattle.mirror_children.specs.Children.{child_value, ChildValue, IsServing}
 use Rattle.mirror_children.specs.Rule.{IsAsked}
-use Rattle.mirror_children.proofs.Serving.{asked_if, may_ask, serving_if, started}
+use Rattle.mirror_children.proofs.Serving.{asked_if, asked_plain, may_ask, serving_if, started}
 use Rattle.mirror_children.proofs.child.Child.ask.Goals as goal
 
 pub ask_over-requires-clause-started : goal.ask_over-requires-clause-started
@@ -28,8 +28,10 @@ returns-clause-asked g c =
     let new : ChildValue = child_value c.self.inside.number c.ask_over.new.core c.ask_over.new.link.ear c.ask_over.new.link.mouth in
     let s : IsServing old = subst IsServing (sym c.self.view_is) c.requires.serving in
     let q = message_of c.args.request.now in
+    let plain =
+    asked_plain c.self.inside.core.opening c.self.inside.core.journal c.ask_over.new.core.journal c.self.inside.link.ear.child c.args.request.now c.ask_over.result c.requires.mirrored c.ask_over.ensures.asked in
     subst (λ (x : ChildValue). IfOk c.ask_over.result (IsAsked q x new)) c.self.view_is
-    (asked_if c.ask_over.result q old new c.self.inside.link.ear.child s.linked.child c.ask_over.ensures.asked s.linked c.requires.mirrored
+    (asked_if c.ask_over.result q old new c.self.inside.link.ear.child s.linked.child plain s.linked c.requires.mirrored
     (c.ask_over.ensures.core.legal s.linked.legal) c.ask_over.ensures.core.opening refl)
 
 pub returns-clause-serving : goal.returns-clause-serving
@@ -37,5 +39,7 @@ returns-clause-serving g c =
     let old : ChildValue = child_value c.self.inside.number c.self.inside.core c.self.inside.link.ear c.self.inside.link.mouth in
     let new : ChildValue = child_value c.self.inside.number c.ask_over.new.core c.ask_over.new.link.ear c.ask_over.new.link.mouth in
     let s : IsServing old = subst IsServing (sym c.self.view_is) c.requires.serving in
-    serving_if c.ask_over.result (message_of c.args.request.now) old new c.self.inside.link.ear.child s.linked.child c.ask_over.ensures.asked
+    let plain =
+    asked_plain c.self.inside.core.opening c.self.inside.core.journal c.ask_over.new.core.journal c.self.inside.link.ear.child c.args.request.now c.ask_over.result c.requires.mirrored c.ask_over.ensures.asked in
+    serving_if c.ask_over.result (message_of c.args.request.now) old new c.self.inside.link.ear.child s.linked.child plain
     s c.ask_over.ensures.none (c.ask_over.ensures.core.legal s.linked.legal) c.ask_over.ensures.link
