@@ -9,7 +9,7 @@ use Rattle.gathering.specs.Pairs.{Pairwise}
 -- its thread's promise is about that role, or what it holds came back from it
 abbrev pub SlotOf : {E : Type 0} → (E → E → Type 0) → Slot E → E → Type 0
 SlotOf ran (Started h) e = h.promise.0.value ≡ e
-SlotOf ran (Here b) e = CameBack ran e b
+SlotOf ran (Here b refused) e = CameBack ran e b
 
 -- each slot is of the role at its place
 abbrev pub SlotsOf : {E : Type 0} → (E → E → Type 0) → List (Slot E) → List E → Type 0

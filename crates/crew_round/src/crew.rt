@@ -7,7 +7,7 @@ use super::back::Back;
 use super::gate::Gate;
 use super::role::Role;
 use super::room::Room;
-use super::slot::{Slot, begin, begin_all, end, end_all};
+use super::slot::{Refused, Slot, begin, begin_all, end, end_all, first_refused};
 use std::marker::{Send, Sync};
 use std::sync::Wait;
 use std::thread;
@@ -45,13 +45,13 @@ fn within<
     whole: bool,
     crew: Crew<A, B, C>,
     room: Room<C>,
-) -> Crew<Back<A>, Back<B>, Back<C>>
+) -> (Crew<Back<A>, Back<B>, Back<C>>, Option<Refused>)
     requires few { vec_len crew.workers < 1000 }
     requires can { A.can_run crew.ear × B.can_run crew.mouth × All C.can_run crew.workers.items }
     requires room { vec_len crew.workers ≤ room }
-    ensures ear { CameBack A.ran crew.ear result.ear }
-    ensures mouth { CameBack B.ran crew.mouth result.mouth }
-    ensures workers { AllCameBack C.ran crew.workers.items result.workers.items }
+    ensures ear { CameBack A.ran crew.ear result.0.ear }
+    ensures mouth { CameBack B.ran crew.mouth result.0.mouth }
+    ensures workers { AllCameBack C.ran crew.workers.items result.0.workers.items }
 {
     let Crew {
         ear,
@@ -63,12 +63,17 @@ fn within<
     let mouth = begin(scope, rt, gate, 1, most, mouth);
     let workers = begin_all(scope, rt, gate, 2, most, workers, slots);
     let begins = ear.is_started() && mouth.is_started() && are_enough(whole, &workers);
+    let refused = ear
+        .refused()
+        .or(mouth.refused())
+        .or(first_refused(&workers));
     gate.open(rt, begins);
-    Crew {
+    let crew = Crew {
         workers: end_all(rt, workers, backs),
         mouth: end(rt, mouth),
         ear: end(rt, ear),
-    }
+    };
+    (crew, refused)
 }
 
 // Runs the roles, in a crew that has to be whole or not.
@@ -83,40 +88,46 @@ fn run_roles<
     most: usize,
     whole: bool,
     crew: Crew<A, B, C>,
-) -> Crew<Back<A>, Back<B>, Back<C>>
+) -> (Crew<Back<A>, Back<B>, Back<C>>, Option<Refused>)
     requires few { vec_len crew.workers < 1000 }
     requires can { A.can_run crew.ear × B.can_run crew.mouth × All C.can_run crew.workers.items }
     requires room { vec_len crew.workers ≤ room }
-    ensures ear { CameBack A.ran crew.ear result.ear }
-    ensures mouth { CameBack B.ran crew.mouth result.mouth }
-    ensures workers { AllCameBack C.ran crew.workers.items result.workers.items }
+    ensures ear { CameBack A.ran crew.ear result.0.ear }
+    ensures mouth { CameBack B.ran crew.mouth result.0.mouth }
+    ensures workers { AllCameBack C.ran crew.workers.items result.0.workers.items }
 {
     let gate = Gate::new();
     let gate = &gate;
     thread::scope(
         thread::scope_env(),
         rt,
-        move |scope| -> Crew<Back<A>, Back<B>, Back<C>>
+        move |scope| -> (Crew<Back<A>, Back<B>, Back<C>>, Option<Refused>)
             requires { A.can_run crew.ear × B.can_run crew.mouth × All C.can_run crew.workers.items × (vec_len crew.workers < 1000) × (vec_len crew.workers ≤ room) }
-            ensures { CameBack A.ran crew.ear result.ear × CameBack B.ran crew.mouth result.mouth × AllCameBack C.ran crew.workers.items result.workers.items }
+            ensures { CameBack A.ran crew.ear result.0.ear × CameBack B.ran crew.mouth result.0.mouth × AllCameBack C.ran crew.workers.items result.0.workers.items }
         { within(scope, rt, gate, most, whole, crew, room) },
     )
 }
 
 /// Runs the roles, each in a thread of its own, of which it tries to start `most`, in room that was taken before. None of them
-/// takes its first step before it is known which threads were started; without an ear, a mouth or any worker none takes one.
+/// takes its first step before it is known which threads were started; without an ear, a mouth or any worker none takes one. Beside what
+/// came back it says that a role got no thread, where that is so.
 pub fn run_crew<
     A: Role + Send + Drop,
     B: Role + Send + Drop,
     C: Role + Send + Drop,
     R: Threads + Wait + Sync,
->(rt: &R, room: Room<C>, most: usize, crew: Crew<A, B, C>) -> Crew<Back<A>, Back<B>, Back<C>>
+>(
+    rt: &R,
+    room: Room<C>,
+    most: usize,
+    crew: Crew<A, B, C>,
+) -> (Crew<Back<A>, Back<B>, Back<C>>, Option<Refused>)
     requires few { vec_len crew.workers < 1000 }
     requires can { A.can_run crew.ear × B.can_run crew.mouth × All C.can_run crew.workers.items }
     requires room { vec_len crew.workers ≤ room }
-    ensures ear { CameBack A.ran crew.ear result.ear }
-    ensures mouth { CameBack B.ran crew.mouth result.mouth }
-    ensures workers { AllCameBack C.ran crew.workers.items result.workers.items }
+    ensures ear { CameBack A.ran crew.ear result.0.ear }
+    ensures mouth { CameBack B.ran crew.mouth result.0.mouth }
+    ensures workers { AllCameBack C.ran crew.workers.items result.0.workers.items }
 {
     run_roles(rt, room, most, false, crew)
 }
@@ -135,5 +146,5 @@ pub fn run_whole_crew<
     ensures mouth { CameBack B.ran crew.mouth result.mouth }
     ensures workers { AllCameBack C.ran crew.workers.items result.workers.items }
 {
-    run_roles(rt, room, most, true, crew)
+    run_roles(rt, room, most, true, crew).0
 }

@@ -15,3 +15,4 @@ pub use crew::{Crew, run_crew, run_whole_crew};
 pub use pool::run_workers;
 pub use role::{RanFrom, Role};
 pub use room::Room;
+pub use slot::Refused;

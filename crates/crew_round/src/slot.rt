@@ -11,17 +11,42 @@ use std::snapshot::Snapshot;
 use std::sync::Wait;
 use std::thread::{PromisedHandle, Scope, Threads};
 
+/// That some role of a round got no thread: none could be made, or as many as it may have were tried. Only a round gives it, so whoever has
+/// one was told so by a round.
+#[derive(Clone, Copy, Debug, PartialEq, Eq)]
+pub struct Refused {
+    at: usize,
+}
+
 /// A role in a thread, or what came back of one for which there is none.
 #[derive(Drop)]
 pub(crate) enum Slot<E: Role> {
     Started(PromisedHandle<Back<E>, RanFrom<E>>),
-    Here(Back<E>),
+    Here(Back<E>, Refused),
 }
 
 impl<E: Role> Slot<E> {
     pub(crate) fn is_started(&self) -> bool {
         matches!(self, Slot::Started(_))
     }
+
+    /// That its role got no thread, where that is so.
+    pub(crate) fn refused(&self) -> Option<Refused> {
+        match self {
+            Slot::Started(_) => None,
+            Slot::Here(_, refused) => Some(*refused),
+        }
+    }
+}
+
+/// That the role of some slot got no thread, where that is so.
+pub(crate) fn first_refused<E: Role>(slots: &[Slot<E>]) -> Option<Refused> {
+    for slot in slots {
+        if let Some(refused) = slot.refused() {
+            return Some(refused);
+        }
+    }
+    None
 }
 
 /// Starts the role behind the gate, or keeps it where no thread can be made, or where `most` of them were tried.
@@ -38,14 +63,14 @@ pub(crate) fn begin<'s, M: 's, E: Role + Send + Drop + 's, R: Wait + Sync>(
 {
     if at >= most {
         gate.refuse(rt, at);
-        return Slot::Here(run_behind(rt, gate, at, role));
+        return Slot::Here(run_behind(rt, gate, at, role), Refused { at });
     }
     let promise = RanFrom(Snapshot::of(&role));
     match scope.spawn_with(promise, move || run_behind(rt, gate, at, role)) {
         Ok(handle) => Slot::Started(handle),
         Err(refused) => {
             gate.refuse(rt, at);
-            Slot::Here((refused.value)())
+            Slot::Here((refused.value)(), Refused { at })
         }
     }
 }
@@ -55,7 +80,7 @@ pub(crate) fn end<E: Role, R: Threads>(rt: &R, slot: Slot<E>) -> Back<E>
 {
     match slot {
         Slot::Started(handle) => handle.join(rt),
-        Slot::Here(back) => back,
+        Slot::Here(back, _) => back,
     }
 }
 

@@ -101,12 +101,12 @@ fresh_from h first (p ∷ ps) own told = (
 pub if_done : {P Q : Type 0} (o : Outcome) → (P → Q) → IfDone o P → IfDone o Q
 if_done Done f h = f h
 if_done NoMemory f h = tt
-if_done NoThreads f h = tt
+if_done (NoThreads refused) f h = tt
 
 if_kept : {P Q : Type 0} (o : Outcome) → (P → Q) → IfKept o P → IfKept o Q
 if_kept Done f h = tt
 if_kept NoMemory f h = f h
-if_kept NoThreads f h = f h
+if_kept (NoThreads refused) f h = f h
 
 module _ (h : HallValue Entry Opening) (opening : Opening) (start : List Entry) (start_is : h.start ≡ start) (fixed_is : h.fixed ≡ opening) (passes : List CorePass) (final : List Entry) (fixed : Opening)
     (over : Over h passes final fixed) (o : Outcome) where

@@ -178,8 +178,8 @@ module _ {A B W K : Type 0} (ep : A → CorePass) (ee : A → EarValue) (mp : B 
     last_own : (last : CorePass) (d : ℕ) (o : Outcome) → Settles h d (list_any has_run bs) (has_run a' || has_run b') main last o → IsPassOf h last
     last_own last d Done (inl s) = subst (IsPassOf h) (sym s.1) fresh.0.0.pass
     last_own last d Done (inr s) = s.pass
-    last_own last d NoThreads s = subst (IsPassOf h) (sym s.2) fresh.0.0.pass
-    last_own last d NoMemory s = absurd s
+    last_own last d (NoThreads refused) s = subst (IsPassOf h) (sym s.2) fresh.0.0.pass
+    last_own last d NoMemory s = subst (IsPassOf h) (sym s.2) fresh.0.0.pass
 
     main_keeps : KeepsPost (tagged_crew (ee a).child) main
     main_keeps = let one : main.number ≡ 1 = fresh.0.1 in stayed_keeps (tagged_crew (ee a).child) main (omega (arith, one)) fresh.0.0.none
@@ -203,19 +203,23 @@ module _ {A B W K : Type 0} (ep : A → CorePass) (ee : A → EarValue) (mp : B 
         crew_left last (subst (KeepsPost (tagged_crew (ee a).child)) (sym s.1) main_keeps) (ap (λ (p : CorePass). p.number) s.1 ∙ fresh.0.1) (worked last s.0)
     done_left last Done (inr s) =
         crew_left last (gave last s) (s.number ∙ fresh.0.1) (gone_through last (ep (role_of a') ∷ mp (role_of b') ∷ map wp (reverse (roles_of bs))) s.over)
-    done_left last NoThreads s = tt
+    done_left last (NoThreads refused) s = tt
     done_left last NoMemory s = tt
 
     kept_left : (last : CorePass) (d : ℕ) (o : Outcome) → Settles h d (list_any has_run bs) (has_run a' || has_run b') main last o
         → IfKept o ((last ∷ ep (role_of a') ∷ mp (role_of b') ∷ map wp (reverse (roles_of bs)) ≡ passes)
         × ((ee (role_of a') ≡ ee a) × (me (role_of b') ≡ me b)) × (map wd (reverse (roles_of bs)) ≡ desks))
     kept_left last d Done s = tt
-    kept_left last d NoThreads s = (
+    kept_left last d (NoThreads refused) s = (
       ap (λ (p : CorePass). p ∷ ep (role_of a') ∷ mp (role_of b') ∷ map wp (reverse (roles_of bs))) s.2 ∙ passes_kept s.0 s.1,
       link_kept s.0 s.1,
       desks_kept s.0 s.1,
     )
-    kept_left last d NoMemory s = absurd s
+    kept_left last d NoMemory s = (
+      ap (λ (p : CorePass). p ∷ ep (role_of a') ∷ mp (role_of b') ∷ map wp (reverse (roles_of bs))) s.2 ∙ passes_kept s.0 s.1,
+      link_kept s.0 s.1,
+      desks_kept s.0 s.1,
+    )
 
     -- ---- in terms of the kits
 
@@ -242,7 +246,7 @@ module _ {A B W K : Type 0} (ep : A → CorePass) (ee : A → EarValue) (mp : B 
               → IfKept o ((passes' ≡ passes) × (((e' ≡ e) × (m' ≡ m)) × (desks' ≡ desks)))
           go Done h = tt
           go NoMemory h = (passes'_is ∙ h.0, ((ear'_is ∙ h.1.0 ∙ ear_is, mouth'_is ∙ h.1.1 ∙ mouth_is), desks'_is ∙ h.2))
-          go NoThreads h = (passes'_is ∙ h.0, ((ear'_is ∙ h.1.0 ∙ ear_is, mouth'_is ∙ h.1.1 ∙ mouth_is), desks'_is ∙ h.2))
+          go (NoThreads refused) h = (passes'_is ∙ h.0, ((ear'_is ∙ h.1.0 ∙ ear_is, mouth'_is ∙ h.1.1 ∙ mouth_is), desks'_is ∙ h.2))
 
       pub played_same : IsSameLink e e' m m'
       played_same =

@@ -8,13 +8,13 @@ use Rattle.crew_rounds.specs.declared.outcome.Outcome.TheVariants.{Done, NoMemor
 abbrev pub IfDone : Outcome → Type 0 → Type 0
 IfDone Done P = P
 IfDone NoMemory P = Unit {0}
-IfDone NoThreads P = Unit {0}
+IfDone (NoThreads refused) P = Unit {0}
 
 -- where it didn't begin
 abbrev pub IfKept : Outcome → Type 0 → Type 0
 IfKept Done P = Unit {0}
 IfKept NoMemory P = P
-IfKept NoThreads P = P
+IfKept (NoThreads refused) P = P
 
 -- the link and the desks are as before
 abbrev pub LinkStays : {K : Type 0} → EarValue → EarValue → MouthValue → MouthValue → List K → List K → Type 0

@@ -8,7 +8,7 @@ use Rattle.journal_model.specs.Journal.{is_ended}
 use Rattle.gathering.specs.Rounds.{CorePass}
 use Rattle.link_roles.specs.Doors.{Ends}
 use Rattle.crew_rounds.specs.declared.outcome.Outcome.{Outcome}
-use Rattle.crew_rounds.specs.declared.outcome.Outcome.TheVariants.{Done, NoMemory, NoThreads}
+use Rattle.crew_rounds.specs.declared.outcome.Outcome.TheVariants.{Done}
 
 -- the pass ended the child for lack of memory, or found it ended
 pub record HasGivenUp (h : HallValue Entry Opening) (c : ℕ) (p q : CorePass) : Type 0 where
@@ -20,5 +20,4 @@ pub record HasGivenUp (h : HallValue Entry Opening) (c : ℕ) (p q : CorePass) :
 -- whether a worker ran, whether an ear or a mouth did, and what became of the main thread's pass
 abbrev pub Settles : HallValue Entry Opening → ℕ → Bool → Bool → CorePass → CorePass → Outcome → Type 0
 Settles h c worked held p q Done = ((worked ≡ true) × (q ≡ p)) ⊎ HasGivenUp h c p q
-Settles h c worked held p q NoThreads = (worked ≡ false) × (held ≡ false) × (q ≡ p)
-Settles h c worked held p q NoMemory = ⊥
+Settles h c worked held p q _ = (worked ≡ false) × (held ≡ false) × (q ≡ p)

@@ -1,4 +1,5 @@
 // What came of a round.
+use crew_round::Refused;
 
 /// What came of a round.
 #[derive(Clone, Copy, Debug, PartialEq, Eq)]
@@ -8,5 +9,5 @@ pub enum Outcome {
     /// Memory kept it from beginning.
     NoMemory,
     /// It had no threads: there was none for an ear, a mouth or any worker.
-    NoThreads,
+    NoThreads(Refused),
 }

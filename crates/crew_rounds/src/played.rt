@@ -18,7 +18,7 @@ use crate::dealt::{SharedWorker, Site, deal, take_back};
 use crate::outcome::Outcome;
 use crate::{EarRole, MouthRole};
 use ann_outside::{Desk, Sink, Source};
-use crew_round::{Back, Crew, Room, any_ran, run_crew};
+use crew_round::{Back, Crew, Refused, Room, any_ran, run_crew};
 use hall::{Hall, Pass};
 use host_core::Core;
 use journal_model::Why;
@@ -173,10 +173,12 @@ fn give_up<R: Wait>(rt: &R, hall: &Hall<Core>, pass: &mut Pass<Core>, child: u32
     events::stop(&mut door, child, Why::Memory);
 }
 
-// What came of the round. Where a role ran and no worker did, which the gate excludes and no contract does, the child is ended.
+// What came of the round. Where a role ran and no worker did, which the gate excludes and no contract does, the child is ended; and where
+// none ran though each had a thread, it is as without memory.
 fn settle<'a, I: Sink, O: Source, K: Desk + Drop, R: Wait>(
     site: &Site<'a, R>,
     backs: &Backs<'a, I, O, K, R>,
+    refused: Option<Refused>,
     main: &mut Pass<Core>,
 ) -> Outcome
     requires pass { IsPassOf site.now.hall.now main.old }
@@ -189,7 +191,10 @@ fn settle<'a, I: Sink, O: Source, K: Desk + Drop, R: Wait>(
         give_up(site.rt, site.hall, main, site.child);
         Outcome::Done
     } else {
-        Outcome::NoThreads
+        match refused {
+            Some(refused) => Outcome::NoThreads(refused),
+            None => Outcome::NoMemory,
+        }
     }
 }
 
@@ -216,7 +221,7 @@ pub(crate) fn play<
         return (kit, Outcome::NoMemory);
     };
     let (crew, mut rest) = cast(site, kit, workers);
-    let backs = run_crew(site.rt, room, most, crew);
-    let outcome = settle(site, &backs, &mut rest.main);
+    let (backs, refused) = run_crew(site.rt, room, most, crew);
+    let outcome = settle(site, &backs, refused, &mut rest.main);
     (gather(backs, rest), outcome)
 }

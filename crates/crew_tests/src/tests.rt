@@ -62,7 +62,7 @@ fn round<R: Threads + Wait + Sync>(
     let Some(room) = Room::new(alloc, crew.workers.len()) else {
         return Err(NoMemory);
     };
-    let back = run_crew(rt, room, most, crew);
+    let (back, _) = run_crew(rt, room, most, crew);
     let worked = ran_of(&back.workers);
     let counted = runs.load(Ordering::SeqCst);
     Ok((back.ear.has_run(), back.mouth.has_run(), worked, counted))
@@ -82,7 +82,7 @@ fn pool<R: Threads + Wait + Sync>(
     let Some(room) = Room::new(alloc, workers.len()) else {
         return Err(NoMemory);
     };
-    let back = run_workers(rt, room, most, workers);
+    let (back, _) = run_workers(rt, room, most, workers);
     let ran = ran_of(&back);
     Ok((back.len() as u64, ran, runs.load(Ordering::SeqCst)))
 }

@@ -26,6 +26,7 @@ use Rattle.child_end.proofs.Held.{lone_held}
 use Rattle.task_run.specs.declared.setup.Setup.{Setup}
 use Rattle.lone_work.specs.Works.{DeskTells, TaskDone}
 use Rattle.lone_rounds.proofs.Stinting.{may_close}
+use Rattle.crew_round.specs.declared.slot.Refused.{Refused}
 use Rattle.crew_rounds.specs.declared.outcome.Outcome.{Outcome}
 use Rattle.crew_rounds.specs.declared.outcome.Outcome.TheVariants.{Done, NoMemory, NoThreads}
 use Rattle.crew_rounds.specs.Outcomes.{IfDone, IfKept}
@@ -102,9 +103,9 @@ tagged_can o journal ear mouth h = record {
 pub by_done : {P : Type 0} (x : Outcome) → x ≡ Done → IfDone x P → P
 by_done {P} x e h = subst (λ (y : Outcome). IfDone y P) e h
 
-pub by_kept : {P : Type 0} (x : Outcome) → (x ≡ NoMemory) ⊎ (x ≡ NoThreads) → IfKept x P → P
+pub by_kept : {P : Type 0} (x : Outcome) → (x ≡ NoMemory) ⊎ ((refused : Refused) × (x ≡ NoThreads refused)) → IfKept x P → P
 by_kept {P} x (inl e) h = subst (λ (y : Outcome). IfKept y P) e h
-by_kept {P} x (inr e) h = subst (λ (y : Outcome). IfKept y P) e h
+by_kept {P} x (inr e) h = subst (λ (y : Outcome). IfKept y P) e.1 h
 
 -- where it didn't begin, what was done then was done from before it
 pub alone_kept : {K : Type 0} (tells : K → DeskTells) (o p : Opening) (setup : Setup) (c d : ℕ) (old mid new : List Entry) (ks is : List K) (desks' : List DeskTells) → p ≡ o → d ≡ c → mid ≡ old → is ≡ ks

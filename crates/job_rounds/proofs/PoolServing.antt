@@ -1,6 +1,6 @@
 -- What a pool's links come to while they serve: the first link alone, or a round, and then their closing.
 use Rattle.std.proofs.Common.{◌≡◌, ℕ, ◌+◌, ◌<◌, List, [], ◌∷◌, ◌++◌, refl, sym, ap, subst, ◌∙◌, length, map, true, inl, inr, slice_index_or, slice_set}
-use Rattle.std.specs.Prelude.{All}
+use Rattle.std.specs.Prelude.{All, Option, Some, None}
 use Rattle.std.specs.List.{range_with_len}
 use Rattle.std.proofs.lemmas.List.{length-map, map-append}
 use Rattle.std.proofs.lemmas.List.Elements.{All-cons, All-head, All-nil, All-tail, All-weaker}
@@ -17,12 +17,13 @@ use Rattle.child_end.proofs.Held.{lone_held}
 use Rattle.task_run.specs.declared.setup.Setup.{Setup}
 use Rattle.lone_work.specs.Works.{CanWork, DeskTells}
 use Rattle.lone_rounds.specs.Stints.{HasServed}
+use Rattle.crew_round.specs.declared.slot.Refused.{Refused}
 use Rattle.crew_rounds.specs.declared.outcome.Outcome.{Outcome}
 use Rattle.crew_rounds.specs.declared.outcome.Outcome.TheVariants.{Done, NoMemory, NoThreads}
 use Rattle.crew_rounds.specs.Outcomes.{IfDone, IfKept}
 use Rattle.crew_rounds.specs.PoolChildren.{MayServe, PoolCan}
 use Rattle.pool_rounds.specs.Pool.{AreSameLinks, PoolLeaves}
-use Rattle.job_rounds.specs.PoolSteps.{ClosesAll, RoundsPool, ServesFirst, ServesLinks}
+use Rattle.job_rounds.specs.PoolSteps.{ClosesAll, RoundsPool, ServesFirst, ServesLinks, ServesLinksUnless, ServesOne, ServesThen}
 use Rattle.job_rounds.proofs.Ends.{started_then}
 use Rattle.job_rounds.proofs.PoolClosings.{closes_held}
 use Rattle.job_rounds.proofs.PoolLinks.{all_mapped, all_unmapped, first_can, first_held, first_of_all, link_same}
@@ -106,8 +107,8 @@ module _ (o : Opening) (setup : Setup) (g mid : List Entry) (desks desks' : List
   pub alone_started : (ls ms : List LinkValue) → PoolCan o g ls → ServesFirst o setup ls g mid desks desks' → AreSameLinks ls ms → All (λ (l : LinkValue). is_started mid l.ear.child ≡ true) ms
   alone_started ls ms can s same = (let b = served_behind ls can s in still_started o g b.0 mid ls ms can same b.1)
 
-  pub alone_links : (new : List Entry) (ls ms : List LinkValue) → (Legal o g → Legal o mid) → ServesFirst o setup ls g mid desks desks' → AreSameLinks ls ms → ClosesAll (children_of ms) mid new → ServesLinks o setup g new ls ms desks desks'
-  alone_links new ls ms legal s same closed = record { mid = mid; legal = legal; done = inr s; closes = subst (λ (cs : List ℕ). ClosesAll cs mid new) (same_children ls ms same) closed }
+  pub alone_links : (new : List Entry) (ls ms : List LinkValue) → (Legal o g → Legal o mid) → ServesFirst o setup ls g mid desks desks' → AreSameLinks ls ms → ClosesAll (children_of ms) mid new → ServesOne o setup g new ls desks desks'
+  alone_links new ls ms legal s same closed = record { mid = mid; legal = legal; done = s; closes = subst (λ (cs : List ℕ). ClosesAll cs mid new) (same_children ls ms same) closed }
 
 -- ---- after a round
 
@@ -125,8 +126,9 @@ module _ (o : Opening) (setup : Setup) (g mid : List Entry) (ls ms : List LinkVa
   rounds_held = subst (λ (j : List Entry). All (λ (l : LinkValue). IsHeld j l.ear l.mouth) ms) (sym r.round.1)
       (All-weaker (λ (l : LinkValue). LoneWired (g ++ r.round.0) l.ear l.mouth) (λ (l : LinkValue). IsHeld (g ++ r.round.0) l.ear l.mouth) (λ l h. lone_held (g ++ r.round.0) l.ear l.mouth h) ms r.round.2.wired)
 
-  pub rounds_links : (new : List Entry) → AreSameLinks ls ms → ClosesAll (children_of ms) mid new → ServesLinks o setup g new ls ms desks desks'
-  rounds_links new same closed = record { mid = mid; legal = λ h. rounds_legal; done = inl r; closes = subst (λ (cs : List ℕ). ClosesAll cs mid new) (same_children ls ms same) closed }
+  pub rounds_links : (new : List Entry) → AreSameLinks ls ms → ClosesAll (children_of ms) mid new
+      → ServesThen (λ (m : List Entry). RoundsPool o setup g m ls ms desks desks') o g new ls
+  rounds_links new same closed = record { mid = mid; legal = λ h. rounds_legal; done = r; closes = subst (λ (cs : List ℕ). ClosesAll cs mid new) (same_children ls ms same) closed }
 
 -- ---- the desks of a round
 
@@ -147,12 +149,12 @@ round_beside tells o setup g mid ls ms all used used' back others m many numbere
 pub if_done : {P Q : Type 0} (x : Outcome) → (P → Q) → IfDone x P → IfDone x Q
 if_done Done f h = f h
 if_done NoMemory f h = tt
-if_done NoThreads f h = tt
+if_done (NoThreads refused) f h = tt
 
 pub if_kept : {P Q : Type 0} (x : Outcome) → (P → Q) → IfKept x P → IfKept x Q
 if_kept Done f h = tt
 if_kept NoMemory f h = f h
-if_kept NoThreads f h = f h
+if_kept (NoThreads refused) f h = f h
 
 -- ---- where no round began: what was done then was done from before it
 
@@ -166,9 +168,19 @@ module _ {L K : Type 0} (link : L → LinkValue) (tells : K → DeskTells) (o p 
       (subst (λ (xs : List L). All (λ (l : LinkValue). is_started old l.ear.child ≡ true) (map link xs)) (sym el)
       (All-weaker (MayServe o old) (λ (l : LinkValue). is_started old l.ear.child ≡ true) (λ l h. h.serves.started) (map link ls) can.each))
 
-  pub serves_kept : (setup : Setup) (new : List Entry) (ms : List LinkValue) (desks' : List DeskTells) → ServesLinks p setup mid new (map link is) ms (map tells js) desks' → ServesLinks o setup old new (map link ls) ms (map tells ks) desks'
-  serves_kept setup new ms desks' s =
-      subst (λ (q : Opening). ServesLinks q setup old new (map link ls) ms (map tells ks) desks') eo
-      (subst (λ (j : List Entry). ServesLinks p setup j new (map link ls) ms (map tells ks) desks') ej
-      (subst (λ (xs : List L). ServesLinks p setup mid new (map link xs) ms (map tells ks) desks') el
-      (subst (λ (xs : List K). ServesLinks p setup mid new (map link is) ms (map tells xs) desks') ek s)))
+  pub serves_kept : (setup : Setup) (new : List Entry) (desks' : List DeskTells) → ServesOne p setup mid new (map link is) (map tells js) desks' → ServesOne o setup old new (map link ls) (map tells ks) desks'
+  serves_kept setup new desks' s =
+      subst (λ (q : Opening). ServesOne q setup old new (map link ls) (map tells ks) desks') eo
+      (subst (λ (j : List Entry). ServesOne p setup j new (map link ls) (map tells ks) desks') ej
+      (subst (λ (xs : List L). ServesOne p setup mid new (map link xs) (map tells ks) desks') el
+      (subst (λ (xs : List K). ServesOne p setup mid new (map link is) (map tells xs) desks') ek s)))
+
+-- ---- whoever did the tasks
+
+pub by_one : (o : Opening) (setup : Setup) (old new : List Entry) (ls ms : List LinkValue) (desks desks' : List DeskTells) → ServesOne o setup old new ls desks desks' → ServesLinks o setup old new ls ms desks desks'
+by_one o setup old new ls ms desks desks' s = record { mid = s.mid; legal = s.legal; done = inr s.done; closes = s.closes }
+
+pub by_either : (alone : Option Refused) (o : Opening) (setup : Setup) (old new : List Entry) (ls ms : List LinkValue) (desks desks' : List DeskTells)
+    → ServesLinksUnless alone o setup old new ls ms desks desks' → ServesLinks o setup old new ls ms desks desks'
+by_either None o setup old new ls ms desks desks' s = record { mid = s.mid; legal = s.legal; done = inl s.done; closes = s.closes }
+by_either (Some refused) o setup old new ls ms desks desks' s = by_one o setup old new ls ms desks desks' s

@@ -1,5 +1,5 @@
 -- What is done with a pool that was gathered: a round or one worker, the closing of its children, and the wires.
-use Rattle.std.specs.Prelude.{ℕ, ◌≡◌, ◌⊎◌, ◌+◌, List, [], ◌∷◌, ◌++◌, length}
+use Rattle.std.specs.Prelude.{ℕ, ◌≡◌, ◌⊎◌, ◌+◌, List, [], ◌∷◌, ◌++◌, Option, Some, None, length}
 use Rattle.std.specs.List.{range_with_len}
 use Rattle.journal_model.specs.declared.entry.Entry.{Entry}
 use Rattle.journal_model.specs.declared.opening.Opening.{Opening}
@@ -10,6 +10,7 @@ use Rattle.gathering.specs.Laws.{GoesOn, children_of}
 use Rattle.gathering.specs.Rounds.{LinkValue}
 use Rattle.task_run.specs.declared.setup.Setup.{Setup}
 use Rattle.lone_work.specs.Works.{DeskTells}
+use Rattle.crew_round.specs.declared.slot.Refused.{Refused}
 use Rattle.pool_rounds.specs.Pool.{PoolLeaves}
 use Rattle.pool_starts.specs.Pools.{OverBy, SeatValue, Serves}
 use Rattle.job_rounds.specs.Servings.{ServesAlone}
@@ -34,13 +35,26 @@ abbrev pub ServesFirst : Opening → Setup → List LinkValue → List Entry →
 ServesFirst o setup [] old new desks desks' = ⊥
 ServesFirst o setup (l ∷ links) old new desks desks' = ServesAlone o setup l.ear.child old new desks desks'
 
--- Tasks were done over the links by a round, or by the main thread over the first, and a legal journal stays so; then their children were
--- closed.
-pub record ServesLinks (o : Opening) (setup : Setup) (old new : List Entry) (links links' : List LinkValue) (desks desks' : List DeskTells) : Type 0 where
+-- Tasks were done so up to some entry, and a legal journal stays so; then the children were closed.
+pub record ServesThen (Done : List Entry → Type 0) (o : Opening) (old new : List Entry) (links : List LinkValue) : Type 0 where
   pub mid : List Entry
   pub legal : Legal o old → Legal o mid
-  pub done : RoundsPool o setup old mid links links' desks desks' ⊎ ServesFirst o setup links old mid desks desks'
+  pub done : Done mid
   pub closes : ClosesAll (children_of links) mid new
+
+-- tasks were done over the links by a round, or by the main thread over the first
+abbrev pub ServesLinks : Opening → Setup → List Entry → List Entry → List LinkValue → List LinkValue → List DeskTells → List DeskTells → Type 0
+ServesLinks o setup old new links links' desks desks' =
+    ServesThen (λ mid. RoundsPool o setup old mid links links' desks desks' ⊎ ServesFirst o setup links old mid desks desks') o old new links
+
+-- tasks were done over the first of the links by the main thread
+abbrev pub ServesOne : Opening → Setup → List Entry → List Entry → List LinkValue → List DeskTells → List DeskTells → Type 0
+ServesOne o setup old new links desks desks' = ServesThen (λ mid. ServesFirst o setup links old mid desks desks') o old new links
+
+-- by whether a thread was refused: tasks were done by the main thread over the first of the links, or by a round
+abbrev pub ServesLinksUnless : Option Refused → Opening → Setup → List Entry → List Entry → List LinkValue → List LinkValue → List DeskTells → List DeskTells → Type 0
+ServesLinksUnless None o setup old new links links' desks desks' = ServesThen (λ mid. RoundsPool o setup old mid links links' desks desks') o old new links
+ServesLinksUnless (Some refused) o setup old new links links' desks desks' = ServesOne o setup old new links desks desks'
 
 -- no memory was found for a round: no task was done, and the links' children were closed
 pub record StarvedLinks (old new : List Entry) (links links' : List LinkValue) (desks desks' : List DeskTells) : Type 0 where

@@ -1,5 +1,5 @@
 -- What is done over a child that is ready.
-use Rattle.std.specs.Prelude.{ℕ, ◌≡◌, ◌⊎◌, ◌+◌, Bool, true, false, List, [], ◌∷◌, Some, length}
+use Rattle.std.specs.Prelude.{ℕ, ◌≡◌, ◌⊎◌, ◌+◌, Bool, true, false, List, [], ◌∷◌, Option, Some, None, length}
 use Rattle.std.specs.List.{range_with_len}
 use Rattle.journal_model.specs.declared.verdict.Why.TheVariants.{Closed}
 use Rattle.journal_model.specs.declared.entry.Entry.{Entry}
@@ -13,6 +13,7 @@ use Rattle.gathering.specs.Laws.{GoesOn}
 use Rattle.gathering.specs.Rounds.{IsAtRest, LinkValue}
 use Rattle.task_run.specs.declared.setup.Setup.{Setup}
 use Rattle.lone_work.specs.Works.{CanWork, DeskTells}
+use Rattle.crew_round.specs.declared.slot.Refused.{Refused}
 use Rattle.crew_rounds.specs.TaggedRounds.{TaggedLeaves}
 use Rattle.child_end.specs.Programs.{ProgramsValue}
 use Rattle.child_end.specs.Wires.{WireValue}
@@ -51,6 +52,11 @@ pub record ServesRound (o : Opening) (setup : Setup) (c : ℕ) (old new : List E
 
 abbrev pub Serves : Opening → Setup → ℕ → List Entry → List Entry → List DeskTells → List DeskTells → Type 0
 Serves o setup c old new desks desks' = ServesAlone o setup c old new desks desks' ⊎ ServesRound o setup c old new desks desks'
+
+-- by whether a thread was refused: the main thread did tasks alone, or a round did
+abbrev pub ServesUnless : Option Refused → Opening → Setup → ℕ → List Entry → List Entry → List DeskTells → List DeskTells → Type 0
+ServesUnless None o setup c old new desks desks' = ServesRound o setup c old new desks desks'
+ServesUnless (Some refused) o setup c old new desks desks' = ServesAlone o setup c old new desks desks'
 
 -- no memory was found for a round: no task was done, and the child was closed
 pub record Starved (old new : List Entry) (ear ear' : EarValue) (mouth mouth' : MouthValue) (desks desks' : List DeskTells) : Type 0 where

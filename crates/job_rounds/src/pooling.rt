@@ -10,7 +10,7 @@ ghost use Rattle.crew_rounds.specs.Tagged.{link_of};
 ghost use Rattle.gathering.specs.Laws.{children_of};
 ghost use Rattle.gathering.specs.Rounds.{IsAtRest};
 ghost use Rattle.job_rounds.specs.Pools.{PoolServed};
-ghost use Rattle.job_rounds.specs.PoolSteps.{AreLaid, ClosesAll, RoundsPool, ServesFirst, ServesLinks, StarvedLinks, serving};
+ghost use Rattle.job_rounds.specs.PoolSteps.{AreLaid, ClosesAll, RoundsPool, ServesFirst, ServesLinks, ServesLinksUnless, ServesOne, StarvedLinks, serving};
 ghost use Rattle.job_rounds.specs.Servings.{CanBeServed};
 ghost use Rattle.journal_model.specs.Journal.{is_started};
 ghost use Rattle.journal_model.specs.Legality.{count, is_start};
@@ -24,6 +24,7 @@ use crate::bench::Bench;
 use ann_key::NoMemory;
 use ann_outside::{Desk, Programs, Sink, Source};
 use child_end::{close_child, finish};
+use crew_round::Refused;
 use crew_rounds::Outcome;
 use host_core::Core;
 use link_roles::{Lone, Wire};
@@ -197,7 +198,7 @@ fn serve_one<I: Sink, O: Source, K: Desk + Drop>(
     requires tasks { (bench.old.core.opening.tasks ≡ tasks.now) × AreTasks tasks.now }
     requires folder { has_newline setup.now.work ≡ false }
     requires can { PoolCan bench.old.core.opening bench.old.core.journal (map (λ l. link_of l.ear l.mouth) links.old.items) }
-    ensures serves { ServesLinks bench.old.core.opening setup.now bench.old.core.journal bench.new.core.journal (map (λ l. link_of l.ear l.mouth) links.old.items) (map (λ l. link_of l.ear l.mouth) links.new.items) (map (λ k. desk_tells (K.log k) (K.counts k)) bench.old.desks.items) (map (λ k. desk_tells (K.log k) (K.counts k)) bench.new.desks.items) }
+    ensures serves { ServesOne bench.old.core.opening setup.now bench.old.core.journal bench.new.core.journal (map (λ l. link_of l.ear l.mouth) links.old.items) (map (λ k. desk_tells (K.log k) (K.counts k)) bench.old.desks.items) (map (λ k. desk_tells (K.log k) (K.counts k)) bench.new.desks.items) }
     ensures held { All (λ l. IsHeld bench.new.core.journal l.ear l.mouth) links.new.items }
     ensures same { AreSameLinks (map (λ l. link_of l.ear l.mouth) links.old.items) (map (λ l. link_of l.ear l.mouth) links.new.items) }
     ensures core { IsSameCore bench.old.core bench.new.core }
@@ -207,8 +208,8 @@ fn serve_one<I: Sink, O: Source, K: Desk + Drop>(
     close_links(links, &mut bench.core);
 }
 
-// Does tasks over all of the links side by side, or where no thread could be started over the first, and closes all. `NoMemory`: there was
-// none for a round, and no task was done.
+// Does tasks over all of the links side by side, or where no thread could be started over the first, which is told, and closes all.
+// `NoMemory`: there was none for a round, and no task was done.
 fn serve_all<
     I: Sink + Send + Drop,
     O: Source + Send + Drop,
@@ -221,13 +222,13 @@ fn serve_all<
     setup: &Setup,
     links: Vec<Lone<I, O>>,
     bench: Bench<K>,
-) -> (Vec<Lone<I, O>>, Bench<K>, Result<(), NoMemory>)
+) -> (Vec<Lone<I, O>>, Bench<K>, Result<Option<Refused>, NoMemory>)
     requires desks { (0 < vec_len links) × (vec_len links ≤ vec_len bench.desks) × (vec_len bench.desks ≤ 64) }
     requires tasks { (bench.core.opening.tasks ≡ tasks.now) × AreTasks tasks.now }
     requires folder { has_newline setup.now.work ≡ false }
     requires can { PoolCan bench.core.opening bench.core.journal (map (λ l. link_of l.ear l.mouth) links.items) }
     ensures serves { MatchResult result.2
-        (λ _. ServesLinks bench.core.opening setup.now bench.core.journal result.1.core.journal (map (λ l. link_of l.ear l.mouth) links.items) (map (λ l. link_of l.ear l.mouth) result.0.items) (map (λ k. desk_tells (K.log k) (K.counts k)) bench.desks.items) (map (λ k. desk_tells (K.log k) (K.counts k)) result.1.desks.items))
+        (λ alone. ServesLinksUnless alone bench.core.opening setup.now bench.core.journal result.1.core.journal (map (λ l. link_of l.ear l.mouth) links.items) (map (λ l. link_of l.ear l.mouth) result.0.items) (map (λ k. desk_tells (K.log k) (K.counts k)) bench.desks.items) (map (λ k. desk_tells (K.log k) (K.counts k)) result.1.desks.items))
         (λ _. StarvedLinks bench.core.journal result.1.core.journal (map (λ l. link_of l.ear l.mouth) links.items) (map (λ l. link_of l.ear l.mouth) result.0.items) (map (λ k. desk_tells (K.log k) (K.counts k)) bench.desks.items) (map (λ k. desk_tells (K.log k) (K.counts k)) result.1.desks.items)) }
     ensures held { IfOk result.2 (λ _. All (λ l. IsHeld result.1.core.journal l.ear l.mouth) result.0.items) }
     ensures same { AreSameLinks (map (λ l. link_of l.ear l.mouth) links.items) (map (λ l. link_of l.ear l.mouth) result.0.items) }
@@ -238,15 +239,15 @@ fn serve_all<
     match outcome {
         Outcome::Done => {
             close_links(&links, &mut bench.core);
-            (links, bench, Ok(()))
+            (links, bench, Ok(None))
         }
         Outcome::NoMemory => {
             close_links(&links, &mut bench.core);
             (links, bench, Err(NoMemory))
         }
-        Outcome::NoThreads => {
+        Outcome::NoThreads(refused) => {
             serve_one(alloc, tasks, setup, &mut links, &mut bench);
-            (links, bench, Ok(()))
+            (links, bench, Ok(Some(refused)))
         }
     }
 }
@@ -278,7 +279,11 @@ fn serve_links<
     ensures desks { vec_len result.1.desks ≡ vec_len bench.desks }
 {
     if links.len() > 1 {
-        return serve_all(rt, alloc, tasks, setup, links, bench);
+        let (links, bench, served) = serve_all(rt, alloc, tasks, setup, links, bench);
+        return match served {
+            Ok(_) => (links, bench, Ok(())),
+            Err(NoMemory) => (links, bench, Err(NoMemory)),
+        };
     }
     let mut links = links;
     let mut bench = bench;

@@ -3,7 +3,7 @@ ghost use Rattle.std.specs.Prelude.{◌≡◌, ◌≤◌, ◌<◌, [], MatchResu
 ghost use Rattle.annex_model.specs.Lines.{has_newline};
 ghost use Rattle.child_end.specs.Wires.{IsHeld};
 ghost use Rattle.child_start.specs.Cores.{IsSameCore};
-ghost use Rattle.job_rounds.specs.Servings.{CanBeServed, Serves, ServesAlone, Starved};
+ghost use Rattle.job_rounds.specs.Servings.{CanBeServed, Serves, ServesAlone, ServesUnless, Starved};
 ghost use Rattle.link_roles.specs.Moves.{IsSameLink};
 ghost use Rattle.lone_work.specs.Works.{AreTasks, desk_tells};
 
@@ -11,6 +11,7 @@ use crate::bench::Bench;
 use ann_key::NoMemory;
 use ann_outside::{Desk, Sink, Source};
 use child_end::close_child;
+use crew_round::Refused;
 use crew_rounds::{Outcome, TaggedRound, round_tagged};
 use link_roles::Lone;
 use lone_rounds::serve;
@@ -51,7 +52,8 @@ pub(crate) fn serve_alone<I: Sink, O: Source, K: Desk + Drop>(
 }
 
 /// Does tasks over the child, which takes tags, with a worker for each desk, and closes it. Where no thread could be started, the main
-/// thread does them alone with the first desk. `NoMemory`: there was none for a round, and no task was done.
+/// thread does them alone with the first desk, and it is told that a thread was refused. `NoMemory`: there was none for a round, and no task
+/// was done.
 pub(crate) fn serve_round<
     I: Sink + Send + Drop,
     O: Source + Send + Drop,
@@ -64,13 +66,13 @@ pub(crate) fn serve_round<
     setup: &Setup,
     link: Lone<I, O>,
     bench: Bench<K>,
-) -> (Lone<I, O>, Bench<K>, Result<(), NoMemory>)
+) -> (Lone<I, O>, Bench<K>, Result<Option<Refused>, NoMemory>)
     requires desks { (1 < vec_len bench.desks) × (vec_len bench.desks ≤ 64) }
     requires tasks { (bench.core.opening.tasks ≡ tasks.now) × AreTasks tasks.now }
     requires folder { has_newline setup.now.work ≡ false }
     requires can { CanBeServed bench.core.opening bench.core.journal link.ear link.mouth true }
     ensures serves { MatchResult result.2
-        (λ _. Serves bench.core.opening setup.now link.ear.child bench.core.journal result.1.core.journal (map (λ k. desk_tells (K.log k) (K.counts k)) bench.desks.items) (map (λ k. desk_tells (K.log k) (K.counts k)) result.1.desks.items))
+        (λ alone. ServesUnless alone bench.core.opening setup.now link.ear.child bench.core.journal result.1.core.journal (map (λ k. desk_tells (K.log k) (K.counts k)) bench.desks.items) (map (λ k. desk_tells (K.log k) (K.counts k)) result.1.desks.items))
         (λ _. Starved bench.core.journal result.1.core.journal link.ear result.0.ear link.mouth result.0.mouth (map (λ k. desk_tells (K.log k) (K.counts k)) bench.desks.items) (map (λ k. desk_tells (K.log k) (K.counts k)) result.1.desks.items)) }
     ensures held { IsHeld result.1.core.journal result.0.ear result.0.mouth }
     ensures same { IsSameLink link.ear result.0.ear link.mouth result.0.mouth }
@@ -88,15 +90,15 @@ pub(crate) fn serve_round<
     match outcome {
         Outcome::Done => {
             close_child(&link, &mut bench.core);
-            (link, bench, Ok(()))
+            (link, bench, Ok(None))
         }
         Outcome::NoMemory => {
             close_child(&link, &mut bench.core);
             (link, bench, Err(NoMemory))
         }
-        Outcome::NoThreads => {
+        Outcome::NoThreads(refused) => {
             serve_alone(alloc, tasks, setup, &mut link, &mut bench, true);
-            (link, bench, Ok(()))
+            (link, bench, Ok(Some(refused)))
         }
     }
 }
@@ -130,7 +132,11 @@ pub(crate) fn serve_ready<
     ensures desks { vec_len result.1.desks ≡ vec_len bench.desks }
 {
     if tagged && bench.desks.len() > 1 {
-        return serve_round(rt, alloc, tasks, setup, link, bench);
+        let (link, bench, served) = serve_round(rt, alloc, tasks, setup, link, bench);
+        return match served {
+            Ok(_) => (link, bench, Ok(())),
+            Err(NoMemory) => (link, bench, Err(NoMemory)),
+        };
     }
     let mut link = link;
     let mut bench = bench;

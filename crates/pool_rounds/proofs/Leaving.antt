@@ -1,6 +1,6 @@
 -- What the workers of a round over a pool leave, put together.
 use Rattle.std.proofs.Common.{◌≡◌, List, [], ◌∷◌, map, Bool, true, false, refl, sym, ap, subst, ◌∙◌, suc, length}
-use Rattle.std.specs.Prelude.{All, reverse}
+use Rattle.std.specs.Prelude.{All, Option, Some, None, reverse}
 use Rattle.std.specs.List.{list_any}
 use Rattle.std.proofs.lemmas.List.{length-map, reverse-reverse}
 use Rattle.std.proofs.lemmas.List.Elements.{All-nil, All-cons, All-head, All-tail}
@@ -12,6 +12,7 @@ use Rattle.gathering.specs.Rounds.{CorePass, LinkValue}
 use Rattle.task_run.specs.declared.setup.Setup.{Setup}
 use Rattle.lone_work.specs.Works.{DeskTells}
 use Rattle.crew_round.specs.declared.back.Back.{Back}
+use Rattle.crew_round.specs.declared.slot.Refused.{Refused}
 use Rattle.crew_round.specs.Back.{CameBack}
 use Rattle.crew_round.specs.BackRole.{has_run, role_of}
 use Rattle.crew_rounds.specs.declared.outcome.Outcome.{Outcome}
@@ -87,20 +88,26 @@ module _ {W L K : Type 0} (wp : W → CorePass) (ww : W → L) (wd : W → K) (l
       through = through some;
     }
 
-    done : (r : Bool) → list_any has_run bs ≡ r
-        → IfDone (done_if r)
+    done : (refused : Option Refused) (r : Bool) → list_any has_run bs ≡ r
+        → IfDone (done_if r refused)
         (PoolLeft h setup (map link links) (map link (map ww (reverse (roles_of bs)))) (main ∷ map wp (reverse (roles_of bs))) (map desk desks) (map desk (map wd (reverse (roles_of bs)))))
-    done true some = left some
-    done false none = tt
+    done refused true some = left some
+    done (Some refused) false none = tt
+    done None false none = tt
 
-    kept : (r : Bool) → list_any has_run bs ≡ r
-        → IfKept (done_if r) ((main ∷ map wp (reverse (roles_of bs)) ≡ passes) × AreAsBefore links (map ww (reverse (roles_of bs))) desks (map wd (reverse (roles_of bs))))
-    kept true some = tt
-    kept false none =
+    unchanged : list_any has_run bs ≡ false
+        → (main ∷ map wp (reverse (roles_of bs)) ≡ passes) × AreAsBefore links (map ww (reverse (roles_of bs))) desks (map wd (reverse (roles_of bs)))
+    unchanged none =
         let same = stayed_same ran ws bs all none in (
           ap (λ x. main ∷ map wp (reverse x)) same ∙ sym k.passes_are,
           (ap (λ x. map ww (reverse x)) same ∙ sym k.links_are, ap (λ x. map wd (reverse x)) same ∙ sym k.desks_are),
         )
+
+    kept : (refused : Option Refused) (r : Bool) → list_any has_run bs ≡ r
+        → IfKept (done_if r refused) ((main ∷ map wp (reverse (roles_of bs)) ≡ passes) × AreAsBefore links (map ww (reverse (roles_of bs))) desks (map wd (reverse (roles_of bs))))
+    kept refused true some = tt
+    kept (Some refused) false none = unchanged none
+    kept None false none = unchanged none
 
     so_many : {X : Type 0} (f : W → X) → length (map f (reverse (roles_of bs))) ≡ length (map f (reverse ws))
     so_many f =
@@ -109,8 +116,8 @@ module _ {W L K : Type 0} (wp : W → CorePass) (ww : W → L) (wd : W → K) (l
 
     -- ---- in terms of the kits
 
-    module _ (passes' : List CorePass) (links' : List L) (desks' : List K) (o : Outcome) (passes'_is : passes' ≡ main ∷ map wp (reverse (roles_of bs)))
-        (links'_is : links' ≡ map ww (reverse (roles_of bs))) (desks'_is : desks' ≡ map wd (reverse (roles_of bs))) (outcome_is : o ≡ done_if (list_any has_run bs)) where
+    module _ (refused : Option Refused) (passes' : List CorePass) (links' : List L) (desks' : List K) (o : Outcome) (passes'_is : passes' ≡ main ∷ map wp (reverse (roles_of bs)))
+        (links'_is : links' ≡ map ww (reverse (roles_of bs))) (desks'_is : desks' ≡ map wd (reverse (roles_of bs))) (outcome_is : o ≡ done_if (list_any has_run bs) refused) where
       played_own : All (IsPassOf h) passes' × (length passes' ≡ length passes)
       played_own = (
         subst (All (IsPassOf h)) (sym (passes'_is ∙ ap (λ (l : List CorePass). main ∷ l) passes_left))
@@ -122,20 +129,20 @@ module _ {W L K : Type 0} (wp : W → CorePass) (ww : W → L) (wd : W → K) (l
       played_left : IfDone o (PoolLeft h setup (map link links) (map link links') passes' (map desk desks) (map desk desks'))
       played_left =
           subst (λ (x : Outcome). IfDone x (PoolLeft h setup (map link links) (map link links') passes' (map desk desks) (map desk desks'))) (sym outcome_is)
-          (subst (λ (x : List L). IfDone (done_if (list_any has_run bs)) (PoolLeft h setup (map link links) (map link x) passes' (map desk desks) (map desk desks'))) (sym links'_is)
-          (subst (λ (x : List CorePass). IfDone (done_if (list_any has_run bs)) (PoolLeft h setup (map link links) (map link (map ww (reverse (roles_of bs)))) x (map desk desks) (map desk desks')))
+          (subst (λ (x : List L). IfDone (done_if (list_any has_run bs) refused) (PoolLeft h setup (map link links) (map link x) passes' (map desk desks) (map desk desks'))) (sym links'_is)
+          (subst (λ (x : List CorePass). IfDone (done_if (list_any has_run bs) refused) (PoolLeft h setup (map link links) (map link (map ww (reverse (roles_of bs)))) x (map desk desks) (map desk desks')))
           (sym passes'_is)
-          (subst (λ (x : List K). IfDone (done_if (list_any has_run bs)) (PoolLeft h setup (map link links) (map link (map ww (reverse (roles_of bs)))) (main ∷ map wp (reverse (roles_of bs)))
+          (subst (λ (x : List K). IfDone (done_if (list_any has_run bs) refused) (PoolLeft h setup (map link links) (map link (map ww (reverse (roles_of bs)))) (main ∷ map wp (reverse (roles_of bs)))
           (map desk desks) (map desk x))) (sym desks'_is)
-          (done (list_any has_run bs) refl))))
+          (done refused (list_any has_run bs) refl))))
 
       played_kept : IfKept o ((passes' ≡ passes) × AreAsBefore links links' desks desks')
       played_kept =
           subst (λ (x : Outcome). IfKept x ((passes' ≡ passes) × AreAsBefore links links' desks desks')) (sym outcome_is)
-          (subst (λ (x : List CorePass). IfKept (done_if (list_any has_run bs)) ((x ≡ passes) × AreAsBefore links links' desks desks')) (sym passes'_is)
-          (subst (λ (x : List L). IfKept (done_if (list_any has_run bs)) ((main ∷ map wp (reverse (roles_of bs)) ≡ passes) × AreAsBefore links x desks desks')) (sym links'_is)
-          (subst (λ (x : List K). IfKept (done_if (list_any has_run bs)) ((main ∷ map wp (reverse (roles_of bs)) ≡ passes) × AreAsBefore links (map ww (reverse (roles_of bs))) desks x)) (sym desks'_is)
-          (kept (list_any has_run bs) refl))))
+          (subst (λ (x : List CorePass). IfKept (done_if (list_any has_run bs) refused) ((x ≡ passes) × AreAsBefore links links' desks desks')) (sym passes'_is)
+          (subst (λ (x : List L). IfKept (done_if (list_any has_run bs) refused) ((main ∷ map wp (reverse (roles_of bs)) ≡ passes) × AreAsBefore links x desks desks')) (sym links'_is)
+          (subst (λ (x : List K). IfKept (done_if (list_any has_run bs) refused) ((main ∷ map wp (reverse (roles_of bs)) ≡ passes) × AreAsBefore links (map ww (reverse (roles_of bs))) desks x)) (sym desks'_is)
+          (kept refused (list_any has_run bs) refl))))
 
       played_same : AreSameLinks (map link links) (map link links') × (length desks' ≡ length desks)
       played_same = (

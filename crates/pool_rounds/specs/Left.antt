@@ -1,5 +1,5 @@
 -- What the workers of a pool leave when their threads are joined.
-use Rattle.std.specs.Prelude.{ℕ, ◌≡◌, Bool, true, false, List, ◌∷◌, Some, map, slice_get}
+use Rattle.std.specs.Prelude.{ℕ, ◌≡◌, Bool, true, false, List, ◌∷◌, Option, Some, None, map, slice_get}
 use Rattle.hall.specs.Passes.{HallValue, IsPassOf, seen_of}
 use Rattle.journal_model.specs.declared.entry.Entry.{Entry}
 use Rattle.journal_model.specs.declared.opening.Opening.{Opening}
@@ -13,13 +13,15 @@ use Rattle.lone_work.specs.Works.{DeskTells}
 use Rattle.crew_work.specs.Crews.{Worked}
 use Rattle.crew_rounds.specs.Coming.{IsFresh}
 use Rattle.crew_rounds.specs.declared.outcome.Outcome.{Outcome}
-use Rattle.crew_rounds.specs.declared.outcome.Outcome.TheVariants.{Done, NoThreads}
+use Rattle.crew_rounds.specs.declared.outcome.Outcome.TheVariants.{Done, NoMemory, NoThreads}
+use Rattle.crew_round.specs.declared.slot.Refused.{Refused}
 use Rattle.crew_rounds.specs.Tagged.{AreFresh}
 
--- by whether a worker ran
-abbrev pub done_if : Bool → Outcome
-done_if true = Done
-done_if false = NoThreads
+-- by whether a worker ran, and whether one got no thread
+abbrev pub done_if : Bool → Option Refused → Outcome
+done_if true refused = Done
+done_if false (Some refused) = NoThreads refused
+done_if false None = NoMemory
 
 -- a worker's pass, its link, and what its desk tells
 pub record LoneTells : Type 0 where

@@ -14,7 +14,7 @@ ghost use Rattle.pool_rounds.specs.Pool.{AreAsBefore, AreSameLinks};
 
 use crate::dealt::{LoneWorker, Site, deal, take_back};
 use ann_outside::{Desk, Sink, Source};
-use crew_round::{Back, Room, any_ran, run_workers};
+use crew_round::{Back, Refused, Room, any_ran, run_workers};
 use crew_rounds::Outcome;
 use hall::Pass;
 use host_core::Core;
@@ -119,16 +119,19 @@ fn gather<'a, I: Sink + Drop, O: Source + Drop, K: Desk + Drop, R: Wait>(
     }
 }
 
-// Whether a worker ran.
+// Whether a worker ran. Where none did though each had a thread, which the gate excludes, it is as without memory.
 fn outcome_of<'a, I: Sink, O: Source, K: Desk + Drop, R: Wait>(
     backs: &Backs<'a, I, O, K, R>,
+    refused: Option<Refused>,
 ) -> Outcome
-    ensures { result ≡ done_if (list_any has_run backs.now.items) }
+    ensures { result ≡ done_if (list_any has_run backs.now.items) refused }
 {
     if any_ran(backs) {
-        Outcome::Done
-    } else {
-        Outcome::NoThreads
+        return Outcome::Done;
+    }
+    match refused {
+        Some(refused) => Outcome::NoThreads(refused),
+        None => Outcome::NoMemory,
     }
 }
 
@@ -154,7 +157,7 @@ pub(crate) fn play<
         return (kit, Outcome::NoMemory);
     };
     let (workers, rest) = cast(site, kit, workers);
-    let backs = run_workers(site.rt, room, most, workers);
-    let outcome = outcome_of(&backs);
+    let (backs, refused) = run_workers(site.rt, room, most, workers);
+    let outcome = outcome_of(&backs, refused);
     (gather(backs, rest), outcome)
 }

@@ -135,12 +135,13 @@ fn round<R: Threads + Wait + Abort + Sync>(
 fn few_threads(rt: HostRuntime) -> Result<(), Fail> {
     for threads in 0..6 {
         let left = round(&rt, rt.alloc(), threads)?;
-        let wanted = if threads < 3 {
-            Outcome::NoThreads
-        } else {
-            Outcome::Done
-        };
-        assert_eq!(rt; left.outcome, wanted, "{threads} threads");
+        let has_none = matches!(left.outcome, Outcome::NoThreads(_));
+        assert_eq!(rt; has_none, threads < 3, "{threads} threads");
+        assert_eq!(rt;
+            left.outcome == Outcome::Done,
+            threads >= 3,
+            "{threads} threads"
+        );
         assert_eq!(rt; left.desks.len(), 2);
     }
     Ok(())

@@ -41,7 +41,7 @@ pub gather-requires-clause-rooms : goal.gather-requires-clause-rooms
 gather-requires-clause-rooms g c =
     let k = c.cast-crew.ensures in
     let same = pairwise_length _ _ _ c.run_crew-backs.ensures.workers in
-    (omega (arith, same, k.rooms.0, c.cast-crew.result.0.workers.ok.0, c.run_crew-backs.result.workers.ok.0), omega (arith, same, k.rooms.1, c.cast-crew.result.0.workers.ok.0, c.run_crew-backs.result.workers.ok.0))
+    (omega (arith, same, k.rooms.0, c.cast-crew.result.0.workers.ok.0, c.run_crew-backs.result.0.workers.ok.0), omega (arith, same, k.rooms.1, c.cast-crew.result.0.workers.ok.0, c.run_crew-backs.result.0.workers.ok.0))
 
 pub gather-requires-clause-one_child : goal.gather-requires-clause-one_child
 gather-requires-clause-one_child g c = one_left (λ x. x.pass) (λ x. x.ear) (λ x. x.pass) (λ x. x.mouth) (λ x. x.pass) (λ x. x.desk) (λ k. desk_tells (g.K.Desk.log k) (g.K.Desk.counts k))
@@ -62,7 +62,7 @@ gather-requires-clause-one_child g c = one_left (λ x. x.pass) (λ x. x.ear) (λ
           (subst (λ (m : MouthValue). TaggedCan c.args.site.now.hall.now.fixed c.args.site.now.hall.now.start (link_of c.args.kit.link.ear m)) (sym c.cast-crew.ensures.link.1) c.requires.can);
       one_child = ap (λ (m : MouthValue). m.child) c.cast-crew.ensures.link.1 ∙ c.args.kit.link.one_child ∙ sym (ap (λ (e : EarValue). e.child) c.cast-crew.ensures.link.0);
     })
-    c.run_crew-backs.result.ear c.run_crew-backs.result.mouth c.run_crew-backs.result.workers.items c.run_crew-backs.ensures.ear c.run_crew-backs.ensures.mouth c.run_crew-backs.ensures.workers
+    c.run_crew-backs.result.0.ear c.run_crew-backs.result.0.mouth c.run_crew-backs.result.0.workers.items c.run_crew-backs.ensures.ear c.run_crew-backs.ensures.mouth c.run_crew-backs.ensures.workers
 
 pub returns-clause-own : goal.returns-clause-own
 returns-clause-own g c = played_own (λ x. x.pass) (λ x. x.ear) (λ x. x.pass) (λ x. x.mouth) (λ x. x.pass) (λ x. x.desk) (λ k. desk_tells (g.K.Desk.log k) (g.K.Desk.counts k))
@@ -83,10 +83,10 @@ returns-clause-own g c = played_own (λ x. x.pass) (λ x. x.ear) (λ x. x.pass) 
           (subst (λ (m : MouthValue). TaggedCan c.args.site.now.hall.now.fixed c.args.site.now.hall.now.start (link_of c.args.kit.link.ear m)) (sym c.cast-crew.ensures.link.1) c.requires.can);
       one_child = ap (λ (m : MouthValue). m.child) c.cast-crew.ensures.link.1 ∙ c.args.kit.link.one_child ∙ sym (ap (λ (e : EarValue). e.child) c.cast-crew.ensures.link.0);
     })
-    c.run_crew-backs.result.ear c.run_crew-backs.result.mouth c.run_crew-backs.result.workers.items c.run_crew-backs.ensures.ear c.run_crew-backs.ensures.mouth c.run_crew-backs.ensures.workers
+    c.run_crew-backs.result.0.ear c.run_crew-backs.result.0.mouth c.run_crew-backs.result.0.workers.items c.run_crew-backs.ensures.ear c.run_crew-backs.ensures.mouth c.run_crew-backs.ensures.workers
     c.args.kit.link.ear c.gather.result.link.ear c.args.kit.link.mouth c.gather.result.link.mouth c.gather.result.passes.items c.gather.result.desks.items c.settle-outcome.new.main c.settle-outcome.result
     c.cast-crew.ensures.link.0 c.cast-crew.ensures.link.1 c.gather.ensures.passes c.gather.ensures.desks c.gather.ensures.link.0 c.gather.ensures.link.1
-    (subst (λ (n : ℕ). Settles c.args.site.now.hall.now n (list_any has_run c.run_crew-backs.result.workers.items) (has_run c.run_crew-backs.result.ear || has_run c.run_crew-backs.result.mouth) c.cast-crew.result.1.main c.settle-outcome.new.main c.settle-outcome.result)
+    (subst (λ (n : ℕ). Settles c.args.site.now.hall.now n (list_any has_run c.run_crew-backs.result.0.workers.items) (has_run c.run_crew-backs.result.0.ear || has_run c.run_crew-backs.result.0.mouth) c.cast-crew.result.1.main c.settle-outcome.new.main c.settle-outcome.result)
     (c.requires.child ∙ sym (ap (λ (e : EarValue). e.child) c.cast-crew.ensures.link.0)) c.settle-outcome.ensures)
 
 pub returns-clause-left : goal.returns-clause-left
@@ -108,10 +108,10 @@ returns-clause-left g c = played_left (λ x. x.pass) (λ x. x.ear) (λ x. x.pass
           (subst (λ (m : MouthValue). TaggedCan c.args.site.now.hall.now.fixed c.args.site.now.hall.now.start (link_of c.args.kit.link.ear m)) (sym c.cast-crew.ensures.link.1) c.requires.can);
       one_child = ap (λ (m : MouthValue). m.child) c.cast-crew.ensures.link.1 ∙ c.args.kit.link.one_child ∙ sym (ap (λ (e : EarValue). e.child) c.cast-crew.ensures.link.0);
     })
-    c.run_crew-backs.result.ear c.run_crew-backs.result.mouth c.run_crew-backs.result.workers.items c.run_crew-backs.ensures.ear c.run_crew-backs.ensures.mouth c.run_crew-backs.ensures.workers
+    c.run_crew-backs.result.0.ear c.run_crew-backs.result.0.mouth c.run_crew-backs.result.0.workers.items c.run_crew-backs.ensures.ear c.run_crew-backs.ensures.mouth c.run_crew-backs.ensures.workers
     c.args.kit.link.ear c.gather.result.link.ear c.args.kit.link.mouth c.gather.result.link.mouth c.gather.result.passes.items c.gather.result.desks.items c.settle-outcome.new.main c.settle-outcome.result
     c.cast-crew.ensures.link.0 c.cast-crew.ensures.link.1 c.gather.ensures.passes c.gather.ensures.desks c.gather.ensures.link.0 c.gather.ensures.link.1
-    (subst (λ (n : ℕ). Settles c.args.site.now.hall.now n (list_any has_run c.run_crew-backs.result.workers.items) (has_run c.run_crew-backs.result.ear || has_run c.run_crew-backs.result.mouth) c.cast-crew.result.1.main c.settle-outcome.new.main c.settle-outcome.result)
+    (subst (λ (n : ℕ). Settles c.args.site.now.hall.now n (list_any has_run c.run_crew-backs.result.0.workers.items) (has_run c.run_crew-backs.result.0.ear || has_run c.run_crew-backs.result.0.mouth) c.cast-crew.result.1.main c.settle-outcome.new.main c.settle-outcome.result)
     (c.requires.child ∙ sym (ap (λ (e : EarValue). e.child) c.cast-crew.ensures.link.0)) c.settle-outcome.ensures)
 
 pub returns-clause-kept : goal.returns-clause-kept
@@ -133,10 +133,10 @@ returns-clause-kept g c = played_kept (λ x. x.pass) (λ x. x.ear) (λ x. x.pass
           (subst (λ (m : MouthValue). TaggedCan c.args.site.now.hall.now.fixed c.args.site.now.hall.now.start (link_of c.args.kit.link.ear m)) (sym c.cast-crew.ensures.link.1) c.requires.can);
       one_child = ap (λ (m : MouthValue). m.child) c.cast-crew.ensures.link.1 ∙ c.args.kit.link.one_child ∙ sym (ap (λ (e : EarValue). e.child) c.cast-crew.ensures.link.0);
     })
-    c.run_crew-backs.result.ear c.run_crew-backs.result.mouth c.run_crew-backs.result.workers.items c.run_crew-backs.ensures.ear c.run_crew-backs.ensures.mouth c.run_crew-backs.ensures.workers
+    c.run_crew-backs.result.0.ear c.run_crew-backs.result.0.mouth c.run_crew-backs.result.0.workers.items c.run_crew-backs.ensures.ear c.run_crew-backs.ensures.mouth c.run_crew-backs.ensures.workers
     c.args.kit.link.ear c.gather.result.link.ear c.args.kit.link.mouth c.gather.result.link.mouth c.gather.result.passes.items c.gather.result.desks.items c.settle-outcome.new.main c.settle-outcome.result
     c.cast-crew.ensures.link.0 c.cast-crew.ensures.link.1 c.gather.ensures.passes c.gather.ensures.desks c.gather.ensures.link.0 c.gather.ensures.link.1
-    (subst (λ (n : ℕ). Settles c.args.site.now.hall.now n (list_any has_run c.run_crew-backs.result.workers.items) (has_run c.run_crew-backs.result.ear || has_run c.run_crew-backs.result.mouth) c.cast-crew.result.1.main c.settle-outcome.new.main c.settle-outcome.result)
+    (subst (λ (n : ℕ). Settles c.args.site.now.hall.now n (list_any has_run c.run_crew-backs.result.0.workers.items) (has_run c.run_crew-backs.result.0.ear || has_run c.run_crew-backs.result.0.mouth) c.cast-crew.result.1.main c.settle-outcome.new.main c.settle-outcome.result)
     (c.requires.child ∙ sym (ap (λ (e : EarValue). e.child) c.cast-crew.ensures.link.0)) c.settle-outcome.ensures)
 
 pub returns-clause-same : goal.returns-clause-same
@@ -158,8 +158,8 @@ returns-clause-same g c = played_same (λ x. x.pass) (λ x. x.ear) (λ x. x.pass
           (subst (λ (m : MouthValue). TaggedCan c.args.site.now.hall.now.fixed c.args.site.now.hall.now.start (link_of c.args.kit.link.ear m)) (sym c.cast-crew.ensures.link.1) c.requires.can);
       one_child = ap (λ (m : MouthValue). m.child) c.cast-crew.ensures.link.1 ∙ c.args.kit.link.one_child ∙ sym (ap (λ (e : EarValue). e.child) c.cast-crew.ensures.link.0);
     })
-    c.run_crew-backs.result.ear c.run_crew-backs.result.mouth c.run_crew-backs.result.workers.items c.run_crew-backs.ensures.ear c.run_crew-backs.ensures.mouth c.run_crew-backs.ensures.workers
+    c.run_crew-backs.result.0.ear c.run_crew-backs.result.0.mouth c.run_crew-backs.result.0.workers.items c.run_crew-backs.ensures.ear c.run_crew-backs.ensures.mouth c.run_crew-backs.ensures.workers
     c.args.kit.link.ear c.gather.result.link.ear c.args.kit.link.mouth c.gather.result.link.mouth c.gather.result.passes.items c.gather.result.desks.items c.settle-outcome.new.main c.settle-outcome.result
     c.cast-crew.ensures.link.0 c.cast-crew.ensures.link.1 c.gather.ensures.passes c.gather.ensures.desks c.gather.ensures.link.0 c.gather.ensures.link.1
-    (subst (λ (n : ℕ). Settles c.args.site.now.hall.now n (list_any has_run c.run_crew-backs.result.workers.items) (has_run c.run_crew-backs.result.ear || has_run c.run_crew-backs.result.mouth) c.cast-crew.result.1.main c.settle-outcome.new.main c.settle-outcome.result)
+    (subst (λ (n : ℕ). Settles c.args.site.now.hall.now n (list_any has_run c.run_crew-backs.result.0.workers.items) (has_run c.run_crew-backs.result.0.ear || has_run c.run_crew-backs.result.0.mouth) c.cast-crew.result.1.main c.settle-outcome.new.main c.settle-outcome.result)
     (c.requires.child ∙ sym (ap (λ (e : EarValue). e.child) c.cast-crew.ensures.link.0)) c.settle-outcome.ensures)

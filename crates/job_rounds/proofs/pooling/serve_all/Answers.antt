@@ -24,7 +24,7 @@ close_links-requires-clause-started g c =
 
 pub serve_one-requires : goal.serve_one-requires
 serve_one-requires g c =
-    let kept = by_kept c.round_links-links.result.2 (inr c.in-NoThreads.is) c.round_links-links.ensures.kept in
+    let kept = by_kept c.round_links-links.result.2 (inr (c.in-NoThreads.refused, c.in-NoThreads.is)) c.round_links-links.ensures.kept in
     record {
       some = (
         (let before = c.requires.desks.0 in let were = c.args.links.ok.0 in let are = c.round_links-links.result.0.ok.0 in let same = ap (λ (xs : List _). length xs) kept.1.0 in omega (arith, before, were, are, same)),
@@ -95,13 +95,12 @@ returns-in-NoMemory g c =
 
 pub returns-in-NoThreads : goal.returns-in-NoThreads
 returns-in-NoThreads g c =
-    let kept = by_kept c.round_links-links.result.2 (inr c.in-NoThreads.is) c.round_links-links.ensures.kept in
+    let kept = by_kept c.round_links-links.result.2 (inr (c.in-NoThreads.refused, c.in-NoThreads.is)) c.round_links-links.ensures.kept in
     let opening = c.round_links-links.ensures.opening in
     let then = c.serve_one.ensures in
     record {
       serves = serves_kept (λ l. link_of l.ear l.mouth) (λ k. desk_tells (g.K.Desk.log k) (g.K.Desk.counts k)) c.args.bench.core.opening c.round_links-links.result.1.core.opening c.args.bench.core.journal c.round_links-links.result.1.core.journal
-          c.args.links.items c.round_links-links.result.0.items c.args.bench.desks.items c.round_links-links.result.1.desks.items opening kept.0 kept.1.0 kept.1.1 c.args.setup.now c.serve_one.new.bench.core.journal
-          (map (λ l. link_of l.ear l.mouth) c.serve_one.new.links.items) _ then.serves;
+          c.args.links.items c.round_links-links.result.0.items c.args.bench.desks.items c.round_links-links.result.1.desks.items opening kept.0 kept.1.0 kept.1.1 c.args.setup.now c.serve_one.new.bench.core.journal _ then.serves;
       held = then.held;
       same = same_links_both (map (λ l. link_of l.ear l.mouth) c.args.links.items) (map (λ l. link_of l.ear l.mouth) c.round_links-links.result.0.items) (map (λ l. link_of l.ear l.mouth) c.serve_one.new.links.items) c.round_links-links.ensures.same then.same;
       core = record {

@@ -29,7 +29,7 @@ returns-in-Done-clause-serves g c =
     let mid = c.round_tagged-core.result.core.journal in
     let link = link_of c.round_tagged-core.result.link.ear c.round_tagged-core.result.link.mouth in
     let count : length desks ≡ c.args.bench.desks.len = length-map c.args.bench.desks.items (λ k. desk_tells (g.K.Desk.log k) (g.K.Desk.counts k)) ∙ sym c.args.bench.desks.ok.0 in
-    inr (record {
+    record {
       many = λ one. (let some = c.requires.desks.0 in omega (arith, one, count, some));
       tagged = sym c.requires.can.tag;
       link = link;
@@ -38,7 +38,7 @@ returns-in-Done-clause-serves g c =
       round = subst (λ (n : ℕ). GoesOn old mid (λ rest. TaggedLeaves c.args.bench.core.opening c.args.setup.now (range_with_len 1 (3 + n)) old rest link desks desks')) (sym count)
           (by_done c.round_tagged-core.result.outcome c.in-Done.is c.round_tagged-core.ensures.round);
       closes = subst (λ (k : ℕ). Closes 0 k mid c.close_child.new.core.journal) c.round_tagged-core.ensures.same.0.0 c.close_child.ensures.closes;
-    })
+    }
 
 pub returns-in-Done-clause-held : goal.returns-in-Done-clause-held
 returns-in-Done-clause-held g c =
@@ -88,13 +88,13 @@ returns-in-NoMemory g c =
 
 pub returns-in-NoThreads : goal.returns-in-NoThreads
 returns-in-NoThreads g c =
-    let kept = by_kept c.round_tagged-core.result.outcome (inr c.in-NoThreads.is) c.round_tagged-core.ensures.kept in
+    let kept = by_kept c.round_tagged-core.result.outcome (inr (c.in-NoThreads.refused, c.in-NoThreads.is)) c.round_tagged-core.ensures.kept in
     let opening = c.round_tagged-core.ensures.opening in
     let same = c.round_tagged-core.ensures.same in
     let then = c.serve_alone.ensures in
     record {
-      serves = inl (alone_kept (λ k. desk_tells (g.K.Desk.log k) (g.K.Desk.counts k)) c.args.bench.core.opening c.round_tagged-core.result.core.opening c.args.setup.now c.args.link.ear.child c.round_tagged-core.result.link.ear.child
-          c.args.bench.core.journal c.round_tagged-core.result.core.journal c.serve_alone.new.bench.core.journal c.args.bench.desks.items c.round_tagged-core.result.desks.items _ opening same.0.0 kept.0 kept.1.1 then.serves);
+      serves = alone_kept (λ k. desk_tells (g.K.Desk.log k) (g.K.Desk.counts k)) c.args.bench.core.opening c.round_tagged-core.result.core.opening c.args.setup.now c.args.link.ear.child c.round_tagged-core.result.link.ear.child
+          c.args.bench.core.journal c.round_tagged-core.result.core.journal c.serve_alone.new.bench.core.journal c.args.bench.desks.items c.round_tagged-core.result.desks.items _ opening same.0.0 kept.0 kept.1.1 then.serves;
       held = then.held;
       same = ((then.same.0.0 ∙ same.0.0, then.same.0.1 ∙ same.0.1), (then.same.1.0 ∙ same.1.0, then.same.1.1 ∙ same.1.1));
       core = record {

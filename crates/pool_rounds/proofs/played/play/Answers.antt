@@ -38,9 +38,9 @@ pub gather-requires-clause-rooms : goal.gather-requires-clause-rooms
 gather-requires-clause-rooms g c =
     let k = c.cast-workers.ensures in
     let same = pairwise_length _ _ _ c.run_workers-backs.ensures in (
-      omega (arith, same, k.rooms.0, c.cast-workers.result.0.ok.0, c.run_workers-backs.result.ok.0),
-      omega (arith, same, k.rooms.1, c.cast-workers.result.0.ok.0, c.run_workers-backs.result.ok.0),
-      omega (arith, same, k.rooms.2, c.cast-workers.result.0.ok.0, c.run_workers-backs.result.ok.0),
+      omega (arith, same, k.rooms.0, c.cast-workers.result.0.ok.0, c.run_workers-backs.result.0.ok.0),
+      omega (arith, same, k.rooms.1, c.cast-workers.result.0.ok.0, c.run_workers-backs.result.0.ok.0),
+      omega (arith, same, k.rooms.2, c.cast-workers.result.0.ok.0, c.run_workers-backs.result.0.ok.0),
     )
 
 pub returns : goal.returns
@@ -63,6 +63,6 @@ returns g c =
       desks_are = k.desks;
       fresh = c.requires.fresh;
     })
-    c.run_workers-backs.result.items c.run_workers-backs.ensures c.gather.result.passes.items c.gather.result.links.items c.gather.result.desks.items c.outcome_of-outcome.result
+    c.run_workers-backs.result.0.items c.run_workers-backs.ensures c.run_workers-backs.result.1 c.gather.result.passes.items c.gather.result.links.items c.gather.result.desks.items c.outcome_of-outcome.result
     b.passes b.links b.desks c.outcome_of-outcome.ensures in
     record { own = p.0; left = p.1; kept = p.2; same = (p.3.0, c.gather.result.desks.ok.0 ∙ p.3.1 ∙ sym c.args.kit.desks.ok.0) }
