@@ -5,13 +5,14 @@ Both need a library that is preloaded, built by `cc`.
 
 import itertools
 import os
+import re
 import shutil
 import subprocess
 from concurrent.futures import ThreadPoolExecutor
 
 from harness import SPECIAL, TOP, UUID, expect, limits, require, run, skip, table
 
-PLAIN, TAGGED = f"{TOP}/examples/folder-remote.sh", f"{TOP}/examples/async-remote.sh"
+REMOTE = f"{TOP}/examples/folder-remote.sh"
 TASKS = "check WORM-s1--a\ncheck WORM-s1--b\n"
 
 
@@ -25,37 +26,44 @@ def library(room, source):
 
 
 def tells_of_memory(done):
-    """The run says that it is out of memory: at its end, or in an answer."""
+    """The run says that it is out of memory: at its end, or in an answer. A start that fails may have failed for memory."""
     return done.status == 7 or (done.status == 1 and any(line.split()[1] in ("memory", "startfault") for line in done.out.splitlines()))
 
 
 @table([
-    ("two jobs over a child that takes tags", TAGGED),
-    ("two jobs over a pool", PLAIN),
+    ("one job", 1),
+    ("two jobs over a pool", 2),
 ])
 @limits(seconds=120)
-def a_run_that_is_refused_an_allocation_never_ends_as_if_it_had_it(room, remote):
+def a_run_that_is_refused_an_allocation_says_so_unless_others_do_its_tasks(room, jobs):
+    """Where a thread is refused the others do the tasks, or the main thread does; and where a pool's second child isn't ready, the first."""
     refusing = library(room, "tools/refuse.c")
     for name in ("WORM-s1--a", "WORM-s1--b"):
         room.write(f"contents/{name}", "x")
-    words = [SPECIAL, "run", "--program", remote, "--uuid", UUID, "--work", room.path(), "--jobs", "2"]
 
     def outcome(number):
-        """What came of the run whose allocation of that number is refused; None where it makes fewer."""
-        mark = room.path(f"refused-{number}")
-        done = run(words, TASKS, {"LD_PRELOAD": refusing, "REFUSE_AT": number, "REFUSED": mark, "REMOTE_DIR": room.path("contents")})
-        return done if os.path.exists(mark) else None
+        """What came of the run whose allocation of that number is refused, and whether others could do its tasks; None if it makes fewer."""
+        names = {name: room.path(f"{name}-{number}") for name in ("refused", "threaded", "journal")}
+        words = [SPECIAL, "run", "--program", REMOTE, "--uuid", UUID, "--work", room.path(), "--jobs", jobs, "--journal", names["journal"]]
+        done = run(words, TASKS, {"LD_PRELOAD": refusing, "REFUSE_AT": number, "REFUSED": names["refused"], "THREADED": names["threaded"],
+                                  "REMOTE_DIR": room.path("contents")})
+        if not os.path.exists(names["refused"]):
+            return None
+        return done, os.path.exists(names["threaded"]) or bool(re.search("nostart 1\n|end 2 memory\n", room.text(f"journal-{number}") or ""))
 
-    refused = 0
+    refused = well = 0
     with ThreadPoolExecutor(4) as pool:
         for first in itertools.count(1, 32):
-            for number, done in zip(itertools.count(first), pool.map(outcome, range(first, first + 32))):
-                if done:
+            for number, came in zip(itertools.count(first), pool.map(outcome, range(first, first + 32))):
+                if came:
+                    done, may_go_well = came
                     refused += 1
-                    require(tells_of_memory(done), f"allocation {number} was refused\ngot: {done}")
-            if not done:
+                    well += done.status == 0
+                    require(tells_of_memory(done) or (done.status == 0 and may_go_well), f"allocation {number} was refused\ngot: {done}")
+            if not came:
                 break
     require(refused > 100, f"only {refused} allocations were refused")
+    require(well < refused // 8, f"{well} of {refused} runs went well")
 
 
 # Tells in a file whether its output was still read when its input had ended.
