@@ -1,6 +1,6 @@
 -- What came of a child of slot 0 that is ready, in the journal and of the objects.
 use Rattle.std.proofs.Common.{◌≡◌, ◌⊎◌, ℕ, ◌≤◌, List, [], ◌∷◌, refl, sym, ap, subst, ◌∙◌, append-nil, length, Bool, true, false, arith, inl, inr, Ok, Err, Result}
-use Rattle.std.specs.Prelude.{◌&&◌, IsErr, MatchResult, is_ok}
+use Rattle.std.specs.Prelude.{◌&&◌, IsErr, MatchResult, Option, Some, None, is_ok}
 use Rattle.std.proofs.lemmas.List.Elements.{All-cons, All-nil}
 use Rattle.ann_key.specs.declared.bytes.NoMemory.{NoMemory}
 use Rattle.ann_outside.specs.Causes.{AddsOne, Stays}
@@ -12,6 +12,7 @@ use Rattle.journal_model.specs.Journal.{any, is_tagged}
 use Rattle.journal_model.specs.Legality.{Legal, count, is_start}
 use Rattle.link_roles.specs.Alone.{Closes}
 use Rattle.host_core.specs.Steps.{are_all_claimed}
+use Rattle.crew_round.specs.declared.slot.Refused.{Refused}
 use Rattle.child_start.specs.Greetings.{AreNumbered, Greeted, IsReady}
 use Rattle.child_end.specs.Programs.{AddsAll, ProgramsValue, told}
 use Rattle.child_end.specs.Wires.{IsHeld, IsLaid, IsLeft, WireValue}
@@ -23,7 +24,7 @@ use Rattle.lone_rounds.specs.Stints.{ear_of, main_entry, mouth_of}
 use Rattle.lone_rounds.proofs.Leaving.{rose_still, stays_none}
 use Rattle.pool_starts.specs.Pools.{IsUngathered, Serves as Seat}
 use Rattle.job_rounds.specs.Pools.{IsLinkLeft, LeavesPool, PoolServed}
-use Rattle.job_rounds.specs.Servings.{CanBeServed, FirstServed, Serves, Starved}
+use Rattle.job_rounds.specs.Servings.{CanBeServed, FirstServed, Serves, ServesUnless, Starved, plainly}
 use Rattle.job_rounds.specs.Starts.{RunLacksMemory, OneJobStart, StartsAll}
 use Rattle.job_rounds.proofs.PoolEnding.{closes_alone, laid_alone, roomless_pool, starved_ends}
 use Rattle.job_rounds.proofs.PoolStretch.{Asked, all_told, asked_so, its_objects, none_started, pool_next, pool_start, stays_so, untagged_start}
@@ -139,3 +140,15 @@ module _ (o : Opening) (setup : Setup) (limit : ℕ) (offer tagged : Bool) (old 
 -- an answer that is Ok is no Err
 pub ok_no_err : {A B : Type 0} (r : Result A B) (a : A) → r ≡ Ok a → IsErr r → ⊥
 ok_no_err {A} {B} r a e h = (let bad : false ≡ true = subst (λ (x : Result A B). IsErr x) e h in absurd cc)
+
+-- ---- whoever did the tasks
+
+pub served_plainly : {S : Type 0} (o : Opening) (setup : Setup) (c : ℕ) (old new : List Entry) (desks desks' : List DeskTells) (x : Result (Option Refused) NoMemory) (r : Result (Unit {0}) NoMemory)
+    → r ≡ plainly x → MatchResult x (λ alone. ServesUnless alone o setup c old new desks desks') (λ _. S) → MatchResult r (λ _. Serves o setup c old new desks desks') (λ _. S)
+served_plainly {S} o setup c old new desks desks' x r is s = subst (λ (y : Result (Unit {0}) NoMemory). MatchResult y (λ _. Serves o setup c old new desks desks') (λ _. S)) (sym is) (go x s)
+  where
+    go : (x : Result (Option Refused) NoMemory) → MatchResult x (λ alone. ServesUnless alone o setup c old new desks desks') (λ _. S)
+        → MatchResult (plainly x) (λ _. Serves o setup c old new desks desks') (λ _. S)
+    go (Ok None) s = inr s
+    go (Ok (Some refused)) s = inl s
+    go (Err e) s = s

@@ -1,6 +1,7 @@
 -- What is done over a child that is ready.
-use Rattle.std.specs.Prelude.{ℕ, ◌≡◌, ◌⊎◌, ◌+◌, Bool, true, false, List, [], ◌∷◌, Option, Some, None, length}
+use Rattle.std.specs.Prelude.{ℕ, ◌≡◌, ◌⊎◌, ◌+◌, Bool, true, false, List, [], ◌∷◌, Option, Some, None, Result, Ok, Err, length}
 use Rattle.std.specs.List.{range_with_len}
+use Rattle.ann_key.specs.declared.bytes.NoMemory.{NoMemory}
 use Rattle.journal_model.specs.declared.verdict.Why.TheVariants.{Closed}
 use Rattle.journal_model.specs.declared.entry.Entry.{Entry}
 use Rattle.journal_model.specs.declared.opening.Opening.{Opening}
@@ -57,6 +58,11 @@ Serves o setup c old new desks desks' = ServesAlone o setup c old new desks desk
 abbrev pub ServesUnless : Option Refused → Opening → Setup → ℕ → List Entry → List Entry → List DeskTells → List DeskTells → Type 0
 ServesUnless None o setup c old new desks desks' = ServesRound o setup c old new desks desks'
 ServesUnless (Some refused) o setup c old new desks desks' = ServesAlone o setup c old new desks desks'
+
+-- the same without whether one was refused
+abbrev pub plainly : Result (Option Refused) NoMemory → Result (Unit {0}) NoMemory
+plainly (Ok alone) = Ok tt
+plainly (Err e) = Err e
 
 -- no memory was found for a round: no task was done, and the child was closed
 pub record Starved (old new : List Entry) (ear ear' : EarValue) (mouth mouth' : MouthValue) (desks desks' : List DeskTells) : Type 0 where

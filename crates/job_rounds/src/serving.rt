@@ -3,7 +3,7 @@ ghost use Rattle.std.specs.Prelude.{◌≡◌, ◌≤◌, ◌<◌, [], MatchResu
 ghost use Rattle.annex_model.specs.Lines.{has_newline};
 ghost use Rattle.child_end.specs.Wires.{IsHeld};
 ghost use Rattle.child_start.specs.Cores.{IsSameCore};
-ghost use Rattle.job_rounds.specs.Servings.{CanBeServed, Serves, ServesAlone, ServesUnless, Starved};
+ghost use Rattle.job_rounds.specs.Servings.{CanBeServed, Serves, ServesAlone, ServesUnless, Starved, plainly};
 ghost use Rattle.link_roles.specs.Moves.{IsSameLink};
 ghost use Rattle.lone_work.specs.Works.{AreTasks, desk_tells};
 
@@ -103,6 +103,16 @@ pub(crate) fn serve_round<
     }
 }
 
+// Without whether a thread was refused.
+fn plainly(served: Result<Option<Refused>, NoMemory>) -> Result<(), NoMemory>
+    ensures { result ≡ plainly served }
+{
+    match served {
+        Ok(_) => Ok(()),
+        Err(error) => Err(error),
+    }
+}
+
 /// Does tasks over the child with a worker for each desk, where it takes tags, else with one, and closes it. `NoMemory`: there was none
 /// for a round, and no task was done.
 pub(crate) fn serve_ready<
@@ -133,10 +143,7 @@ pub(crate) fn serve_ready<
 {
     if tagged && bench.desks.len() > 1 {
         let (link, bench, served) = serve_round(rt, alloc, tasks, setup, link, bench);
-        return match served {
-            Ok(_) => (link, bench, Ok(())),
-            Err(NoMemory) => (link, bench, Err(NoMemory)),
-        };
+        return (link, bench, plainly(served));
     }
     let mut link = link;
     let mut bench = bench;
