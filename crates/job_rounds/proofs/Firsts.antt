@@ -143,9 +143,9 @@ ok_no_err {A} {B} r a e h = (let bad : false ≡ true = subst (λ (x : Result A 
 
 -- ---- whoever did the tasks
 
-pub served_plainly : {S : Type 0} (o : Opening) (setup : Setup) (c : ℕ) (old new : List Entry) (desks desks' : List DeskTells) (x : Result (Option Refused) NoMemory) (r : Result (Unit {0}) NoMemory)
+pub served_plainly : (S : Type 0) (o : Opening) (setup : Setup) (c : ℕ) (old new : List Entry) (desks desks' : List DeskTells) (x : Result (Option Refused) NoMemory) (r : Result (Unit {0}) NoMemory)
     → r ≡ plainly x → MatchResult x (λ alone. ServesUnless alone o setup c old new desks desks') (λ _. S) → MatchResult r (λ _. Serves o setup c old new desks desks') (λ _. S)
-served_plainly {S} o setup c old new desks desks' x r is s = subst (λ (y : Result (Unit {0}) NoMemory). MatchResult y (λ _. Serves o setup c old new desks desks') (λ _. S)) (sym is) (go x s)
+served_plainly S o setup c old new desks desks' x r is s = subst (λ (y : Result (Unit {0}) NoMemory). MatchResult y (λ _. Serves o setup c old new desks desks') (λ _. S)) (sym is) (go x s)
   where
     go : (x : Result (Option Refused) NoMemory) → MatchResult x (λ alone. ServesUnless alone o setup c old new desks desks') (λ _. S)
         → MatchResult (plainly x) (λ _. Serves o setup c old new desks desks') (λ _. S)
