@@ -1,7 +1,7 @@
 -- The lines that say why a call ended.
 use Rattle.std.specs.Prelude.{ℕ, List, [], ◌∷◌, ◌++◌, codes, decimal}
 use Rattle.cli_words.specs.declared.refusals.Reason.{Reason}
-use Rattle.cli_words.specs.declared.refusals.Reason.TheVariants.{Word, Key, Unsendable, ChunkKey, File, Long, Many, Large, Entry, Cut}
+use Rattle.cli_words.specs.declared.refusals.Reason.TheVariants.{Word, Key, Unsendable, ChunkKey, File, Name, Long, Many, Large, Entry, Cut}
 
 abbrev pub usage_line : List ℕ
 usage_line = codes "special: usage" ++ 10 ∷ []
@@ -28,6 +28,7 @@ reason_word Key = codes "key"
 reason_word Unsendable = codes "unsendable"
 reason_word ChunkKey = codes "chunkkey"
 reason_word File = codes "file"
+reason_word Name = codes "name"
 reason_word Long = codes "long"
 reason_word Many = codes "many"
 reason_word Large = codes "large"

@@ -19,6 +19,8 @@ pub enum Reason {
     ChunkKey,
     /// The file is missing, or is no text of one line.
     File,
+    /// A name, or a new name, is missing, or is no text of one line without a byte 9.
+    Name,
     /// It is longer than a line may be.
     Long,
     /// It is one line more than the input may have.
@@ -42,6 +44,7 @@ impl Reason {
             Reason::Unsendable => "unsendable",
             Reason::ChunkKey => "chunkkey",
             Reason::File => "file",
+            Reason::Name => "name",
             Reason::Long => "long",
             Reason::Many => "many",
             Reason::Large => "large",

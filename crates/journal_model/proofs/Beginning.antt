@@ -58,7 +58,7 @@ one_task task fits = All-cons IsTask task [] fits (All-nil IsTask)
 pub check_begins : MayBegin one_check
 check_begins = record {
   few = lit≤ tt;
-  tasks = one_task (record { work = Check; key = sample_key; file = [] }) record { key_class = refl; file_class = refl };
+  tasks = one_task (record { work = Check; key = sample_key; file = []; name = []; onto = [] }) record { key_class = refl; file_class = refl; name_class = refl; onto_class = refl; apart = refl };
   lines = record { uuid = refl; name = refl; gitdir = refl };
   uuid = nil_written;
 }
@@ -67,7 +67,7 @@ pub store_begins : MayBegin (known_since 5 Store)
 unfolding is_utf8 chars encode_utf8
 store_begins = record {
   few = lit≤ tt;
-  tasks = one_task (record { work = Store; key = codes "WORM-s150--a"; file = codes "f" }) record { key_class = refl; file_class = refl };
+  tasks = one_task (record { work = Store; key = codes "WORM-s150--a"; file = codes "f"; name = []; onto = [] }) record { key_class = refl; file_class = refl; name_class = refl; onto_class = refl; apart = refl };
   lines = record { uuid = refl; name = refl; gitdir = refl };
   uuid = nil_written;
 }
@@ -79,14 +79,14 @@ first_task : (task : Task) → All IsTask (task ∷ []) → IsTask task
 first_task task all = All-head IsTask task [] all
 
 pub no_key : (key : List ℕ) → (is_key key && (is_sendable key && not (has_chunk key))) ≡ false → MayBegin (begun_with Check key []) → ⊥
-no_key key wrong begins = let right = (first_task (record { work = Check; key = key; file = [] }) begins.tasks).key_class in absurd (let bad : true ≡ false = sym right ∙ wrong in cc)
+no_key key wrong begins = let right = (first_task (record { work = Check; key = key; file = []; name = []; onto = [] }) begins.tasks).key_class in absurd (let bad : true ≡ false = sym right ∙ wrong in cc)
 
 pub no_check_file : MayBegin (begun_with Check sample_key (codes "f")) → ⊥
 no_check_file begins =
-    let right : false ≡ true = (first_task (record { work = Check; key = sample_key; file = codes "f" }) begins.tasks).file_class in
+    let right : false ≡ true = (first_task (record { work = Check; key = sample_key; file = codes "f"; name = []; onto = [] }) begins.tasks).file_class in
     absurd cc
 
 pub no_store_file : MayBegin (begun_with Store sample_key []) → ⊥
 no_store_file begins =
-    let right : false ≡ true = (first_task (record { work = Store; key = sample_key; file = [] }) begins.tasks).file_class in
+    let right : false ≡ true = (first_task (record { work = Store; key = sample_key; file = []; name = []; onto = [] }) begins.tasks).file_class in
     absurd cc

@@ -18,7 +18,7 @@ remote = codes "00000000-0000-0000-0000-000000000000"
 
 -- one task, of that work
 abbrev pub to_do : Work → Opening
-to_do work = opening_of (record { work = work; key = content; file = codes "f" } ∷ [])
+to_do work = opening_of (record { work = work; key = content; file = codes "f"; name = []; onto = [] } ∷ [])
 
 abbrev pub line_of : ℕ → ℕ → ℕ → ChunkLine
 line_of micros chunk count = record { stamp = stamp_of micros; uuid = remote; chunk = chunk; count = count }

@@ -9,7 +9,7 @@ use Rattle.journal_model.specs.Rows.{opening_of, sample_key}
 
 -- one task
 abbrev pub begun_with : Work → List ℕ → List ℕ → Opening
-begun_with work key file = opening_of (record { work = work; key = key; file = file } ∷ [])
+begun_with work key file = opening_of (record { work = work; key = key; file = file; name = []; onto = [] } ∷ [])
 
 -- no task, with that UUID and that name
 abbrev pub begun_as : List ℕ → List ℕ → Opening

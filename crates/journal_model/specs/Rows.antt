@@ -2,7 +2,7 @@
 -- an answer, or in place of one.
 use Rattle.std.specs.Prelude.{ℕ, true, false, List, [], ◌∷◌, ◌++◌, map, take, codes}
 use Rattle.task_text.specs.declared.task.Task.{Task}
-use Rattle.task_text.specs.declared.task.Work.TheVariants.{Check, Store}
+use Rattle.task_text.specs.declared.task.Work.TheVariants.{Check, Store, XDrop, XRename}
 use Rattle.reg_file.specs.Registers.{nothing_set}
 use Rattle.journal_model.specs.declared.verdict.Why.{Why}
 use Rattle.journal_model.specs.declared.verdict.Why.TheVariants.{Closed, Foul, Error}
@@ -17,7 +17,7 @@ abbrev pub sample_key : List ℕ
 sample_key = codes "SHA256E-s0--e3b0c44298fc1c149afbf4c8996fb92427ae41e4649b934ca495991b7852b855"
 
 abbrev pub check_of : List ℕ → Task
-check_of key = record { work = Check; key = key; file = [] }
+check_of key = record { work = Check; key = key; file = []; name = []; onto = [] }
 
 abbrev pub opening_of : List Task → Opening
 opening_of tasks = record { tasks = tasks; registers = nothing_set; notes = []; identity = record { uuid = codes "00000000-0000-0000-0000-000000000000"; name = codes "remote"; gitdir = codes ".git" }; stamp = 1700000000000000 }
@@ -239,13 +239,24 @@ set_up =
 -- ---- two stores, the first of which is claimed
 
 abbrev pub store_of : List ℕ → List ℕ → Task
-store_of key file = record { work = Store; key = key; file = file }
+store_of key file = record { work = Store; key = key; file = file; name = []; onto = [] }
 
 abbrev pub two_stores : List ℕ → List ℕ → Opening
 two_stores key file = opening_of (store_of (codes "WORM--a") (codes "f") ∷ store_of key file ∷ [])
 
 abbrev pub first_claimed : List Entry
 first_claimed = greeting ++ by_main (Claim 1 1) ∷ []
+
+-- ---- a change of a name, which is claimed, and another task
+
+abbrev pub rename_of : List ℕ → List ℕ → List ℕ → Task
+rename_of key name onto = record { work = XRename; key = key; file = []; name = name; onto = onto }
+
+abbrev pub drop_of_name : List ℕ → List ℕ → Task
+drop_of_name key name = record { work = XDrop; key = key; file = []; name = name; onto = [] }
+
+abbrev pub rename_and : Task → Opening
+rename_and other = opening_of (rename_of (codes "WORM--a") (codes "x") (codes "y") ∷ other ∷ [])
 
 -- ---- a name, and the request that it leads
 

@@ -7,6 +7,7 @@ pub mod half_laws;
 mod holder;
 pub mod laws;
 pub mod lead_laws;
+pub mod name_laws;
 pub mod note_laws;
 mod opening;
 pub mod opening_laws;

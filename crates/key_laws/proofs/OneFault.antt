@@ -7,7 +7,7 @@ use Rattle.chunk_log.specs.declared.line.ChunkLine.{ChunkLine}
 use Rattle.chunk_log.specs.declared.stamp.Stamp.{Stamp}
 use Rattle.task_text.specs.TaskLines.{fault_of, IsReading}
 use Rattle.task_text.specs.declared.error.TaskError.{TaskError}
-use Rattle.task_text.specs.declared.error.TaskError.TheVariants.{Word, Key, Unsendable, ChunkKey, File, NoMemory as OutOfMemory}
+use Rattle.task_text.specs.declared.error.TaskError.TheVariants.{Word, Key, Unsendable, ChunkKey, File, Name, NoMemory as OutOfMemory}
 use Rattle.key_laws.specs.OneAnswer.{OneChunkError, OneChunkLine, OneTaskError}
 
 -- ---- lines of a chunk log
@@ -62,6 +62,7 @@ told line Key h = ap fault_or_memory h
 told line Unsendable h = ap fault_or_memory h
 told line ChunkKey h = ap fault_or_memory h
 told line File h = ap fault_or_memory h
+told line Name h = ap fault_or_memory h
 told line OutOfMemory h = ap fault_or_memory h
 
 pub one_task_error : OneTaskError

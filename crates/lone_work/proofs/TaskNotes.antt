@@ -3,15 +3,14 @@ use Rattle.std.proofs.Common.{◌≡◌, refl, true, Some}
 use Rattle.journal_model.specs.Legality.{may_note as can_note}
 use Rattle.task_text.specs.declared.task.Task.{Task}
 use Rattle.task_text.specs.declared.task.Work.{Work}
-use Rattle.task_text.specs.declared.task.Work.TheVariants.{Store, Get, Check, Drop}
+use Rattle.task_text.specs.declared.task.Work.TheVariants.{Store, Drop}
 use Rattle.task_run.specs.Ran.{may_note}
 
 -- the journal lets a task note as its work does
 pub notes_as_its_work : (task : Task) → may_note task.work ≡ true → can_note (Some task) ≡ true
 notes_as_its_work task h = by_work task.work h
   where
-    by_work : (work : Work) → may_note work ≡ true → can_note (Some record { work = work; key = task.key; file = task.file }) ≡ true
+    by_work : (work : Work) → may_note work ≡ true → can_note (Some record { work = work; key = task.key; file = task.file; name = task.name; onto = task.onto }) ≡ true
     by_work Store h = refl
-    by_work Get h = cc
-    by_work Check h = cc
     by_work Drop h = refl
+    by_work _ h = cc

@@ -1,5 +1,5 @@
 -- The keys are keys, and the tasks are tasks.
-use Rattle.std.proofs.Common.{◌≡◌, ℕ, zero, suc, ◌+◌, ◌/◌, ◌%◌, ◌<◌, ◌≤◌, ◌^◌, List, [], ◌∷◌, ◌++◌, length, refl, sym, ap, subst, ◌∙◌, Bool, true, false, Some, None, All, arith}
+use Rattle.std.proofs.Common.{◌≡◌, ℕ, zero, suc, ◌+◌, ◌/◌, ◌%◌, ◌<◌, ◌≤◌, ◌^◌, List, [], ◌∷◌, ◌++◌, length, refl, sym, ap, subst, ◌∙◌, Bool, true, false, Some, None, All, arith, cond}
 use Rattle.std.specs.Prelude.{◌==◌, ◌&&◌, not, nat_lt, is_some, map, codes, decimal}
 use Rattle.std.specs.List.{list_all, list_any, range_with_len}
 use Rattle.std.specs.Str.{is_utf8}
@@ -10,6 +10,7 @@ use Rattle.std.proofs.lemmas.Nat.{mod_below}
 use Rattle.ann_key.specs.Keys.{IsKey, Parts, is_key, is_name, is_sendable, key_reading}
 use Rattle.ann_key.proofs.Spelling.{read_of_spelled}
 use Rattle.ann_key.proofs.Unique.{decimal_is_numeral}
+use Rattle.task_text.specs.Works.{has_name}
 use Rattle.task_text.specs.TaskLines.{IsTask, has_chunk, is_file, is_task_key}
 use Rattle.task_text.specs.declared.task.Task.{Task}
 use Rattle.task_text.specs.declared.task.Work.{Work}
@@ -22,7 +23,7 @@ use Rattle.cli_words.specs.Identities.{nobody}
 use Rattle.journal_model.specs.Beginnings.{MayBegin}
 use Rattle.journal_model.specs.Replies.{IsLineIdentity}
 use Rattle.journal_model.specs.declared.opening.Identity.{Identity}
-use Rattle.rehearse_plan.specs.Plans.{key_number, key_text, keys, number_of, opening_of, size_of, source_of, target_of, task_of, task_with, tasks_of, work_of}
+use Rattle.rehearse_plan.specs.Plans.{key_number, key_text, keys, number_of, opening_of, size_of, source_of, target_of, task_of, task_with, tasks_of, work_at, work_of}
 use Rattle.rehearse_plan.proofs.Plain.{decimal_plain, is_plain, plain_both, plain_line, plain_sendable, plain_text}
 
 -- ---- keys
@@ -79,11 +80,34 @@ file_class front n some plain h =
 
 -- ---- tasks
 
-is_task : (work : Work) (key task : ℕ) → key < 2 ^ 64 → task < 2 ^ 64 → IsTask (task_with work key task)
-is_task Store key task h k = record { key_class = key_class key h; file_class = file_class (codes "src/") key refl refl h }
-is_task Get key task h k = record { key_class = key_class key h; file_class = file_class (codes "dst/") task refl refl k }
-is_task Check key task h k = record { key_class = key_class key h; file_class = refl }
-is_task Drop key task h k = record { key_class = key_class key h; file_class = refl }
+is_task : (work : Work) (key task : ℕ) → has_name work ≡ false → key < 2 ^ 64 → task < 2 ^ 64 → IsTask (task_with work key task)
+is_task Store key task p h k = record {
+  key_class = key_class key h;
+  file_class = file_class (codes "src/") key refl refl h;
+  name_class = refl;
+  onto_class = refl;
+  apart = refl;
+}
+is_task Get key task p h k = record {
+  key_class = key_class key h;
+  file_class = file_class (codes "dst/") task refl refl k;
+  name_class = refl;
+  onto_class = refl;
+  apart = refl;
+}
+is_task Check key task p h k = record { key_class = key_class key h; file_class = refl; name_class = refl; onto_class = refl; apart = refl }
+is_task Drop key task p h k = record { key_class = key_class key h; file_class = refl; name_class = refl; onto_class = refl; apart = refl }
+is_task _ key task p h k = absurd cc
+
+-- no task of a rehearsal is one of an export
+plain_work : (n : ℕ) → has_name (work_at n) ≡ false
+plain_work n = by_tests (n == 0) (n == 1) (n == 2)
+  where
+    by_tests : (a b c : Bool) → has_name (cond a Store (cond b Get (cond c Check Drop))) ≡ false
+    by_tests true b c = refl
+    by_tests false true c = refl
+    by_tests false false true = refl
+    by_tests false false false = refl
 
 pub few_keys : (tasks number : ℕ) → tasks ≤ 65536 → key_number tasks number < 16386
 few_keys tasks number h =
@@ -98,7 +122,7 @@ are_tasks seed tasks from (suc n) few h =
     let number = number_of seed from in
     let below : key_number tasks number < 16386 = few_keys tasks number few in
     All-cons IsTask (task_of seed tasks from) (map (task_of seed tasks) (range_with_len (from + 1) n))
-    (is_task (work_of number) (key_number tasks number) from (omega (arith, below)) (omega (arith, h)))
+    (is_task (work_of number) (key_number tasks number) from (plain_work (number / 5 % 4)) (omega (arith, below)) (omega (arith, h)))
     (are_tasks seed tasks (from + 1) n few (omega (arith, h)))
 
 -- ---- the opening

@@ -58,10 +58,11 @@ task_file Store key task = source_of key
 task_file Get key task = target_of task
 task_file Check key task = []
 task_file Drop key task = []
+task_file _ key task = []
 
 -- the task of this work, on this key
 abbrev pub task_with : Work → ℕ → ℕ → Task
-task_with work key task = record { work = work; key = key_text key; file = task_file work key task }
+task_with work key task = record { work = work; key = key_text key; file = task_file work key task; name = []; onto = [] }
 
 -- the task of that number, from 1
 abbrev pub task_of : ℕ → ℕ → ℕ → Task

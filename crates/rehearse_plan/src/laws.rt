@@ -7,14 +7,14 @@ ghost use Rattle.task_text.specs.declared.task.Work.TheVariants.{Store, Get, Che
 pub fn worked_tasks()
     ensures keys { keys 8 ≡ 3 }
     ensures tasks { tasks_of 1 8 ≡
-        record { work = Check; key = codes "WORM-s18--r2"; file = [] }
-        ∷ record { work = Get; key = codes "WORM-s18--r2"; file = codes "dst/2" }
-        ∷ record { work = Store; key = codes "WORM-s17--r1"; file = codes "src/1" }
-        ∷ record { work = Drop; key = codes "WORM-s18--r2"; file = [] }
-        ∷ record { work = Drop; key = codes "WORM-s18--r2"; file = [] }
-        ∷ record { work = Drop; key = codes "WORM-s17--r1"; file = [] }
-        ∷ record { work = Store; key = codes "WORM-s18--r2"; file = codes "src/2" }
-        ∷ record { work = Get; key = codes "WORM-s18--r2"; file = codes "dst/8" }
+        record { work = Check; key = codes "WORM-s18--r2"; file = []; name = []; onto = [] }
+        ∷ record { work = Get; key = codes "WORM-s18--r2"; file = codes "dst/2"; name = []; onto = [] }
+        ∷ record { work = Store; key = codes "WORM-s17--r1"; file = codes "src/1"; name = []; onto = [] }
+        ∷ record { work = Drop; key = codes "WORM-s18--r2"; file = []; name = []; onto = [] }
+        ∷ record { work = Drop; key = codes "WORM-s18--r2"; file = []; name = []; onto = [] }
+        ∷ record { work = Drop; key = codes "WORM-s17--r1"; file = []; name = []; onto = [] }
+        ∷ record { work = Store; key = codes "WORM-s18--r2"; file = codes "src/2"; name = []; onto = [] }
+        ∷ record { work = Get; key = codes "WORM-s18--r2"; file = codes "dst/8"; name = []; onto = [] }
         ∷ [] }
 {}
 

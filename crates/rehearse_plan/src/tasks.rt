@@ -87,6 +87,10 @@ fn task_file(alloc: Global, work: Work, key: u32, task: u32) -> Result<Text, NoM
         Work::Store => source_of(alloc, key),
         Work::Get => target_of(alloc, task),
         Work::Check | Work::Drop => Text::copy(alloc, ""),
+        // no rehearsal has tasks of exports
+        Work::XStore | Work::XGet | Work::XCheck | Work::XDrop | Work::XRename => Text::copy(
+            alloc, "",
+        ),
     }
 }
 
@@ -103,6 +107,8 @@ fn task_of(alloc: Global, seed: u32, tasks: u32, task: u32) -> Result<Task, NoMe
         work,
         key: key_of(alloc, key)?,
         file: task_file(alloc, work, key, task)?,
+        name: Text::copy(alloc, "")?,
+        onto: Text::copy(alloc, "")?,
     })
 }
 

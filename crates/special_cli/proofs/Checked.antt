@@ -55,9 +55,9 @@ task_key_class key h =
 
 pub check_begins : (key : List ℕ) (stamp : ℕ) (o : Opening) → reason_refused key ≡ None → o ≡ check_opening key stamp → MayBegin o
 check_begins key stamp o h same =
-    let one : Task = record { work = Check; key = key; file = [] } in
+    let one : Task = record { work = Check; key = key; file = []; name = []; onto = [] } in
     subst MayBegin (sym same)
-    (begins (check_opening key stamp) (lit≤ tt) (All-cons IsTask one [] record { key_class = task_key_class key h; file_class = refl } (All-nil IsTask)) refl)
+    (begins (check_opening key stamp) (lit≤ tt) (All-cons IsTask one [] record { key_class = task_key_class key h; file_class = refl; name_class = refl; onto_class = refl; apart = refl } (All-nil IsTask)) refl)
 
 pub info_begins : (o : Opening) → o ≡ info_opening → MayBegin o
 info_begins o same = subst MayBegin (sym same) (begins info_opening (lit≤ tt) (All-nil IsTask) refl)

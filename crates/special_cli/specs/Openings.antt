@@ -12,7 +12,7 @@ info_opening = record { tasks = []; registers = nothing_set; notes = []; identit
 -- the one task, and the clock's answer
 abbrev pub check_opening : List ℕ → ℕ → Opening
 check_opening key stamp = record {
-  tasks = record { work = Check; key = key; file = [] } ∷ [];
+  tasks = record { work = Check; key = key; file = []; name = []; onto = [] } ∷ [];
   registers = nothing_set;
   notes = [];
   identity = nobody;

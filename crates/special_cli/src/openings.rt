@@ -31,6 +31,8 @@ fn check_tasks(alloc: Global, key: KeyRef<'_>) -> Result<Tasks, NoMemory>
         work: Work::Check,
         key: Key::copy(alloc, key)?,
         file: Text::copy(alloc, "")?,
+        name: Text::copy(alloc, "")?,
+        onto: Text::copy(alloc, "")?,
     };
     let mut list = Vec::new(alloc);
     list.push(task)?;

@@ -29,7 +29,7 @@ no_chunks None = refl
 no_chunks (Some n) = refl
 
 abbrev pub get_task : List ℕ → List ℕ → Task
-get_task text file = record { work = W.Get; key = text; file = file }
+get_task text file = record { work = W.Get; key = text; file = file; name = []; onto = [] }
 
 -- the one request, which is done
 abbrev pub done : Option HostMessage → ℕ → Asking

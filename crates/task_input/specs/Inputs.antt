@@ -5,7 +5,7 @@ use Rattle.task_text.specs.declared.task.Task.{Task}
 use Rattle.task_text.specs.declared.error.TaskError.{TaskError}
 use Rattle.task_text.specs.declared.error.TaskError.TheVariants as fault
 use Rattle.cli_words.specs.declared.refusals.Reason.{Reason}
-use Rattle.cli_words.specs.declared.refusals.Reason.TheVariants.{Word, Key, Unsendable, ChunkKey, File, Long, Many, Large}
+use Rattle.cli_words.specs.declared.refusals.Reason.TheVariants.{Word, Key, Unsendable, ChunkKey, File, Name, Long, Many, Large}
 use Rattle.task_input.specs.InputLines.{lines_of}
 use Rattle.task_input.specs.declared.limits.Limits.{Limits}
 use Rattle.task_input.specs.declared.error.InputError.{InputError}
@@ -20,6 +20,7 @@ reason_for fault.Key = Some Key
 reason_for fault.Unsendable = Some Unsendable
 reason_for fault.ChunkKey = Some ChunkKey
 reason_for fault.File = Some File
+reason_for fault.Name = Some Name
 reason_for fault.NoMemory = None
 
 -- why the line of that number is refused, if it is: it is one too many, or too long, or no task

@@ -16,6 +16,6 @@ check_b = codes "check WORM--b"
 
 abbrev pub tasks : List Task
 tasks =
-    record { work = Drop; key = codes "WORM--a"; file = [] }
-    ∷ record { work = Check; key = codes "WORM--b"; file = [] }
+    record { work = Drop; key = codes "WORM--a"; file = []; name = []; onto = [] }
+    ∷ record { work = Check; key = codes "WORM--b"; file = []; name = []; onto = [] }
     ∷ []

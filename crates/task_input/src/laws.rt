@@ -1,7 +1,7 @@
 // Laws over the definitions, each the contract of a function with nothing to do.
 ghost use Rattle.std.specs.Prelude.{◌≡◌, ℕ, ◌++◌, ◌∷◌, [], false, true, Some, None, Ok, Err, List, codes};
 ghost use Rattle.annex_model.specs.Lines.{has_newline, text, Cut};
-ghost use Rattle.cli_words.specs.declared.refusals.Reason.TheVariants.{Word, Key, Unsendable, ChunkKey, File, Long, Many, Large};
+ghost use Rattle.cli_words.specs.declared.refusals.Reason.TheVariants.{Word, Key, Unsendable, ChunkKey, File, Name, Long, Many, Large};
 ghost use Rattle.task_input.specs.InputLines.{lines_of, with_rest};
 ghost use Rattle.task_input.specs.Inputs.{refused_in, IsInput};
 ghost use Rattle.task_input.specs.Rows.{drop_a, small, check_b, tasks};
@@ -34,6 +34,7 @@ pub fn worked_refusals()
     ensures unsendable { refused_in small (codes "drop WORM--a b") ≡ Some (1, Unsendable) }
     ensures chunk_key { refused_in small (codes "drop WORM-S1-C1--a") ≡ Some (1, ChunkKey) }
     ensures file { refused_in small (codes "get WORM--a") ≡ Some (1, File) }
+    ensures name { refused_in small (codes "xdrop WORM--a") ≡ Some (1, Name) }
     ensures third { refused_in (record small { bytes = 64 }) (text (drop_a ∷ drop_a ∷ codes "x" ∷ [])) ≡ Some (3, Many) }
     ensures third_long { refused_in (record small { bytes = 64 }) (text (drop_a ∷ drop_a ∷ codes "drop WORM--0123456789abc" ∷ [])) ≡ Some (3, Many) }
     ensures long { refused_in small (codes "drop WORM--0123456789") ≡ Some (1, Long) }

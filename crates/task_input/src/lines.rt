@@ -85,6 +85,7 @@ fn error_for(fault: TaskError, line: u64) -> InputError
         TaskError::Unsendable => Reason::Unsendable,
         TaskError::ChunkKey => Reason::ChunkKey,
         TaskError::File => Reason::File,
+        TaskError::Name => Reason::Name,
         TaskError::NoMemory => return InputError::NoMemory,
     };
     InputError::Refused { line, reason }

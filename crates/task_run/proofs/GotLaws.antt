@@ -220,6 +220,7 @@ work_is setup t task key layouts asked calls noted W.Store e h = absurd (store_o
 work_is setup t task key layouts asked calls noted W.Get e h = record { work = e; fits = get_fits setup t key (sizes_tried key layouts) task.file asked calls h }
 work_is setup t task key layouts asked calls noted W.Check e h = absurd (check_other (layouts_tried key layouts) asked h)
 work_is setup t task key layouts asked calls noted W.Drop e h = absurd (drop_other key (sizes_tried key layouts) asked h)
+work_is setup t task key layouts asked calls noted _ e h = absurd h
 
 of_run : (setup : Setup) (t : ℕ) (task : Task) (key : Parts) (layouts : List (ℕ × ℕ)) (asked : List Asking) (calls : List Call) (noted : List Noting)
     → RunOf setup t task key layouts asked calls noted A.Got → IsGot task t setup layouts asked calls key

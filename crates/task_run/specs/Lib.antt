@@ -10,6 +10,8 @@ pub mod Drops
 pub mod Stores
 pub mod Gets
 pub mod Runs
+pub mod Exports
+pub mod ExportRows
 pub mod Rows
 pub mod TaskRuns
 pub mod Ran

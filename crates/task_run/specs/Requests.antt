@@ -1,7 +1,7 @@
 -- Which keys a task asks for, and in which order.
 use Rattle.std.specs.Prelude.{ℕ, ◌≡◌, ◌+◌, if◌then◌else◌, true, List, [], ◌∷◌, length, Option, Some, None}
 use Rattle.std.specs.List.{onto_first}
-use Rattle.annex_model.specs.Messages.{HostMessage, Transfer, Checkpresent, Remove}
+use Rattle.annex_model.specs.Messages.{HostMessage, Transfer, Checkpresent, Remove, Transferexport, Checkpresentexport, Removeexport, Renameexport}
 use Rattle.ann_key.specs.Keys.{Parts, key_reading}
 use Rattle.task_run.specs.Askers.{Asking, is_gone}
 use Rattle.task_run.specs.Stops.{is_done}
@@ -11,6 +11,10 @@ abbrev pub key_named : HostMessage → List ℕ
 key_named (Transfer store key file) = key
 key_named (Checkpresent key) = key
 key_named (Remove key) = key
+key_named (Transferexport store key file) = key
+key_named (Checkpresentexport key) = key
+key_named (Removeexport key) = key
+key_named (Renameexport key onto) = key
 key_named _ = []
 
 -- The asking, which is request n of its task, asks for the key. The request may be left out only where its child was gone.

@@ -14,7 +14,7 @@ use Rattle.task_run.specs.Askers.{Asking, Noting}
 use Rattle.task_run.specs.declared.setup.Setup.{Setup}
 
 abbrev pub task_of : Work → List ℕ → List ℕ → Task
-task_of work key file = record { work = work; key = key; file = file }
+task_of work key file = record { work = work; key = key; file = file; name = []; onto = [] }
 
 abbrev pub setup_of : ℕ → Setup
 setup_of chunk = record { work = codes "w"; stamp = 1700000000000000; chunk = chunk }

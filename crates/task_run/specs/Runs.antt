@@ -37,7 +37,7 @@ pub record GetCalls (setup : Setup) (t : ℕ) (file : List ℕ) (asked : List As
   pub changes : list_all (changes_as_result file (fetch_files setup t (length asked))) calls ≡ true
   pub lengths : size_of_only (part_of file ∷ fetched_files setup t 1 asked) calls ≡ true
 
--- ---- by the work
+-- ---- by the work. What a task of an export asks is in Exports, and no run of one is a run here yet
 
 -- content is stored in chunks where a chunk size is set and the key says the content's size
 abbrev pub is_chunked : Setup → Parts → Bool
@@ -52,6 +52,7 @@ WorkAsks setup t task key layouts Get asked calls noted =
     GetCalls setup t task.file asked calls × GetAsks setup t key (sizes_tried key layouts) task.file asked calls × (noted ≡ [])
 WorkAsks setup t task key layouts Check asked calls noted = CheckAsks (layouts_tried key layouts) asked × (calls ≡ []) × (noted ≡ [])
 WorkAsks setup t task key layouts Drop asked calls noted = DropAsks key (sizes_tried key layouts) asked noted × (calls ≡ [])
+WorkAsks setup t task key layouts _ asked calls noted = ⊥
 
 abbrev pub WorkAnswers : Setup → ℕ → Task → Parts → List (ℕ × ℕ) → Work → List Asking → List Call → List Noting → Answer → Type 0
 WorkAnswers setup t task key layouts Store asked calls noted answer =
@@ -59,6 +60,7 @@ WorkAnswers setup t task key layouts Store asked calls noted answer =
 WorkAnswers setup t task key layouts Get asked calls noted answer = GetAnswers setup t key (sizes_tried key layouts) task.file asked calls answer
 WorkAnswers setup t task key layouts Check asked calls noted answer = CheckAnswers (layouts_tried key layouts) asked answer
 WorkAnswers setup t task key layouts Drop asked calls noted answer = DropAnswers key (sizes_tried key layouts) asked answer
+WorkAnswers setup t task key layouts _ asked calls noted answer = ⊥
 
 -- ---- any task
 

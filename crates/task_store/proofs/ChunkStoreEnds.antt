@@ -207,7 +207,7 @@ pieces_of setup t key file size f qs ts calls low most s g = record {
 -- ---- runs
 
 abbrev pub store_task : List ℕ → List ℕ → Task
-store_task text file = record { work = W.Store; key = text; file = file }
+store_task text file = record { work = W.Store; key = text; file = file; name = []; onto = [] }
 
 abbrev pub are_free : List Asking → Bool
 are_free asked = list_all (λ a. is_none (asking_stop W.Store a)) asked

@@ -27,9 +27,10 @@ use Rattle.task_store.specs.ChunkStoring.{StoresSized}
 use Rattle.task_run.proofs.Texts.{same_name, other_name, longer_differs, apart}
 use Rattle.task_run.proofs.PlainRuns.{of_reading}
 use Rattle.task_store.proofs.ChunkStoreEnds.{store_task}
+use Rattle.task_run.proofs.NamedRuns.{nameless, with_names}
 
-as_store : (task : Task) → task.work ≡ W.Store → task ≡ store_task task.key task.file
-as_store task e = ap (λ w. record { work = w; key = task.key; file = task.file }) e
+as_store : (task : Task) → task.work ≡ W.Store → nameless task ≡ store_task task.key task.file
+as_store task e = ap (λ w. record { work = w; key = task.key; file = task.file; name = []; onto = [] }) e
 
 -- a run by the key that the task's text spells is one of the task
 store_run : (task : Task) (t : ℕ) (setup : Setup) (key : Parts) (layouts : List (ℕ × ℕ)) (asked : List Asking) (calls : List Call) (noted : List Noting) (answer : Answer) → task.work ≡ W.Store
@@ -37,8 +38,9 @@ store_run : (task : Task) (t : ℕ) (setup : Setup) (key : Parts) (layouts : Lis
 store_run task t setup key layouts asked calls noted answer w r h =
     let P : Task → Type 0 = λ j. TaskRun j t setup layouts asked calls noted answer in
     let Q : Parts → Type 0 = λ k. RunOf setup t (store_task task.key task.file) k layouts asked calls noted answer in
-    subst P (sym (as_store task w)) (of_reading task.key (λ k. RunOf setup t (store_task task.key task.file) k layouts asked calls noted answer)
-    (λ k e. let same : key ≡ k = one key k (sym r ∙ e) in subst Q same h))
+    with_names task t setup layouts asked calls noted answer
+    (subst P (sym (as_store task w)) (of_reading task.key (λ k. RunOf setup t (store_task task.key task.file) k layouts asked calls noted answer)
+    (λ k e. let same : key ≡ k = one key k (sym r ∙ e) in subst Q same h)))
   where
     one : (p q : Parts) → Some p ≡ Some q → p ≡ q
     one p q e = cc

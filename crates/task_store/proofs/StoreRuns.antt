@@ -29,6 +29,7 @@ use Rattle.task_run.specs.Ran.{RanPlain, answered, is_verdict_of, change_answer,
 use Rattle.std.specs.Prelude.{unwrap_or}
 use Rattle.task_run.proofs.Texts.{same_name, other_name, longer_differs, apart}
 use Rattle.task_run.proofs.PlainRuns.{of_reading}
+use Rattle.task_run.proofs.NamedRuns.{nameless, with_names}
 
 asks_for_store : (text file : List ℕ) (key : Parts) (request : Option HostMessage) (v : Verdict) (n : ℕ) → key_reading text ≡ Some key
     → KeepsRequest (Transfer true text file) request v → AsksFor (store_request file) n key (record { request = request; verdict = v })
@@ -40,7 +41,7 @@ store_calls : (setup : Setup) (t : ℕ) (file : List ℕ) (asked : List Asking) 
 store_calls setup t file asked r = record { names = rw (same_name file) refl; changes = refl; lengths = rw (same_name file) refl }
 
 abbrev store_task : List ℕ → List ℕ → Task
-store_task text file = record { work = W.Store; key = text; file = file }
+store_task text file = record { work = W.Store; key = text; file = file; name = []; onto = [] }
 
 store_refused : (setup : Setup) (t : ℕ) (key : Parts) (text file : List ℕ) (e : DeskError) → is_chunked setup key ≡ false → (e ≡ E.NoMemory → ⊥)
     → RunOf setup t (store_task text file) key [] [] (Size file (Err e) ∷ []) [] (answered (refusal e))
@@ -139,8 +140,8 @@ store_once setup t key text file n (Some q) (Unsupported at) w s h k = record {
 store_once setup t key text file n request (Absent at) w s h k = apart k
 store_once setup t key text file n request (Unknown at) w s h k = apart k
 
-as_store : (task : Task) → task.work ≡ W.Store → task ≡ store_task task.key task.file
-as_store task e = ap (λ w. record { work = w; key = task.key; file = task.file }) e
+as_store : (task : Task) → task.work ≡ W.Store → nameless task ≡ store_task task.key task.file
+as_store task e = ap (λ w. record { work = w; key = task.key; file = task.file; name = []; onto = [] }) e
 
 -- a run of the task as a store is one of the task
 store_run : (task : Task) (t : ℕ) (setup : Setup) (asked : List Asking) (calls : List Call) (answer : Answer) → task.work ≡ W.Store
@@ -148,7 +149,8 @@ store_run : (task : Task) (t : ℕ) (setup : Setup) (asked : List Asking) (calls
     → TaskRun task t setup [] asked calls [] answer
 store_run task t setup asked calls answer w h =
     let P : Task → Type 0 = λ j. TaskRun j t setup [] asked calls [] answer in
-    subst P (sym (as_store task w)) (of_reading task.key (λ key. RunOf setup t (store_task task.key task.file) key [] asked calls [] answer) h)
+    with_names task t setup [] asked calls [] answer
+    (subst P (sym (as_store task w)) (of_reading task.key (λ key. RunOf setup t (store_task task.key task.file) key [] asked calls [] answer) h))
 
 pub store_refused_ran : (task : Task) (t : ℕ) (pairs : List Asking) (old new : Option Log) (e : DeskError) → task.work ≡ W.Store
     → new ≡ logged old (Size task.file (Err e)) → RanPlain task t [] pairs pairs old new (refusal e)

@@ -208,7 +208,7 @@ pub record StoresFrom (setup : Setup) (t : ℕ) (key : Parts) (file : List ℕ) 
   pub notes_are : notes_after ≡ notes_before ++ map (behind_more (length pairs_before)) noted
   pub log_is : Gained old new calls
   pub run : (text : List ℕ) (layouts : List (ℕ × ℕ)) (questions : List Asking) → IsSought key setup.chunk (count_of size setup.chunk) n questions
-      → RunOf setup t (record { work = Store; key = text; file = file }) key layouts (questions ++ asked) (Size file (Ok size) ∷ calls)
+      → RunOf setup t (record { work = Store; key = text; file = file; name = []; onto = [] }) key layouts (questions ++ asked) (Size file (Ok size) ∷ calls)
       (map (behind_more (length questions)) noted) (answered result)
 
 -- the chunks are noted, after so many requests, and the content is stored
@@ -225,7 +225,7 @@ pub record StoresSized (setup : Setup) (t : ℕ) (key : Parts) (file : List ℕ)
   pub pairs_are : pairs_after ≡ pairs_before ++ asked
   pub notes_are : notes_after ≡ notes_before ++ map (behind_more (length pairs_before)) noted
   pub log_is : Gained old new calls
-  pub run : (text : List ℕ) (layouts : List (ℕ × ℕ)) → RunOf setup t (record { work = Store; key = text; file = file }) key layouts asked
+  pub run : (text : List ℕ) (layouts : List (ℕ × ℕ)) → RunOf setup t (record { work = Store; key = text; file = file; name = []; onto = [] }) key layouts asked
       (Size file (Ok size) ∷ calls) noted (answered result)
 
 -- where asking ended the task, its answer tells of no call of the desk

@@ -5,7 +5,7 @@ use Rattle.std.specs.Str.{IsUtf8}
 use Rattle.std.specs.List.{list_any}
 use Rattle.std.proofs.lemmas.Bool.{false≢true, and_from, and_parts}
 use Rattle.std.proofs.lemmas.Str.{IsUtf8-from_is_utf8, is_utf8-from_IsUtf8}
-use Rattle.task_text.specs.TaskLines.{is_file}
+use Rattle.task_text.specs.TaskLines.{is_file, is_name, is_tab}
 
 no_true : (b : Bool) → (b ≡ true → ⊥) → b ≡ false
 no_true true h = absurd (h refl)
@@ -21,3 +21,6 @@ file_of bytes some one_line utf8 =
 
 pub no_file_of : (bytes : List ℕ) → (IsUtf8 bytes → ⊥) → is_file bytes ≡ false
 no_file_of bytes bad = no_true (is_file bytes) (λ h. bad (IsUtf8-from_is_utf8 bytes (and_parts _ _ (and_parts _ _ h).1).0))
+
+pub name_of : (bytes : List ℕ) → list_any is_tab bytes ≡ false → IsTrue (is_file bytes) → IsTrue (is_name bytes)
+name_of bytes untabbed file = and_from _ _ file (ap not untabbed)

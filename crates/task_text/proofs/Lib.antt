@@ -1,3 +1,5 @@
+pub mod Faults
 pub mod Files
-pub mod Spaces
+pub mod Marks
+pub mod Parts
 pub mod Spelled

@@ -19,6 +19,9 @@ pub enum TaskError {
     /// The file is missing, isn't text, or holds a line's end.
     #[error("no file")]
     File,
+    /// A name or a new name is missing, isn't text, or holds a byte 9 or a line's end.
+    #[error("no name")]
+    Name,
     /// The line spells a task, and no memory was found for it.
     #[error("no memory")]
     NoMemory,

@@ -1,7 +1,7 @@
-ghost use Rattle.std.specs.Prelude.{◌≡◌, ◌≤◌, ◌==◌, false, length, IfErr, IfOk, IsTrue, MatchResult, None, ◌↔◌};
+ghost use Rattle.std.specs.Prelude.{◌≡◌, ◌≤◌, ◌==◌, ◌+◌, ◌++◌, ◌∷◌, ◌&&◌, [], false, true, not, if◌then◌else◌, length, take, drop, IfErr, IfOk, OnOk, IsTrue, MatchResult, None, ◌↔◌};
 ghost use Rattle.std.specs.List.{after_first, before_first, list_any, position_or_len};
 ghost use Rattle.ann_key.specs.KeyRefs.{text_of};
-ghost use Rattle.task_text.specs.TaskLines.{fault_of, is_file, is_space, is_task_key, line_of, IsKeyFault, IsReading, IsTask, SpellsTask};
+ghost use Rattle.task_text.specs.TaskLines.{behind_key, fault_of, file_in, is_file, is_name, is_space, is_tab, is_task_key, key_in, line_of, name_in, onto_in, IsKeyFault, IsReading, IsTask, SpellsTask};
 ghost use Rattle.task_text.specs.declared.task.Task.{Task};
 
 use crate::error::TaskError;
@@ -27,22 +27,86 @@ fn read_parts(alloc: Global, line: &[u8]) -> Result<Task, TaskError>
     let Some(work) = Work::read(word) else {
         return Err(TaskError::Word);
     };
-    if !work.names_file() {
-        let key = read_key(rest)?;
-        return make_task(alloc, work, key, "");
-    }
-    let (key, file) = split_at_space(rest);
-    let key = read_key(key)?;
-    let file = read_file(file)?;
-    make_task(alloc, work, key, file)
+    let parts = parts_of(work, rest);
+    let key = read_key(parts.key)?;
+    let file = read_file(work.names_file(), parts.file)?;
+    let name = read_name(work.has_name(), parts.name)?;
+    let onto = read_name(work.has_onto(), parts.onto)?;
+    make_task(alloc, work, key, file, name, onto)
 }
 
-fn make_task(alloc: Global, work: Work, key: KeyRef<'_>, file: &str) -> Result<Task, TaskError>
-    ensures { MatchResult result (λ task. task ≡ record { work = work; key = text_of key.entry; file = file.now }) (λ fault. fault ≡ TaskError.NoMemory) }
+fn make_task(
+    alloc: Global,
+    work: Work,
+    key: KeyRef<'_>,
+    file: &str,
+    name: &str,
+    onto: &str,
+) -> Result<Task, TaskError>
+    ensures { MatchResult result (λ task. task ≡ record { work = work; key = text_of key.entry; file = file.now; name = name.now; onto = onto.now }) (λ fault. fault ≡ TaskError.NoMemory) }
 {
     let key = Key::copy(alloc, key)?;
     let file = Text::copy(alloc, file)?;
-    Ok(Task { work, key, file })
+    let name = Text::copy(alloc, name)?;
+    let onto = Text::copy(alloc, onto)?;
+    Ok(Task {
+        work,
+        key,
+        file,
+        name,
+        onto,
+    })
+}
+
+// The parts of what stands behind a line's word. Those that the work hasn't are empty.
+#[derive(Clone, Copy)]
+struct Parts<'a> {
+    key: &'a [u8],
+    file: &'a [u8],
+    name: &'a [u8],
+    onto: &'a [u8],
+}
+
+fn parts_of(work: Work, rest: &[u8]) -> Parts<'_>
+    ensures key { result.key.now ≡ key_in work rest.now }
+    ensures file { result.file.now ≡ file_in work (after_first is_space rest.now) }
+    ensures name { result.name.now ≡ name_in work (after_first is_space rest.now) }
+    ensures onto { result.onto.now ≡ onto_in work (after_first is_space rest.now) }
+{
+    let (key, words) = split_at_space(rest);
+    let (first, second) = split_at_tab(words);
+    match work {
+        Work::Check | Work::Drop => Parts {
+            key: rest,
+            file: &[],
+            name: &[],
+            onto: &[],
+        },
+        Work::Store | Work::Get => Parts {
+            key,
+            file: words,
+            name: &[],
+            onto: &[],
+        },
+        Work::XStore | Work::XGet => Parts {
+            key,
+            file: first,
+            name: second,
+            onto: &[],
+        },
+        Work::XCheck | Work::XDrop => Parts {
+            key,
+            file: &[],
+            name: words,
+            onto: &[],
+        },
+        Work::XRename => Parts {
+            key,
+            file: &[],
+            name: first,
+            onto: second,
+        },
+    }
 }
 
 // What stands before the first space, or all, and what stands behind it.
@@ -50,7 +114,23 @@ fn split_at_space(bytes: &[u8]) -> (&[u8], &[u8])
     ensures before { result.0.now ≡ before_first is_space bytes.now }
     ensures behind { result.1.now ≡ after_first is_space bytes.now }
 {
-    let at = before_space(bytes);
+    cut_at(bytes, before_space(bytes))
+}
+
+// The same at the first byte 9.
+fn split_at_tab(bytes: &[u8]) -> (&[u8], &[u8])
+    ensures before { result.0.now ≡ before_first is_tab bytes.now }
+    ensures behind { result.1.now ≡ after_first is_tab bytes.now }
+{
+    cut_at(bytes, before_tab(bytes))
+}
+
+// What stands before this place, and what stands behind it.
+fn cut_at(bytes: &[u8], at: usize) -> (&[u8], &[u8])
+    requires within { at ≤ length bytes.now }
+    ensures before { result.0.now ≡ take at bytes.now }
+    ensures behind { result.1.now ≡ drop (at + 1) bytes.now }
+{
     if at == bytes.len() {
         return (bytes, &[]);
     }
@@ -62,6 +142,13 @@ fn before_space(bytes: &[u8]) -> usize
     ensures bound { result ≤ length bytes.now }
 {
     bytes.iter().take_while(|b| **b != b' ').count()
+}
+
+fn before_tab(bytes: &[u8]) -> usize
+    ensures value { result ≡ position_or_len is_tab bytes.now }
+    ensures bound { result ≤ length bytes.now }
+{
+    bytes.iter().take_while(|b| **b != b'\t').count()
 }
 
 // The key, where a request can carry it and it is no chunk's.
@@ -81,8 +168,29 @@ fn read_key(bytes: &[u8]) -> Result<KeyRef<'_>, TaskError>
     Ok(key)
 }
 
-// The file that the bytes name.
-fn read_file(bytes: &[u8]) -> Result<&str, TaskError>
+// The file that the bytes name, or none where none is wanted.
+fn read_file(wanted: bool, bytes: &[u8]) -> Result<&str, TaskError>
+    ensures ok { IfOk result (λ file. (file.now ≡ (if wanted then bytes.now else [])) × ((wanted && not (is_file bytes.now)) ≡ false)) }
+    ensures err { IfErr result (λ fault. (fault ≡ TaskError.File) × ((wanted && not (is_file bytes.now)) ≡ true)) }
+{
+    if !wanted {
+        return Ok("");
+    }
+    text_of_file(bytes)
+}
+
+// The same of a name.
+fn read_name(wanted: bool, bytes: &[u8]) -> Result<&str, TaskError>
+    ensures ok { IfOk result (λ name. (name.now ≡ (if wanted then bytes.now else [])) × ((wanted && not (is_name bytes.now)) ≡ false)) }
+    ensures err { IfErr result (λ fault. (fault ≡ TaskError.Name) × ((wanted && not (is_name bytes.now)) ≡ true)) }
+{
+    if !wanted {
+        return Ok("");
+    }
+    text_of_name(bytes)
+}
+
+fn text_of_file(bytes: &[u8]) -> Result<&str, TaskError>
     ensures ok { IfOk result (λ file. (file.now ≡ bytes.now) × IsTrue (is_file bytes.now)) }
     ensures err { IfErr result (λ fault. (fault ≡ TaskError.File) × (is_file bytes.now ≡ false)) }
 {
@@ -93,6 +201,25 @@ fn read_file(bytes: &[u8]) -> Result<&str, TaskError>
         Ok(file) => Ok(file),
         Err(_) => Err(TaskError::File),
     }
+}
+
+fn text_of_name(bytes: &[u8]) -> Result<&str, TaskError>
+    ensures ok { IfOk result (λ name. (name.now ≡ bytes.now) × IsTrue (is_name bytes.now)) }
+    ensures err { IfErr result (λ fault. (fault ≡ TaskError.Name) × (is_name bytes.now ≡ false)) }
+{
+    if has_tab(bytes) {
+        return Err(TaskError::Name);
+    }
+    match text_of_file(bytes) {
+        Ok(name) => Ok(name),
+        Err(_) => Err(TaskError::Name),
+    }
+}
+
+fn has_tab(bytes: &[u8]) -> bool
+    ensures { result ≡ list_any is_tab bytes.now }
+{
+    bytes.iter().any(|b| *b == b'\t')
 }
 
 fn has_newline(bytes: &[u8]) -> bool
@@ -109,10 +236,33 @@ pub fn write_task(alloc: Global, task: &Task) -> Result<Bytes, NoMemory>
     let mut line = Vec::from_slice(alloc, task.work.word())?;
     line.push(b' ')?;
     line.extend_from_slice(task.key.view().text())?;
-    if task.work.names_file() {
-        line.push(b' ')?;
-        line.extend_from_slice(task.file.view().as_bytes())?;
-        return Ok(Bytes::from_vec(line));
-    }
+    push_words(&mut line, task)?;
     Ok(Bytes::from_vec(line))
+}
+
+// What stands behind the key.
+fn push_words(line: &mut Vec<u8>, task: &Task) -> Result<(), NoMemory>
+    ensures { OnOk result (line.new.items ≡ line.old.items ++ behind_key task.now.work task.now.file task.now.name task.now.onto) }
+{
+    match task.work {
+        Work::Check | Work::Drop => Ok(()),
+        Work::Store | Work::Get => push_word(line, b' ', &task.file),
+        Work::XCheck | Work::XDrop => push_word(line, b' ', &task.name),
+        Work::XStore | Work::XGet => {
+            push_word(line, b' ', &task.file)?;
+            push_word(line, b'\t', &task.name)
+        }
+        Work::XRename => {
+            push_word(line, b' ', &task.name)?;
+            push_word(line, b'\t', &task.onto)
+        }
+    }
+}
+
+fn push_word(line: &mut Vec<u8>, mark: u8, word: &Text) -> Result<(), NoMemory>
+    ensures { OnOk result (line.new.items ≡ line.old.items ++ mark ∷ word.now) }
+{
+    line.push(mark)?;
+    line.extend_from_slice(word.view().as_bytes())?;
+    Ok(())
 }

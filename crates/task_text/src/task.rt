@@ -11,14 +11,21 @@ pub enum Work {
     Get,
     Check,
     Drop,
+    XStore,
+    XGet,
+    XCheck,
+    XDrop,
+    XRename,
 }
 
-/// One task. The file is empty for Check and Drop.
+/// One task. The file, the name of an exported file and the name that it gets are empty where the work has none.
 #[derive(Drop)]
 pub struct Task {
     pub work: Work,
     pub key: Key,
     pub file: Text,
+    pub name: Text,
+    pub onto: Text,
 }
 
 /// The tasks of a run, numbered from 1.
@@ -37,9 +44,19 @@ impl Model for Tasks {
 }
 
 impl Work {
-    ghost use Rattle.task_text.specs.Works.{names_file, word_of, work_of};
+    ghost use Rattle.task_text.specs.Works.{has_name, has_onto, names_file, word_of, work_of};
 
-    const ALL: [Work; 4] = [Work::Store, Work::Get, Work::Check, Work::Drop];
+    const ALL: [Work; 9] = [
+        Work::Store,
+        Work::Get,
+        Work::Check,
+        Work::Drop,
+        Work::XStore,
+        Work::XGet,
+        Work::XCheck,
+        Work::XDrop,
+        Work::XRename,
+    ];
 
     /// The word that begins a task's line.
     pub fn word(self) -> &'static [u8]
@@ -50,6 +67,11 @@ impl Work {
             Work::Get => b"get",
             Work::Check => b"check",
             Work::Drop => b"drop",
+            Work::XStore => b"xstore",
+            Work::XGet => b"xget",
+            Work::XCheck => b"xcheck",
+            Work::XDrop => b"xdrop",
+            Work::XRename => b"xrename",
         }
     }
 
@@ -65,9 +87,26 @@ impl Work {
         ensures { result ≡ names_file self }
     {
         match self {
-            Work::Store | Work::Get => true,
-            Work::Check | Work::Drop => false,
+            Work::Store | Work::Get | Work::XStore | Work::XGet => true,
+            Work::Check | Work::Drop | Work::XCheck | Work::XDrop | Work::XRename => false,
         }
+    }
+
+    /// Whether it has the name of an exported file.
+    pub fn has_name(self) -> bool
+        ensures { result ≡ has_name self }
+    {
+        match self {
+            Work::Store | Work::Get | Work::Check | Work::Drop => false,
+            Work::XStore | Work::XGet | Work::XCheck | Work::XDrop | Work::XRename => true,
+        }
+    }
+
+    /// And the name that this file gets.
+    pub fn has_onto(self) -> bool
+        ensures { result ≡ has_onto self }
+    {
+        matches!(self, Work::XRename)
     }
 }
 
@@ -78,10 +117,14 @@ impl Task {
     {
         let key = Key::copy(alloc, self.key.view())?;
         let file = Text::copy(alloc, self.file.view())?;
+        let name = Text::copy(alloc, self.name.view())?;
+        let onto = Text::copy(alloc, self.onto.view())?;
         Ok(Task {
             work: self.work,
             key,
             file,
+            name,
+            onto,
         })
     }
 }

@@ -29,6 +29,7 @@ use Rattle.task_run.specs.TaskRuns.{check_answer}
 use Rattle.task_works.specs.Rounds.{RoundAsks, joined, Ended, EachEnded, Missed, missing_more}
 use Rattle.task_run.proofs.Texts.{apart}
 use Rattle.task_works.proofs.RoundLaws.{length_keys, some_keys}
+use Rattle.task_run.proofs.NamedRuns.{nameless, with_names}
 
 -- ---- askings that end nothing
 
@@ -287,7 +288,7 @@ stop_answers Unsent e = refl
 -- ---- runs
 
 abbrev check_task : List ℕ → List ℕ → Task
-check_task text file = record { work = W.Check; key = text; file = file }
+check_task text file = record { work = W.Check; key = text; file = file; name = []; onto = [] }
 
 module _ (setup : Setup) (t : ℕ) (key : Parts) (text file : List ℕ) (layouts : List (ℕ × ℕ)) where
   going : (asked : List Asking) (answer : Answer) → list_all goes_on asked ≡ true → RoundsAsk present_request 1 (layouts_tried key layouts) (rounds asked)
@@ -313,8 +314,8 @@ module _ (setup : Setup) (t : ℕ) (key : Parts) (text file : List ℕ) (layouts
       stops : filter_map (λ (b : Asking). verdict_stop false b.verdict) (before ++ a ∷ []) ≡ stop ∷ []
       stops = filter_map-append (λ (b : Asking). verdict_stop false b.verdict) before (a ∷ []) ∙ rw (none_stops before g, s) refl
 
-as_check : (task : Task) → task.work ≡ W.Check → task ≡ check_task task.key task.file
-as_check task e = ap (λ w. record { work = w; key = task.key; file = task.file }) e
+as_check : (task : Task) → task.work ≡ W.Check → nameless task ≡ check_task task.key task.file
+as_check task e = ap (λ w. record { work = w; key = task.key; file = task.file; name = []; onto = [] }) e
 
 ran : (task : Task) (t : ℕ) (key : Parts) (layouts : List (ℕ × ℕ)) (before after asked : List Asking) (result : Result Answer NoMemory) → task.work ≡ W.Check → key_reading task.key ≡ Some key
     → after ≡ before ++ asked → ((setup : Setup) → RunOf setup t (check_task task.key task.file) key layouts asked [] [] (answered result)) → RanAsking task t layouts before after result
@@ -322,7 +323,8 @@ ran task t key layouts before after asked result w r p h = record {
   asked = asked;
   pairs_are = p;
   run = λ setup. let P : Task → Type 0 = λ j. TaskRun j t setup layouts asked [] [] (answered result) in
-      subst P (sym (as_check task w)) (let Q : Option Parts → Type 0 = λ o. IfSome o (λ k. RunOf setup t (check_task task.key task.file) k layouts asked [] [] (answered result)) in subst Q (sym r) (h setup));
+      with_names task t setup layouts asked [] [] (answered result)
+      (subst P (sym (as_check task w)) (let Q : Option Parts → Type 0 = λ o. IfSome o (λ k. RunOf setup t (check_task task.key task.file) k layouts asked [] [] (answered result)) in subst Q (sym r) (h setup)));
 }
 
 module _ (task : Task) (t : ℕ) (key : Parts) (layouts : List (ℕ × ℕ)) (w : task.work ≡ W.Check) (k : key_reading task.key ≡ Some key) where

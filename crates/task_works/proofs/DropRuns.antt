@@ -31,6 +31,7 @@ use Rattle.task_run.specs.Ran.{answered, behind_more, is_verdict_of, may_follow_
 use Rattle.task_works.specs.Rounds.{RoundAsks, Removed, RanNoting, notes_none}
 use Rattle.task_run.proofs.Texts.{apart}
 use Rattle.task_works.proofs.CheckRuns.{goes_on, all_done_go_on, but_last, all_take, none_stops, take_next}
+use Rattle.task_run.proofs.NamedRuns.{nameless, with_names}
 
 -- ---- what a drop notes
 
@@ -183,7 +184,7 @@ removed_all a b notes later key sizes i h m = let P : List ℕ → Type 0 = λ s
 -- ---- runs
 
 abbrev drop_task : List ℕ → List ℕ → Task
-drop_task text file = record { work = W.Drop; key = text; file = file }
+drop_task text file = record { work = W.Drop; key = text; file = file; name = []; onto = [] }
 
 module _ (setup : Setup) (t : ℕ) (key : Parts) (text file : List ℕ) (layouts : List (ℕ × ℕ)) where
   going : (asked : List Asking) (noted : List Noting) (answer : Answer) → list_all goes_on asked ≡ true → DropAsks key (sizes_tried key layouts) asked noted
@@ -209,8 +210,8 @@ module _ (setup : Setup) (t : ℕ) (key : Parts) (text file : List ℕ) (layouts
       stops : filter_map (λ (b : Asking). verdict_stop false b.verdict) (before ++ a ∷ []) ≡ stop ∷ []
       stops = filter_map-append (λ (b : Asking). verdict_stop false b.verdict) before (a ∷ []) ∙ rw (none_stops before g, s) refl
 
-as_drop : (task : Task) → task.work ≡ W.Drop → task ≡ drop_task task.key task.file
-as_drop task e = ap (λ w. record { work = w; key = task.key; file = task.file }) e
+as_drop : (task : Task) → task.work ≡ W.Drop → nameless task ≡ drop_task task.key task.file
+as_drop task e = ap (λ w. record { work = w; key = task.key; file = task.file; name = []; onto = [] }) e
 
 done_not_failed : (v : Verdict) → is_done_at v ≡ true → failed_at v ≡ None
 done_not_failed (Done at) e = refl
@@ -256,7 +257,8 @@ ran task t key layouts before after asked notes later noted result w r p n h = r
   pairs_are = p;
   notes_are = n;
   run = λ setup. let P : Task → Type 0 = λ j. TaskRun j t setup layouts asked [] noted (answered result) in
-      subst P (sym (as_drop task w)) (let Q : Option Parts → Type 0 = λ o. IfSome o (λ k. RunOf setup t (drop_task task.key task.file) k layouts asked [] noted (answered result)) in subst Q (sym r) (h setup));
+      with_names task t setup layouts asked [] noted (answered result)
+      (subst P (sym (as_drop task w)) (let Q : Option Parts → Type 0 = λ o. IfSome o (λ k. RunOf setup t (drop_task task.key task.file) k layouts asked [] noted (answered result)) in subst Q (sym r) (h setup)));
 }
 
 -- what was asked of all layouts, and noted

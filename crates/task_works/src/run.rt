@@ -77,5 +77,7 @@ pub fn run_task<A: Asker, D: Desk>(
         Work::Get => get_key(alloc, task, number, setup, asker, desk),
         Work::Check => check(alloc, task, number, asker),
         Work::Drop => drop_key(alloc, task, number, asker),
+        // what they ask and how they are answered is still to be written
+        Work::XStore | Work::XGet | Work::XCheck | Work::XDrop | Work::XRename => unreachable!(),
     }
 }

@@ -9,14 +9,14 @@ use Rattle.task_input.specs.Rows.{drop_a, check_b, tasks}
 use Rattle.task_input.proofs.laws.worked_input.Goals as goal
 
 a : Task
-a = record { work = Drop; key = codes "WORM--a"; file = [] }
+a = record { work = Drop; key = codes "WORM--a"; file = []; name = []; onto = [] }
 
 b : Task
-b = record { work = Check; key = codes "WORM--b"; file = [] }
+b = record { work = Check; key = codes "WORM--b"; file = []; name = []; onto = [] }
 
 each : All IsTask tasks
 unfolding a b
-each = All-push IsTask (a ∷ []) b (All-push IsTask [] a (All-nil IsTask) (record { key_class = refl; file_class = refl })) (record { key_class = refl; file_class = refl })
+each = All-push IsTask (a ∷ []) b (All-push IsTask [] a (All-nil IsTask) (record { key_class = refl; file_class = refl; name_class = refl; onto_class = refl; apart = refl })) (record { key_class = refl; file_class = refl; name_class = refl; onto_class = refl; apart = refl })
 
 are : AreTasks tasks (drop_a ∷ check_b ∷ [])
 are = record { whole = refl; each = each }

@@ -1,6 +1,6 @@
 use Rattle.std.proofs.Common.{refl, sym, ◌∙◌}
 use Rattle.task_text.proofs.Files.{file_of, no_file_of}
-use Rattle.task_text.proofs.line.read_file.Goals as goal
+use Rattle.task_text.proofs.line.text_of_file.Goals as goal
 
 pub returns-in-Ok-clause-ok : goal.returns-in-Ok-clause-ok
 returns-in-Ok-clause-ok c = (
