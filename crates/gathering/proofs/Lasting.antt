@@ -51,7 +51,7 @@ alike : (j k : List Entry) (t : ℕ) (past xs : List Entry) (w : What) → SameV
 alike j k t past xs (Ask child job task line) h = go (task == t) h
   where
     asked : Verdict → Asking
-    asked v = record { request = host_reading (addressed past child line).1; verdict = v }
+    asked v = record { request = host_reading (addressed past child line).1; name = name_before past child job; verdict = v }
 
     go : (b : Bool) → SameVerdicts j k (cons_option (cond b (Some (child, job)) None) (each_of (job_for t) xs))
         → (cond b (option_map asked (verdict_of j child job)) None ≡ cond b (option_map asked (verdict_of k child job)) None) × SameVerdicts j k (each_of (job_for t) xs)

@@ -164,7 +164,7 @@ module _ (o : Opening) (n t : ℕ) where
       request = None;
       kept = lost_gone (why_of past c);
       added = askings-lost past [] t n c at.shut refl
-          ∙ ap (λ (v : Verdict). askings past t ++ record { request = None; verdict = v } ∷ []) (lost_same (why_of past c));
+          ∙ ap (λ (v : Verdict). askings past t ++ record { request = None; name = None; verdict = v } ∷ []) (lost_same (why_of past c));
     };
     noted = notings-unnoted past (entry n (Lost c t) ∷ []) t at.shut refl;
   }
@@ -176,7 +176,7 @@ module _ (o : Opening) (n t : ℕ) where
     asked = record {
       request = a.asked.request;
       kept = a.asked.kept;
-      added = a.asked.added ∙ ap (λ (xs : List Asking). xs ++ record { request = a.asked.request; verdict = v } ∷ []) asks;
+      added = a.asked.added ∙ ap (λ (xs : List Asking). xs ++ record { request = a.asked.request; name = None; verdict = v } ∷ []) asks;
     };
     noted = a.noted ∙ notes;
   }

@@ -107,14 +107,14 @@ pub record Unasked (pairs later : List Asking) (old new : Option Log) (result : 
   pub no_memory : result ≡ Err record {}
 
 pub record IsUndone (text fetch : List ℕ) (pairs later : List Asking) (old new : Option Log) (result : Result Went NoMemory) (v : Verdict) : Type 0 where
-  pub asks : AsksOne pairs later (Transfer false text fetch) v
+  pub asks : AsksOne pairs later None (Transfer false text fetch) v
   pub of_kind : is_verdict_of (Transfer false text fetch) v ≡ true
   pub not_done : is_done_at v ≡ false
   pub none_called : new ≡ old
   pub goes : result ≡ Ok (undone_went v)
 
 pub record IsFetched (text part fetch : List ℕ) (n : ℕ) (before after : Checker) (pairs later : List Asking) (old new : Option Log) (result : Result Went NoMemory) (v : Verdict) (how : Come) : Type 0 where
-  pub asks : AsksOne pairs later (Transfer false text fetch) v
+  pub asks : AsksOne pairs later None (Transfer false text fetch) v
   pub done : is_done_at v ≡ true
   pub calls : Gained old new (come_calls part fetch n how)
   pub goes : result ≡ come_result how

@@ -89,37 +89,37 @@ store_of journal r s key file got = by_change (last_change journal key got.answe
 -- ---- a request within a run is one of its askings
 
 among : (journal : List Entry) (u : ℕ) (past entries : List Entry) (s : Request) (v : Verdict) → IsIn s (requests_from past entries) → s.task ≡ u → verdict_of journal s.child s.job ≡ Some v
-    → IsIn (record { request = Some s.asks; verdict = v }) (askings_from journal u past entries)
+    → IsIn (record { request = Some s.asks; name = None; verdict = v }) (askings_from journal u past entries)
 among journal u past [] s v h t e = absurd h
 among journal u past (entry ∷ rest) s v h t e = by_what entry.what h (λ k. among journal u (past ++ entry ∷ []) rest s v k t e)
   where
     a : Asking
-    a = record { request = Some s.asks; verdict = v }
+    a = record { request = Some s.asks; name = None; verdict = v }
 
     by_what : (w : What) → IsIn s (cons_option (request_in past w) (requests_from (past ++ entry ∷ []) rest))
-        → (IsIn s (requests_from (past ++ entry ∷ []) rest) → IsIn (record { request = Some s.asks; verdict = v }) (askings_from journal u (past ++ entry ∷ []) rest))
-        → IsIn (record { request = Some s.asks; verdict = v }) (cons_option (asking_of journal u past w) (askings_from journal u (past ++ entry ∷ []) rest))
+        → (IsIn s (requests_from (past ++ entry ∷ []) rest) → IsIn (record { request = Some s.asks; name = None; verdict = v }) (askings_from journal u (past ++ entry ∷ []) rest))
+        → IsIn (record { request = Some s.asks; name = None; verdict = v }) (cons_option (asking_of journal u past w) (askings_from journal u (past ++ entry ∷ []) rest))
     by_what (Ask child job task line) k more = by_reading (host_reading (addressed past child line).1) refl k
       where
         by_reading : (o : Option HostMessage) → host_reading (addressed past child line).1 ≡ o
             → IsIn s (cons_option (option_map (λ q. record { at = length past; child = child; job = job; task = task; asks = q }) o) (requests_from (past ++ entry ∷ []) rest))
-            → IsIn (record { request = Some s.asks; verdict = v }) (cons_option (asking_of journal u past (Ask child job task line)) (askings_from journal u (past ++ entry ∷ []) rest))
-        by_reading None r k = in_option (record { request = Some s.asks; verdict = v }) (asking_of journal u past (Ask child job task line)) (askings_from journal u (past ++ entry ∷ []) rest) (more k)
-        by_reading (Some q) r (inr k) = in_option (record { request = Some s.asks; verdict = v }) (asking_of journal u past (Ask child job task line)) (askings_from journal u (past ++ entry ∷ []) rest) (more k)
+            → IsIn (record { request = Some s.asks; name = None; verdict = v }) (cons_option (asking_of journal u past (Ask child job task line)) (askings_from journal u (past ++ entry ∷ []) rest))
+        by_reading None r k = in_option (record { request = Some s.asks; name = None; verdict = v }) (asking_of journal u past (Ask child job task line)) (askings_from journal u (past ++ entry ∷ []) rest) (more k)
+        by_reading (Some q) r (inr k) = in_option (record { request = Some s.asks; name = None; verdict = v }) (asking_of journal u past (Ask child job task line)) (askings_from journal u (past ++ entry ∷ []) rest) (more k)
         by_reading (Some q) r (inl is) =
             let of_task : (task == u) ≡ true = same task (ap (λ (x : Request). x.task) is ∙ t) in
             let settled : verdict_of journal child job ≡ Some v = ap (λ (x : Request). verdict_of journal x.child x.job) is ∙ e in
             let asks : host_reading (addressed past child line).1 ≡ Some s.asks = r ∙ ap (λ (x : Request). Some x.asks) is in
-            let one : asking_of journal u past (Ask child job task line) ≡ Some (record { request = Some s.asks; verdict = v }) =
-            ap (λ (b : Bool). if b then option_map (λ w. record { request = host_reading (addressed past child line).1; verdict = w }) (verdict_of journal child job) else None) of_task
-            ∙ ap (λ (o : Option Verdict). option_map (λ w. record { request = host_reading (addressed past child line).1; verdict = w }) o) settled
-            ∙ ap (λ (o : Option HostMessage). Some (record { request = o; verdict = v })) asks in
-            let P : Option Asking → Type 0 = λ o. IsIn (record { request = Some s.asks; verdict = v }) (cons_option o (askings_from journal u (past ++ entry ∷ []) rest)) in
+            let one : asking_of journal u past (Ask child job task line) ≡ Some (record { request = Some s.asks; name = None; verdict = v }) =
+            ap (λ (b : Bool). if b then option_map (λ w. record { request = host_reading (addressed past child line).1; name = name_before past child job; verdict = w }) (verdict_of journal child job) else None) of_task
+            ∙ ap (λ (o : Option Verdict). option_map (λ w. record { request = host_reading (addressed past child line).1; name = name_before past child job; verdict = w }) o) settled
+            ∙ ap (λ (o : Option HostMessage). Some (record { request = o; name = None; verdict = v })) asks in
+            let P : Option Asking → Type 0 = λ o. IsIn (record { request = Some s.asks; name = None; verdict = v }) (cons_option o (askings_from journal u (past ++ entry ∷ []) rest)) in
             subst P (sym one) (inl refl)
           where
             same : (n : ℕ) → n ≡ u → (n == u) ≡ true
             same n e = rw e (eq-eqb u u refl)
-    by_what w k more = in_option (record { request = Some s.asks; verdict = v }) (asking_of journal u past w) (askings_from journal u (past ++ entry ∷ []) rest) (more k)
+    by_what w k more = in_option (record { request = Some s.asks; name = None; verdict = v }) (asking_of journal u past w) (askings_from journal u (past ++ entry ∷ []) rest) (more k)
 
 -- ---- one key has one range
 
@@ -213,15 +213,15 @@ range_is o setup told journal t u n chunk key content stores one p a s base plac
         let of : is_chunking setup (Some one.run.task) ≡ true = rw keyed one.chunked in
         ap (λ (m : ℕ). is_chunking setup (task_of o m)) of_task ∙ ap (is_chunking setup) one.run.is ∙ of
 
-    by_request : (request : Option HostMessage) → AsksFor (fetch_request setup t) n p.key (record { request = request; verdict = a.verdict }) → IsStoredFor journal t request s
+    by_request : (request : Option HostMessage) → AsksFor (fetch_request setup t) n p.key (record { request = request; name = a.name; verdict = a.verdict }) → IsStoredFor journal t request s
         → RangeIs o setup told key one.key content s p (run_askings one.run.run)
     by_request (Some (Transfer false text file)) q (r, of_t, got) =
         let store : IsStore journal text s = store_of journal r s text file got in
-        let asking : Asking = record { request = Some s.asks; verdict = store.verdict } in
-        let there : IsIn (record { request = Some s.asks; verdict = store.verdict }) (run_askings one.run.run) =
+        let asking : Asking = record { request = Some s.asks; name = None; verdict = store.verdict } in
+        let there : IsIn (record { request = Some s.asks; name = None; verdict = store.verdict }) (run_askings one.run.run) =
         among journal u (past_claim one.run.run) one.run.run.within s store.verdict (within_run o journal u one.run.run s (task_above o u one.run.task one.run.is) legal store.there of_task) of_task store.settled in
         let range : IsRangeSent setup one.key content (told.calls u) text store.file =
-        chunk_ranges setup u one.key one.run.task.file content (run_askings one.run.run) (told.calls u) (run_notings one.run.run) (record { request = Some s.asks; verdict = store.verdict }) text store.file store_run one.shows there
+        chunk_ranges setup u one.key one.run.task.file content (run_askings one.run.run) (told.calls u) (run_notings one.run.run) (record { request = Some s.asks; name = None; verdict = store.verdict }) text store.file store_run one.shows there
         (ap (λ (x : HostMessage). Some x) store.asks) in
         let keys : Some p.key ≡ Some range.part.key = sym q.1 ∙ range.keyed in
         let same : SameRange key one.key p range.part =
@@ -236,7 +236,7 @@ range_is o setup told journal t u n chunk key content stores one p a s base plac
               ∙ ap (λ (m : ℕ). slice_range content m range.part.to) (sym same.from)
               ∙ ap (λ (m : ℕ). slice_range content p.from m) (sym same.to);
           size = same.size;
-          some = some_in (record { request = Some s.asks; verdict = store.verdict }) (run_askings one.run.run) there;
+          some = some_in (record { request = Some s.asks; name = None; verdict = store.verdict }) (run_askings one.run.run) there;
         }
     by_request request q got = absurd got
 

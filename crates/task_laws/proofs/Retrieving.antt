@@ -29,7 +29,7 @@ shown : (o : Opening) (setup : Setup) (told : Told) (journal : List Entry) (t n 
     → AsksFor (fetch_request setup t) n key a → IsStoredFor journal t a.request s → Shows (fetch_file setup t n) (sent o setup told s) (told.calls t)
 shown o setup told journal t n key a s faithful asks stored = by_request a.request asks stored
   where
-    by_request : (request : Option HostMessage) → AsksFor (fetch_request setup t) n key (record { request = request; verdict = a.verdict }) → IsStoredFor journal t request s
+    by_request : (request : Option HostMessage) → AsksFor (fetch_request setup t) n key (record { request = request; name = a.name; verdict = a.verdict }) → IsStoredFor journal t request s
         → Shows (fetch_file setup t n) (sent o setup told s) (told.calls t)
     by_request (Some (Transfer false k file)) q (r, of_task, got) =
         let same : Transfer false k file ≡ Transfer false k (fetch_file setup t n) = q.0 in

@@ -57,7 +57,7 @@ SameVerdicts j k [] = Unit {0}
 SameVerdicts j k (q ∷ qs) = (verdict_of j q.0 q.1 ≡ verdict_of k q.0 q.1) × SameVerdicts j k qs
 
 abbrev asked_so : List Entry → ℕ → List ℕ → Verdict → Asking
-asked_so past child line v = record { request = host_reading (addressed past child line).1; verdict = v }
+asked_so past child line v = record { request = host_reading (addressed past child line).1; name = name_before past child job; verdict = v }
 
 askings_from-alike : (j k : List Entry) (t : ℕ) (past xs : List Entry) → SameVerdicts j k (each_of (job_for t) xs)
     → askings_from j t past xs ≡ askings_from k t past xs
@@ -174,27 +174,27 @@ pub askings-ask : (past more : List Entry) (t by child job : ℕ) (line : List �
     → has_open_job past t ≡ false → any (asks_for t) more ≡ false
     → host_reading (addressed past child line).1 ≡ request
     → verdict_of (past ++ entry by (Ask child job t line) ∷ more) child job ≡ Some v
-    → askings (past ++ entry by (Ask child job t line) ∷ more) t ≡ askings past t ++ record { request = request; verdict = v } ∷ []
+    → askings (past ++ entry by (Ask child job t line) ∷ more) t ≡ askings past t ++ record { request = request; name = None; verdict = v } ∷ []
 askings-ask past more t by child job line request v h none reading settled =
     let e = entry by (Ask child job t line) in
     let journal = past ++ e ∷ more in
     let rest : askings_from journal t (past ++ e ∷ []) more ≡ [] = askings_from-none journal t (past ++ e ∷ []) more none in
-    let first : asking_of journal t past (Ask child job t line) ≡ Some (record { request = request; verdict = v }) =
-    rw (same t) (rw settled (ap (λ (r : Option HostMessage). Some (record { request = r; verdict = v })) reading)) in
+    let first : asking_of journal t past (Ask child job t line) ≡ Some (record { request = request; name = None; verdict = v }) =
+    rw (same t) (rw settled (ap (λ (r : Option HostMessage). Some (record { request = r; name = None; verdict = v })) reading)) in
     askings-append past (e ∷ more) t h
     ∙ ap (λ (xs : List Asking). askings past t ++ xs)
     (ap (λ (o : Option Asking). cons_option o (askings_from journal t (past ++ e ∷ []) more)) first
-    ∙ ap (cons_option (Some (record { request = request; verdict = v }))) rest)
+    ∙ ap (cons_option (Some (record { request = request; name = None; verdict = v }))) rest)
 
 -- a request that found its child ended or mute
 pub askings-lost : (past more : List Entry) (t by child : ℕ) → has_open_job past t ≡ false → any (asks_for t) more ≡ false
-    → askings (past ++ entry by (Lost child t) ∷ more) t ≡ askings past t ++ record { request = None; verdict = lost_verdict (why_of past child) } ∷ []
+    → askings (past ++ entry by (Lost child t) ∷ more) t ≡ askings past t ++ record { request = None; name = None; verdict = lost_verdict (why_of past child) } ∷ []
 askings-lost past more t by child h none =
     let e = entry by (Lost child t) in
     let journal = past ++ e ∷ more in
     let rest : askings_from journal t (past ++ e ∷ []) more ≡ [] = askings_from-none journal t (past ++ e ∷ []) more none in
-    let first : asking_of journal t past (Lost child t) ≡ Some (record { request = None; verdict = lost_verdict (why_of past child) }) = rw (same t) refl in
+    let first : asking_of journal t past (Lost child t) ≡ Some (record { request = None; name = None; verdict = lost_verdict (why_of past child) }) = rw (same t) refl in
     askings-append past (e ∷ more) t h
     ∙ ap (λ (xs : List Asking). askings past t ++ xs)
     (ap (λ (o : Option Asking). cons_option o (askings_from journal t (past ++ e ∷ []) more)) first
-    ∙ ap (cons_option (Some (record { request = None; verdict = lost_verdict (why_of past child) }))) rest)
+    ∙ ap (cons_option (Some (record { request = None; name = None; verdict = lost_verdict (why_of past child) }))) rest)

@@ -1,7 +1,7 @@
 // The requests of a task, made, asked and let go.
 //
 // A request is asked in a function of its own, since what lets it go goes by its kinds.
-ghost use Rattle.std.specs.Prelude.{◌≡◌, true, false, IfOk};
+ghost use Rattle.std.specs.Prelude.{◌≡◌, true, false, IfOk, None};
 ghost use Rattle.ann_key.specs.KeyRefs.{text_of};
 ghost use Rattle.annex_model.specs.Lines.{has_newline};
 ghost use Rattle.annex_model.specs.Messages.{Checkpresent, Remove, Transfer, is_sent_key};
@@ -24,7 +24,7 @@ pub fn present<A: Asker>(
     requires task { number ≡ A.task asker.old }
     requires ready { A.ready asker.old }
     requires key { is_sent_key (text_of key) ≡ true }
-    ensures pairs { AskAdds (A.pairs asker.old) (A.pairs asker.new) (Checkpresent (text_of key.entry)) result }
+    ensures pairs { AskAdds (A.pairs asker.old) (A.pairs asker.new) None (Checkpresent (text_of key.entry)) result }
     ensures verdict { IfOk result (λ v. is_verdict_of (Checkpresent (text_of key.entry)) v ≡ true) }
     ensures notes { A.notes asker.new ≡ A.notes asker.old }
     ensures layouts { A.current asker.new ≡ A.current asker.old }
@@ -45,7 +45,7 @@ pub fn remove<A: Asker>(
     requires task { number ≡ A.task asker.old }
     requires ready { A.ready asker.old }
     requires key { is_sent_key (text_of key) ≡ true }
-    ensures pairs { AskAdds (A.pairs asker.old) (A.pairs asker.new) (Remove (text_of key.entry)) result }
+    ensures pairs { AskAdds (A.pairs asker.old) (A.pairs asker.new) None (Remove (text_of key.entry)) result }
     ensures verdict { IfOk result (λ v. is_verdict_of (Remove (text_of key.entry)) v ≡ true) }
     ensures notes { A.notes asker.new ≡ A.notes asker.old }
     ensures layouts { A.current asker.new ≡ A.current asker.old }
@@ -69,7 +69,7 @@ pub fn transfer<A: Asker>(
     requires ready { A.ready asker.old }
     requires key { is_sent_key (text_of key) ≡ true }
     requires file { has_newline file.now ≡ false }
-    ensures pairs { AskAdds (A.pairs asker.old) (A.pairs asker.new) (Transfer store (text_of key.entry) file.now) result }
+    ensures pairs { AskAdds (A.pairs asker.old) (A.pairs asker.new) None (Transfer store (text_of key.entry) file.now) result }
     ensures verdict { IfOk result (λ v. is_verdict_of (Transfer store (text_of key.entry) file.now) v ≡ true) }
     ensures notes { A.notes asker.new ≡ A.notes asker.old }
     ensures layouts { A.current asker.new ≡ A.current asker.old }
