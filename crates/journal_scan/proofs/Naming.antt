@@ -22,8 +22,8 @@ some_name : (x : ℕ) (xs a b : List ℕ)
     → (bytes_eq (x ∷ xs) a || bytes_eq (x ∷ xs) b) ≡ ((not (is_empty a) && bytes_eq (x ∷ xs) a) || (not (is_empty b) && bytes_eq (x ∷ xs) b))
 some_name x xs [] [] = refl
 some_name x xs [] (b ∷ bs) = refl
-some_name x xs (a ∷ as) [] = refl
-some_name x xs (a ∷ as) (b ∷ bs) = refl
+some_name x xs (a ∷ more) [] = refl
+some_name x xs (a ∷ more) (b ∷ bs) = refl
 
 pub named : (name : List ℕ) (t : Task) → is_empty name ≡ false → (bytes_eq name t.name || bytes_eq name t.onto) ≡ list_any (bytes_eq name) (task_names t)
 named [] t some = absurd cc
