@@ -16,7 +16,7 @@ use Rattle.annex_model.specs.Messages.{host_reading}
 use Rattle.journal_model.specs.Journal.{addressed}
 use Rattle.task_run.specs.Askers.{Asking, Noting}
 use Rattle.task_run.specs.declared.setup.Setup.{Setup}
-use Rattle.task_run.specs.Askings.{TaskStretch, past_claim, run_askings, run_notings, asking_of, askings_from, noting_of, notings_from}
+use Rattle.task_run.specs.Askings.{TaskStretch, past_claim, run_askings, run_notings, asking_of, askings_from, noting_of, notings_from, name_before}
 use Rattle.task_run.specs.Runs.{TaskRun}
 use Rattle.journal_model.specs.Makers.{is_of_task}
 use Rattle.journal_model.proofs.Working.{AllAsked, all_asked, kept_verdict}

@@ -12,7 +12,7 @@ use Rattle.journal_model.specs.Legality.{job_for, has_open_job}
 use Rattle.journal_model.proofs.Looks.{entry, same, either_left, either_right}
 use Rattle.journal_model.proofs.Working.{AllAsked, all_asked, kept_verdict}
 use Rattle.task_run.specs.Askers.{Asking, Noting}
-use Rattle.task_run.specs.Askings.{asking_of, askings_from, askings, noting_of, notings_from}
+use Rattle.task_run.specs.Askings.{asking_of, askings_from, askings, noting_of, notings_from, name_before}
 use Rattle.lone_work.specs.AtTasks.{notings}
 
 -- the entry notes something for task t

@@ -4,11 +4,11 @@ use Rattle.annex_model.specs.Messages.{HostMessage, Transfer, Checkpresent, Remo
 use Rattle.journal_model.specs.declared.verdict.Verdict.{Verdict}
 use Rattle.journal_model.specs.declared.verdict.Verdict.TheVariants.{Done, Absent, Unsent}
 use Rattle.talk_serial.specs.declared.request.Request.{Request}
-use Rattle.talk_serial.specs.Requests.{message_of}
+use Rattle.talk_serial.specs.Requests.{message_of, name_of}
 use Rattle.task_run.specs.Askers.{Asking, Noting}
 
 abbrev pub pair_of : Request × Verdict → Asking
-pair_of pair = record { request = Some (message_of pair.0); name = None; verdict = pair.1 }
+pair_of pair = record { request = Some (message_of pair.0); name = name_of pair.0; verdict = pair.1 }
 
 abbrev pub note_of : ℕ × ℕ × ℕ → Noting
 note_of note = record { chunk = note.0; count = note.1; behind = note.2 }

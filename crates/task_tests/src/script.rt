@@ -3,8 +3,8 @@ ghost use Rattle.std.specs.Prelude.{◌≡◌, ◌<◌, ℕ, List, [], ◌∷◌
 ghost use Rattle.annex_model.specs.Messages.{is_askable};
 ghost use Rattle.annex_model.specs.Turns.{turn_of};
 ghost use Rattle.journal_model.specs.Projection.{IsNamed};
-ghost use Rattle.talk_serial.specs.Requests.{message_of};
-ghost use Rattle.task_run.specs.Askers.{Asking, Noting, AskAdds, NoteAdds, IsSameTask, names_in_line, are_layouts};
+ghost use Rattle.talk_serial.specs.Requests.{message_of, name_of};
+ghost use Rattle.task_run.specs.Askers.{Asking, Noting, AskAdds, NoteAdds, IsSameTask, names_in_line, is_said_in_line, are_layouts};
 ghost use Rattle.task_tests.specs.Scripts.{can_have, pair_of, note_of};
 
 use ann_key::NoMemory;
