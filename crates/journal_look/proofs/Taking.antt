@@ -1,5 +1,5 @@
 -- The table of claimed tasks, after one more entry.
-use Rattle.std.proofs.Common.{◌≡◌, ◌≢◌, ◌∙◌, ℕ, zero, suc, ◌+◌, ◌<◌, ◌≤◌, List, [], ◌∷◌, ◌++◌, refl, sym, ap, subst, Bool, true, false, length, get_or, set, take, replicate, arith, get_or-set_other, get_or-set_same}
+use Rattle.std.proofs.Common.{◌≡◌, ◌≢◌, ◌∙◌, ℕ, zero, suc, ◌+◌, ◌<◌, List, [], ◌∷◌, ◌++◌, refl, sym, ap, subst, Bool, true, false, length, get_or, set, take, arith, get_or-set_other, get_or-set_same}
 use Rattle.std.specs.Prelude.{◌==◌, ◌||◌}
 use Rattle.std.proofs.lemmas.Bool.{eqb-true, eqb-false}
 use Rattle.std.proofs.lemmas.List.{take_more}
@@ -12,12 +12,6 @@ use Rattle.journal_look.specs.Taken.{AreTaken, taken_after}
 
 pub none_noted : (past : List Entry) → AreTaken past []
 none_noted past = record { each = λ t within. absurd (omega arith) }
-
--- what is put past the end is nowhere
-pub set_past : (xs : List Bool) (n : ℕ) (b : Bool) → length xs ≤ n → set xs n b ≡ xs
-set_past [] n b h = refl
-set_past (x ∷ xs) zero b h = absurd (omega arith)
-set_past (x ∷ xs) (suc n) b h = ap (λ (l : List Bool). x ∷ l) (set_past xs n b (omega arith))
 
 length_set : (xs : List Bool) (n : ℕ) (b : Bool) → length (set xs n b) ≡ length xs
 length_set [] n b = refl
@@ -67,13 +61,3 @@ taken_next entries n e old new long at is are =
     let value : new ≡ taken_after (get_or entries n e).what old = is ∙ ap (λ (d : Entry). taken_after d.what old) at in
     subst (λ (es : List Entry). AreTaken es new) (sym (take_more entries n e long))
     (subst (AreTaken (take n entries ++ get_or entries n e ∷ [])) (sym value) (taken_more (take n entries) (get_or entries n e) old are))
-
--- ---- the start
-
-pub none_marked : (k : ℕ) → AreTaken [] (replicate k false)
-none_marked k = record { each = λ t within. unset k t }
-  where
-    unset : (k t : ℕ) → get_or (replicate k false) t false ≡ false
-    unset zero t = refl
-    unset (suc k) zero = refl
-    unset (suc k) (suc t) = unset k t
