@@ -47,10 +47,11 @@ const CHECK: &str = "special check PROGRAM KEY\n\
 const INFO: &str = "special info PROGRAM [KEY]\n\
     \n\
     Starts PROGRAM, which speaks the protocol of external special remotes on its standard input and output, and asks\n\
-    it for its configs, its cost, its availability and its infos, and with KEY where the content of KEY is. The answers\n\
-    are printed: config NAME DESCRIPTION, cost NUMBER, availability global or local, info NAME=VALUE, and whereis TEXT\n\
-    or whereis failure; or configs, cost, availability, infos or whereis, and unsupported. In place of an answer that did\n\
-    not come one line says why: ended, foul, unsent, notprepared or startfault, and nothing follows it.\n\
+    it for its configs, its cost, its availability and its infos, whether it can export, and with KEY where the content\n\
+    of KEY is. The answers are printed: config NAME DESCRIPTION, cost NUMBER, availability global or local, info\n\
+    NAME=VALUE, export supported, and whereis TEXT or whereis failure; or configs, cost, availability, infos, export or\n\
+    whereis, and unsupported. In place of an answer that did not come one line says why: ended, foul, unsent, notprepared\n\
+    or startfault, and nothing follows it.\n\
     The status is 0 where the remote answered all.\n";
 
 const INIT: &str = "special init PROGRAM UUID KEEP [NAME=VALUE ..]\n\
