@@ -398,7 +398,8 @@ def files_are_exported_got_renamed_and_removed(room, jobs):
     tasks = f"xstore WORM-s2--a f\tdocs/a b.txt\nxstore {ABC} g h\tc\n"
     expect(export(room, tasks, jobs), Done(0, "1 stored\n2 stored\n", ""), "two stores")
     expect(site(room), {"c": "abc", "docs/a b.txt": "hi"}, "what is exported")
-    tasks = f"xrename {ABC} c\tdocs/d\nxcheck {ABC} c\nxget {ABC} o\tdocs/d\nxdrop WORM-s2--a docs/a b.txt\nxcheck WORM-s2--a docs/a b.txt\n"
+    tasks = f"xrename {ABC} c\tdocs/d\nxcheck {ABC} c\nxget {ABC} o\tdocs/d\n"
+    tasks += "xdrop WORM-s2--a docs/a b.txt\nxcheck WORM-s2--a docs/a b.txt\n"
     out = "1 renamed\n2 absent\n3 got\n4 dropped\n5 absent\n"
     expect(export(room, tasks, jobs), Done(1, out, ""), "the name that is changed")
     expect((site(room), room.text("o")), ({"docs/d": "abc"}, "abc"), "what is exported, and what was got")
@@ -417,10 +418,11 @@ def case_what_is_exported_is_replaced_and_renamed_over(room):
 def a_name_that_leaves_the_folder_is_refused(room, name):
     room.write("f", "hi")
     name = room.path("x") if name == "/x" else name
-    tasks = f"xstore WORM-s2--a f\t{name}\nxget WORM-s2--b o\t{name}\nxcheck WORM--c {name}\nxdrop WORM--d {name}\nxrename WORM--e {name}\tm\n"
-    tasks += f"xstore WORM-s2--g f\tn\nxrename WORM--h n\t{name}\n"
+    tasks = f"xstore WORM-s2--a f\t{name}\nxget WORM-s2--b o\t{name}\nxcheck WORM--c {name}\nxdrop WORM--d {name}\n"
+    tasks += f"xrename WORM--e {name}\tm\nxstore WORM-s2--g f\tn\nxrename WORM--h n\t{name}\n"
     done = export(room, tasks, 1)
-    lines = [f"failed cannot copy {name}"] * 2 + [f"unknown outside the folder: {name}", f"failed cannot remove {name}", "failed ", "stored", "failed "]
+    lines = [f"failed cannot copy {name}", f"failed cannot copy {name}", f"unknown outside the folder: {name}",
+             f"failed cannot remove {name}", "failed ", "stored", "failed "]
     out = "".join(f"{n} {line}\n" for n, line in enumerate(lines, 1))
     expect(done, Done(status_of(out), out, ""))
     expect((site(room), left(room)), ({"n": "hi"}, ["f", "site"]), "the files")
