@@ -10,6 +10,9 @@ import signal
 import sys
 import time
 
+# The requests before which a name is said.
+EXPORTS = ("TRANSFEREXPORT", "CHECKPRESENTEXPORT", "REMOVEEXPORT", "RENAMEEXPORT")
+
 signal.alarm(int(float(os.environ.get("CASE_LIMIT", "30")) * 0.7))
 log = None
 
@@ -126,6 +129,39 @@ def hear_all(*messages):
             sys.exit(1)
         tags[left[0]] = tag
     return tags
+
+
+def hear_export():
+    """The next request about a name: its tag, the name and the request. Ends where the name and the request are parted."""
+    tag, lead = untagged(hear())
+    require_start(lead, "EXPORT ")
+    own, request = untagged(hear())
+    if own != tag or request.partition(" ")[0] not in EXPORTS:
+        print(f"child: {own}{request} came after {tag}{lead}", file=sys.stderr)
+        sys.exit(1)
+    return tag, lead.partition(" ")[2], request
+
+
+def hear_exports(*names):
+    """Hears a request about each of the names, in any order, and gives by the name its tag and its words."""
+    found = {}
+    while len(found) < len(names):
+        tag, name, request = hear_export()
+        if name not in names or name in found:
+            print(f"child: a request about {name!r} came, which is none of {names!r}", file=sys.stderr)
+            sys.exit(1)
+        found[name] = tag, request.split(" ", 3)
+    return found
+
+
+def serve_exports(answers):
+    """Answers each request about a name by its text: a table by `NAME: REQUEST`; ends at one that has no answer there."""
+    while True:
+        tag, name, request = hear_export()
+        answer = answers.get(f"{name}: {request}")
+        if answer is None:
+            sys.exit(0)
+        say(tag + answer)
 
 
 def meet(folder, count):

@@ -20,7 +20,8 @@ WRONG = ["", " ", "VERSION 1", "VERSION 2", "CHECKPRESENT-SUCCESS WORM--other", 
          "TRANSFER-SUCCESS RETRIEVE WORM-s3--b", "REMOVE-SUCCESS WORM--a", "VALUE x", "EXTENSIONS ASYNC",
          "PREPARE-SUCCESS", "PROGRESS -1", "PROGRESS 18446744073709551616", "J 1 PROGRESS 1", "J 0 DEBUG x", "J 5",
          "J 5 ", "J 99999 PROGRESS 1", "J 2 J 3 DEBUG x", "UNSUPPORTED-REQUEST", "CONFIGEND", "INFOEND", "INFOFIELD x",
-         "\udcff\udcfe", "GETSTATE not-a-key", "SETSTATE", "ERROR", "CHECKPRESENT-UNKNOWN WORM--a"]
+         "\udcff\udcfe", "GETSTATE not-a-key", "SETSTATE", "ERROR", "CHECKPRESENT-UNKNOWN WORM--a",
+         "RENAMEEXPORT-SUCCESS WORM--a", "EXPORT x"]
 
 
 class Remote:
@@ -121,17 +122,19 @@ class Remote:
             return self.random.choice(["EXTENSIONS INFO ASYNC", "EXTENSIONS ASYNC"]) if self.wants_tags else "EXTENSIONS"
         if word in ("PREPARE", "INITREMOTE"):
             return f"{word}-FAILURE not today" if fails and self.random.random() < 0.2 else f"{word}-SUCCESS"
-        if word == "TRANSFER":
+        if word in ("TRANSFER", "TRANSFEREXPORT"):
             if rest[0] == "RETRIEVE" and not fails:
                 put(" ".join(rest[2:]), b"abc")
             return f"TRANSFER-FAILURE {rest[0]} {rest[1]} no" if fails else f"TRANSFER-SUCCESS {rest[0]} {rest[1]}"
-        if word == "CHECKPRESENT":
+        if word in ("CHECKPRESENT", "CHECKPRESENTEXPORT"):
             ending = self.random.choice([f"FAILURE {rest[0]}", f"UNKNOWN {rest[0]} who knows"])
             return f"CHECKPRESENT-{ending}" if fails else f"CHECKPRESENT-SUCCESS {rest[0]}"
-        if word == "REMOVE":
+        if word in ("REMOVE", "REMOVEEXPORT"):
             return f"REMOVE-FAILURE {rest[0]} no" if fails else f"REMOVE-SUCCESS {rest[0]}"
+        if word == "RENAMEEXPORT":
+            return f"RENAMEEXPORT-FAILURE {rest[0]}" if fails else f"RENAMEEXPORT-SUCCESS {rest[0]}"
         finals = {"LISTCONFIGS": "CONFIGEND", "GETCOST": "COST 100", "GETAVAILABILITY": "AVAILABILITY LOCAL",
-                  "GETINFO": "INFOEND", "WHEREIS": "WHEREIS-FAILURE"}
+                  "GETINFO": "INFOEND", "EXPORTSUPPORTED": "EXPORTSUPPORTED-SUCCESS", "WHEREIS": "WHEREIS-FAILURE"}
         return "UNSUPPORTED-REQUEST" if fails else finals.get(word, "UNSUPPORTED-REQUEST")
 
     def live(self):
@@ -141,7 +144,7 @@ class Remote:
         self.say("VERSION 1")
         while True:
             tag, text = untagged(self.hear())
-            if text.split(" ")[0] not in ("VALUE", "CREDS"):
+            if text.split(" ")[0] not in ("VALUE", "CREDS", "EXPORT"):
                 self.late.append((tag, text))
             # Not put off until a line that never comes: a value may be the last that the host had to say.
             if self.late and not (self.wants_tags and self.random.random() < 0.3 and self.is_waiting()):

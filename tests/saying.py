@@ -83,7 +83,7 @@ class Child:
             if line is None:
                 return None
             words = re.sub(rb"^J \d+ ", b"", line).split(b" ", 3)
-            if words[:2] == [b"TRANSFER", b"RETRIEVE"]:
+            if words[0] in (b"TRANSFER", b"TRANSFEREXPORT") and words[1:2] == [b"RETRIEVE"]:
                 return words
 
     def play(self):

@@ -71,7 +71,7 @@ def case_each_aside_is_served_in_a_check(room):
 
 def case_each_aside_is_served_in_an_info(room):
     room.child("asking", ASKING)
-    told = "configs unsupported\ncost 7\navailability unsupported\ninfos unsupported\n"
+    told = "configs unsupported\ncost 7\navailability unsupported\ninfos unsupported\nexport unsupported\n"
     expect(room.special("info", "./asking"), (0, told, ""))
 
 

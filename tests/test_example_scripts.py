@@ -59,7 +59,7 @@ def case_the_async_remote_serves_a_host_without_async(room):
     expect(room.special("check", ASYNC, "WORM--a", env=env), (1, "1 absent\n", ""), "a check")
     room.write("folder/WORM--a", "content")
     expect(room.special("check", ASYNC, "WORM--a", env=env), (0, "1 present\n", ""), "a check of a key that is there")
-    unsupported = "".join(f"{what} unsupported\n" for what in ("configs", "cost", "availability", "infos"))
+    unsupported = "".join(f"{what} unsupported\n" for what in ("configs", "cost", "availability", "infos", "export"))
     expect(room.special("info", ASYNC, env=env), (0, unsupported, ""), "an info")
     expect(room.special("init", ASYNC, UUID, "keep", env=env), (0, "initialized\n", ""), "an init")
 

@@ -7,6 +7,7 @@ import signal
 import time
 
 from harness import SPECIAL, UUID, audit, expect, finish, limits, require, run, table
+from runs import WELL
 
 E = "WORM-s5--b"
 GREETING = "echo VERSION 1\nread -r line\necho EXTENSIONS\nread -r line\necho PREPARE-SUCCESS\n"
@@ -235,11 +236,12 @@ def is_running(pid):
 # ---- children that do right and wrong by a seed
 
 KEYS = ["WORM--a", "WORM-s3--b", "WORM-s10--c", "SHA256E-s3--x.txt"]
+NAMES = ["n", "docs/a b.txt", "EXPORT", "ä"]
 RUNS = int(os.environ.get("HOSTILE_RUNS") or 200)
 FIRST = int(os.environ.get("HOSTILE_SEED") or 1)
 PER_CASE = 10
-WORDS = {"stored", "got", "present", "dropped", "renamed", "absent", "unsupported", "unsent", "startfault", "nochild",
-         "filefault", "nofile", "memory", "failed", "unknown", "notprepared", "ended", "size", "hash", "foul"}
+WORDS = {"stored", "got", "present", "dropped", "absent", "unsupported", "unsent", "startfault", "nochild", "filefault",
+         "nofile", "memory", "failed", "renamed", "unknown", "notprepared", "ended", "size", "hash", "foul"}
 
 
 @table([(f"seeds from {first}", first) for first in range(FIRST, FIRST + RUNS, PER_CASE)])
@@ -298,18 +300,25 @@ class Trial:
 
     def task(self, number):
         key = self.random.choice(KEYS)
-        word = self.random.choice(["store", "get", "check", "drop"])
-        if word == "store":
+        name = self.random.choice(NAMES)
+        word = self.random.choice(["store", "get", "check", "drop", "xstore", "xget", "xcheck", "xdrop", "xrename"])
+        if word.endswith("store"):
             self.room.write(f"content-{self.seed}", b"abc")
-            return f"store {key} content-{self.seed}"
-        return f"get {key} got-{self.seed}-{number}" if word == "get" else f"{word} {key}"
+            task = f"{word} {key} content-{self.seed}"
+        else:
+            task = f"{word} {key} got-{self.seed}-{number}" if word.endswith("get") else f"{word} {key}"
+        if word in ("xstore", "xget"):
+            task += f"\t{name}"
+        elif word in ("xcheck", "xdrop", "xrename"):
+            task += f" {name}"
+        return f"{task}\t{self.random.choice(NAMES)}" if word == "xrename" else task
 
     def check_answers(self, done, count):
         lines = done.out.rstrip("\n").split("\n")
         expect([line.split(" ")[0] for line in lines], [str(n + 1) for n in range(count)], f"{self}: the numbers of the answers")
         odd = [line for line in lines if line.split(" ")[1] not in WORDS]
         expect(odd, [], f"{self}: answers")
-        well = all(line.split(" ")[1] in ("stored", "got", "present", "dropped", "renamed") for line in lines)
+        well = all(line.split(" ")[1] in WELL for line in lines)
         expect(done.status, 0 if well else 1, f"{self}: the status")
 
     def logs(self):

@@ -81,7 +81,7 @@ with open(f"ends.{number}", "w") as file:
 
 @table([
     ("check", ["check", "./remote", "WORM--a"], "", 'greet()\nhear("CHECKPRESENT WORM--a")\nsay("CHECKPRESENT-SUCCESS WORM--a")\n'),
-    ("info", ["info", "./remote"], "", "greet()\nfor _ in range(4):\n    hear()\n    say('UNSUPPORTED-REQUEST')\n"),
+    ("info", ["info", "./remote"], "", "greet()\nfor _ in range(5):\n    hear()\n    say('UNSUPPORTED-REQUEST')\n"),
     ("one job", ["run", "--program", "./remote", "--uuid", UUID, "--work", ".", "--jobs", "1"], "check WORM--a\n",
      'greet()\nhear("CHECKPRESENT WORM--a")\nsay("CHECKPRESENT-SUCCESS WORM--a")\n'),
     ("two jobs over a child that takes tags", ["run", "--program", "./remote", "--uuid", UUID, "--work", ".", "--jobs", "2"], "check WORM--a\n",

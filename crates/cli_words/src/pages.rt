@@ -47,10 +47,11 @@ const CHECK: &str = "special check PROGRAM KEY\n\
 const INFO: &str = "special info PROGRAM [KEY]\n\
     \n\
     Starts PROGRAM, which speaks the protocol of external special remotes on its standard input and output, and asks\n\
-    it for its configs, its cost, its availability and its infos, and with KEY where the content of KEY is. The answers\n\
-    are printed: config NAME DESCRIPTION, cost NUMBER, availability global or local, info NAME=VALUE, and whereis TEXT\n\
-    or whereis failure; or configs, cost, availability, infos or whereis, and unsupported. In place of an answer that did\n\
-    not come one line says why: ended, foul, unsent, notprepared or startfault, and nothing follows it.\n\
+    it for its configs, its cost, its availability and its infos, whether it can export, and with KEY where the content\n\
+    of KEY is. The answers are printed: config NAME DESCRIPTION, cost NUMBER, availability global or local, info\n\
+    NAME=VALUE, export supported, and whereis TEXT or whereis failure; or configs, cost, availability, infos, export or\n\
+    whereis, and unsupported. In place of an answer that did not come one line says why: ended, foul, unsent, notprepared\n\
+    or startfault, and nothing follows it.\n\
     The status is 0 where the remote answered all.\n";
 
 const INIT: &str = "special init PROGRAM UUID KEEP [NAME=VALUE ..]\n\
@@ -67,7 +68,9 @@ const INIT: &str = "special init PROGRAM UUID KEEP [NAME=VALUE ..]\n\
 const RUN: &str = "special run --program PROGRAM --uuid UUID [OPTIONS]\n\
     \n\
     Does the tasks of the input over children of PROGRAM. A line of the input is a task: store KEY FILE, get KEY FILE,\n\
-    check KEY or drop KEY. When all are done, one line for each is printed, in order: its number and its answer.\n\
+    check KEY or drop KEY; or, over names that the remote exports to and with a tab for TAB, xstore KEY FILE TAB NAME,\n\
+    xget KEY FILE TAB NAME, xcheck KEY NAME, xdrop KEY NAME or xrename KEY NAME TAB NEW. When all are done, one line for\n\
+    each is printed, in order: its number and its answer.\n\
     \n\
     --program PROGRAM  the program that serves the remote\n\
     --uuid UUID        the remote's UUID\n\
@@ -91,8 +94,8 @@ const RUN: &str = "special run --program PROGRAM --uuid UUID [OPTIONS]\n\
     \n\
     Answers:\n\
     \n\
-    stored, got, dropped      it is done\n\
-    renamed                   the file has its new name\n\
+    stored, got               it is done\n\
+    dropped, renamed          it is done\n\
     present, absent           the remote has the content, or hasn't\n\
     unknown TEXT              the remote can't tell now\n\
     failed TEXT               the remote said that it failed\n\
@@ -105,11 +108,11 @@ const RUN: &str = "special run --program PROGRAM --uuid UUID [OPTIONS]\n\
     ended WHY, foul LINE      the child ended, or said LINE where it may not stand\n\
     unsent, memory            a write to the child failed, or there wasn't enough memory\n\
     \n\
-    The status is 0 where each answer is stored, got, present, dropped or renamed, and 1 where another is among them.\n\
-    It is 3 where special: line N: REASON was printed, and nothing was started. REASON word: the line doesn't begin\n\
+    The status is 0 where each answer is stored, got, present, dropped or renamed, and 1 where some other one is among\n\
+    them. It is 3 where special: line N: REASON was printed, and nothing was started. REASON word: the line doesn't begin\n\
     with a task's word in lower case; key: there is no key after it; unsendable: the key holds a space or a control\n\
-    character, as in lines that end with CRLF; chunkkey: it is the key of a chunk; file: a FILE is missing; many,\n\
-    long and large: there are too many lines, or too many bytes.\n";
+    character, as in lines that end with CRLF; chunkkey: it is the key of a chunk; file: a FILE is missing; name: a NAME\n\
+    or NEW is missing, or holds a tab; many, long and large: there are too many lines, or too many bytes.\n";
 
 const AUDIT: &str = "special audit\n\
     \n\

@@ -9,7 +9,7 @@ use Rattle.std.proofs.lemmas.List.Folds.{list_all-append}
 use Rattle.journal_model.specs.declared.verdict.Why.{Why}
 use Rattle.journal_model.specs.declared.verdict.Verdict.{Verdict}
 use Rattle.journal_model.specs.declared.verdict.Verdict.TheVariants.{Ended, Unsent}
-use Rattle.annex_model.specs.Messages.{HostMessage, Listconfigs, Getcost, Getavailability, Getinfo, Whereis, Transferexport, Checkpresentexport, Removeexport, Renameexport, host_line, is_askable}
+use Rattle.annex_model.specs.Messages.{HostMessage, Listconfigs, Getcost, Getavailability, Getinfo, Exportsupported, Whereis, Transferexport, Checkpresentexport, Removeexport, Renameexport, host_line, is_askable}
 use Rattle.annex_model.specs.Talks.{has_lead}
 use Rattle.journal_model.specs.declared.entry.What.{What}
 use Rattle.journal_model.specs.declared.entry.What.TheVariants.{Start, Ask, End, Lost}
@@ -128,6 +128,7 @@ in_turn past c job Listconfigs h late = (rw late refl, refl)
 in_turn past c job Getcost h late = (rw late refl, refl)
 in_turn past c job Getavailability h late = (rw late refl, refl)
 in_turn past c job Getinfo h late = (rw late refl, refl)
+in_turn past c job Exportsupported h late = (rw late refl, refl)
 in_turn past c job (Whereis key) h late = (rw late refl, h)
 in_turn past c job q h late = absurd cc
 

@@ -2,7 +2,7 @@
 use Rattle.std.specs.Prelude.{ℕ, ◌≡◌, ◌⊎◌, ◌≤◌, ◌+◌, ◌==◌, ◌&&◌, not, if◌then◌else◌, Bool, true, false, List, [], ◌++◌, length, map, take, Option, Some, None}
 use Rattle.std.specs.List.{list_all}
 use Rattle.journal_model.specs.declared.verdict.Why.{Why}
-use Rattle.annex_model.specs.Messages.{HostMessage, Listconfigs, Getcost, Getavailability, Getinfo, Whereis, host_line, is_sent_key}
+use Rattle.annex_model.specs.Messages.{HostMessage, Listconfigs, Getcost, Getavailability, Getinfo, Exportsupported, Whereis, host_line, is_sent_key}
 use Rattle.journal_model.specs.declared.entry.What.{What}
 use Rattle.journal_model.specs.declared.entry.What.TheVariants.{Ask, End, Lost}
 use Rattle.journal_model.specs.declared.entry.Entry.{Entry}
@@ -63,6 +63,7 @@ is_question Listconfigs = true
 is_question Getcost = true
 is_question Getavailability = true
 is_question Getinfo = true
+is_question Exportsupported = true
 is_question (Whereis key) = is_sent_key key
 is_question q = false
 

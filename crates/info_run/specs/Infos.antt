@@ -6,7 +6,7 @@ use Rattle.journal_model.specs.declared.verdict.Why.TheVariants.{Closed}
 use Rattle.journal_model.specs.declared.verdict.Verdict.{Verdict}
 use Rattle.journal_model.specs.declared.verdict.Verdict.TheVariants.{Ended}
 use Rattle.annex_model.specs.declared.final_line.Final.{Final}
-use Rattle.annex_model.specs.Messages.{RemoteMessage, UnsupportedRequest, Config, Cost, Availability, Infofield, Infovalue, WhereisSuccess, WhereisFailure, HostMessage, Listconfigs, Getcost, Getavailability, Getinfo, Whereis}
+use Rattle.annex_model.specs.Messages.{RemoteMessage, UnsupportedRequest, Config, Cost, Availability, Infofield, Infovalue, WhereisSuccess, WhereisFailure, ExportsupportedSuccess, ExportsupportedFailure, HostMessage, Listconfigs, Getcost, Getavailability, Getinfo, Exportsupported, Whereis}
 use Rattle.annex_model.specs.Talks.{said}
 use Rattle.journal_model.specs.declared.entry.Entry.{Entry}
 use Rattle.journal_model.specs.Journal.{any, verdict_of, why_of, is_mute, is_started}
@@ -24,7 +24,7 @@ where_is None = []
 where_is (Some key) = Whereis key ∷ []
 
 abbrev pub questions : Option (List ℕ) → List HostMessage
-questions key = Listconfigs ∷ Getcost ∷ Getavailability ∷ Getinfo ∷ where_is key
+questions key = Listconfigs ∷ Getcost ∷ Getavailability ∷ Getinfo ∷ Exportsupported ∷ where_is key
 
 -- ---- what one answer tells
 
@@ -38,6 +38,7 @@ unsupported_line Listconfigs = codes "configs unsupported" ∷ []
 unsupported_line Getcost = codes "cost unsupported" ∷ []
 unsupported_line Getavailability = codes "availability unsupported" ∷ []
 unsupported_line Getinfo = codes "infos unsupported" ∷ []
+unsupported_line Exportsupported = codes "export unsupported" ∷ []
 unsupported_line (Whereis key) = codes "whereis unsupported" ∷ []
 unsupported_line q = []
 
@@ -46,6 +47,8 @@ abbrev pub line_of : HostMessage → RemoteMessage → List (List ℕ)
 line_of q (Config name description) = (codes "config " ++ name ++ 32 ∷ description) ∷ []
 line_of q (Cost number) = (codes "cost " ++ decimal number) ∷ []
 line_of q (Availability global) = (codes "availability " ++ scope_name global) ∷ []
+line_of q ExportsupportedSuccess = codes "export supported" ∷ []
+line_of q ExportsupportedFailure = codes "export unsupported" ∷ []
 line_of q (WhereisSuccess text) = (codes "whereis " ++ text) ∷ []
 line_of q WhereisFailure = codes "whereis failure" ∷ []
 line_of q UnsupportedRequest = unsupported_line q

@@ -1,7 +1,7 @@
 -- Worked journals: one child that is asked about itself.
 use Rattle.std.specs.Prelude.{List, [], ◌∷◌, ◌++◌, codes}
 use Rattle.journal_model.specs.declared.verdict.Why.TheVariants.{Eof, Foul}
-use Rattle.journal_model.specs.declared.verdict.Verdict.TheVariants.{Done, Unsupported, Ended}
+use Rattle.journal_model.specs.declared.verdict.Verdict.TheVariants.{Done, Absent, Unsupported, Ended}
 use Rattle.journal_model.specs.declared.entry.What.TheVariants.{NoStart, Ask, Sent, Got, End, Verdict as Settled, Lost}
 use Rattle.journal_model.specs.declared.entry.Entry.{Entry}
 use Rattle.journal_model.specs.Rows.{by_main, greeting}
@@ -36,7 +36,8 @@ ended_early = greeting ++ configs ++ by_main (End 1 Eof) ∷ []
 abbrev pub lost_cost : List Entry
 lost_cost = ended_early ++ by_main (Lost 1 0) ∷ []
 
--- a child was asked to get ready, and knows no request but the first: the verdicts. The lines that gave them are left out
+-- a child was asked to get ready, and knows no request but the first and the last, which it denies: the verdicts. The lines that gave
+-- them are left out
 abbrev pub answered : List Entry
 answered =
     by_main (Ask 1 1 0 (codes "PREPARE"))
@@ -45,6 +46,7 @@ answered =
     ∷ by_main (Settled 1 3 (Unsupported 17))
     ∷ by_main (Settled 1 4 (Unsupported 21))
     ∷ by_main (Settled 1 5 (Unsupported 25))
+    ∷ by_main (Settled 1 6 (Absent 29))
     ∷ []
 
 abbrev pub not_started : List Entry

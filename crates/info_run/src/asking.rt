@@ -29,6 +29,7 @@ fn requests(alloc: Global, key: Option<KeyRef<'_>>) -> Result<Vec<Request>, NoMe
     requests.push(Request::GetCost)?;
     requests.push(Request::GetAvailability)?;
     requests.push(Request::GetInfo)?;
+    requests.push(Request::ExportSupported)?;
     if let Some(key) = key {
         let key = Key::copy(alloc, key)?;
         requests.push(Request::WhereIs { key })?;

@@ -36,5 +36,6 @@ pub fn is_informed(journal: &Journal, key: Option<KeyRef<'_>>) -> bool
         && is_answered(journal, 1, 3)
         && is_answered(journal, 1, 4)
         && is_answered(journal, 1, 5)
-        && (key.is_none() || is_answered(journal, 1, 6))
+        && is_answered(journal, 1, 6)
+        && (key.is_none() || is_answered(journal, 1, 7))
 }

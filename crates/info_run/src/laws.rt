@@ -1,6 +1,6 @@
 // Laws over the definitions, each the contract of a function with nothing to do.
 ghost use Rattle.std.specs.Prelude.{◌≡◌, [], ◌∷◌, Some, None, codes, true, false};
-ghost use Rattle.annex_model.specs.Messages.{UnsupportedRequest, Config, Configend, Cost, Availability, Infofield, Infovalue, Infoend, WhereisSuccess, WhereisFailure, Listconfigs, Getcost, Getavailability, Getinfo, Whereis};
+ghost use Rattle.annex_model.specs.Messages.{UnsupportedRequest, Config, Configend, Cost, Availability, Infofield, Infovalue, Infoend, WhereisSuccess, WhereisFailure, ExportsupportedSuccess, ExportsupportedFailure, Listconfigs, Getcost, Getavailability, Getinfo, Exportsupported, Whereis};
 ghost use Rattle.info_run.specs.Infos.{lines_of, child_lines, is_informed, info_lines};
 ghost use Rattle.info_run.specs.Rows.{foul_cost, ended_early, lost_cost, answered, not_started};
 
@@ -15,6 +15,9 @@ pub fn worked_answers()
     ensures unsupported { lines_of Getavailability (Some UnsupportedRequest ∷ []) ≡ codes "availability unsupported" ∷ [] }
     ensures info { lines_of Getinfo (Some (Infofield (codes "size")) ∷ Some (Infovalue (codes "5")) ∷ Some Infoend ∷ []) ≡ codes "info size=5" ∷ [] }
     ensures empty_pair { lines_of Getinfo (Some (Infofield []) ∷ Some (Infovalue []) ∷ Some Infoend ∷ []) ≡ codes "info =" ∷ [] }
+    ensures exports { lines_of Exportsupported (Some ExportsupportedSuccess ∷ []) ≡ codes "export supported" ∷ [] }
+    ensures no_exports { lines_of Exportsupported (Some ExportsupportedFailure ∷ []) ≡ codes "export unsupported" ∷ [] }
+    ensures unknown_exports { lines_of Exportsupported (Some UnsupportedRequest ∷ []) ≡ codes "export unsupported" ∷ [] }
     ensures whereis { lines_of (Whereis (codes "WORM--a")) (Some (WhereisSuccess (codes "on the shelf")) ∷ []) ≡ codes "whereis on the shelf" ∷ [] }
     ensures nowhere { lines_of (Whereis (codes "WORM--a")) (Some WhereisFailure ∷ []) ≡ codes "whereis failure" ∷ [] }
 {}

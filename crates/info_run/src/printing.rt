@@ -158,7 +158,7 @@ fn push_questions(
     child: u32,
     questions: &[HostMsg<'_>],
 ) -> Result<(), NoMemory>
-    requires { length questions.now ≤ 5 }
+    requires { length questions.now ≤ 6 }
     ensures { IfOk result (λ _. HasPrinted (questions_from journal.now.entries child (map host_shown questions.now) 2) told.old told.new) }
 {
     for (n, question) in questions.iter().enumerate() {

@@ -14,13 +14,14 @@ pub(super) fn questions(
     key: Option<KeyRef<'_>>,
 ) -> Result<Vec<HostMsg<'_>>, NoMemory>
     ensures questions { IfOk result (λ v. map host_shown v.items ≡ questions (option_map text_of key.entry)) }
-    ensures few { IfOk result (λ v. length v.items ≤ 5) }
+    ensures few { IfOk result (λ v. length v.items ≤ 6) }
 {
     let mut questions = Vec::new(alloc);
     questions.push(HostMsg::Listconfigs)?;
     questions.push(HostMsg::Getcost)?;
     questions.push(HostMsg::Getavailability)?;
     questions.push(HostMsg::Getinfo)?;
+    questions.push(HostMsg::Exportsupported)?;
     if let Some(key) = key {
         questions.push(HostMsg::Whereis(key))?;
     }

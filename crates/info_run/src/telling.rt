@@ -102,6 +102,7 @@ impl InfoText {
             HostMsg::Getcost => self.push_line(b"cost unsupported", b""),
             HostMsg::Getavailability => self.push_line(b"availability unsupported", b""),
             HostMsg::Getinfo => self.push_line(b"infos unsupported", b""),
+            HostMsg::Exportsupported => self.push_line(b"export unsupported", b""),
             HostMsg::Whereis(_) => self.push_line(b"whereis unsupported", b""),
             _ => Ok(()),
         }
@@ -124,6 +125,8 @@ impl InfoText {
             RemoteMsg::Availability(global) => {
                 self.push_line(b"availability ", scope_name(*global))
             }
+            RemoteMsg::ExportsupportedSuccess => self.push_line(b"export supported", b""),
+            RemoteMsg::ExportsupportedFailure => self.push_line(b"export unsupported", b""),
             RemoteMsg::WhereisSuccess(words) => self.push_line(b"whereis ", words),
             RemoteMsg::WhereisFailure => self.push_line(b"whereis failure", b""),
             RemoteMsg::UnsupportedRequest => self.push_unsupported(question),

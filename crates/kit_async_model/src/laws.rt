@@ -82,10 +82,14 @@ pub fn worked_ends()
     ensures host_error { (standing two (tagging ++ Heard (codes "J 1 ERROR no") ∷ [])).over ≡ true }
 {}
 
-/// EXPORT asks for nothing. Without tags a request is answered before the next is heard.
+/// EXPORT asks for nothing, and a request about the name isn't known. Without tags a request is answered before the next is heard.
 pub fn worked_asides()
     ensures export { is_legal two (ready ++ check_a ∷ Heard (codes "J 3 EXPORT a b") ∷ Take 2 0 ∷ Call 2 0 No ∷ absent_a ∷ []) ≡ true }
     ensures export_answered { is_legal two (ready ++ Heard (codes "J 3 EXPORT a b") ∷ Say 3 (codes "J 3 UNSUPPORTED-REQUEST") ∷ []) ≡ false }
+    ensures exported { is_legal two (ready ++ Heard (codes "J 3 EXPORT a b") ∷ Heard (codes "J 3 TRANSFEREXPORT STORE WORM--a f") ∷ Say 3 (codes "J 3 UNSUPPORTED-REQUEST") ∷ []) ≡ true }
+    ensures exports_of_two_jobs { is_legal two (ready ++ Heard (codes "J 3 EXPORT a") ∷ Heard (codes "J 4 EXPORT b") ∷ Heard (codes "J 4 RENAMEEXPORT WORM--a c") ∷ Say 4 (codes "J 4 UNSUPPORTED-REQUEST") ∷ Heard (codes "J 3 REMOVEEXPORT WORM--a") ∷ Say 3 (codes "J 3 UNSUPPORTED-REQUEST") ∷ []) ≡ true }
+    ensures export_questions { is_legal two (ready ++ Heard (codes "J 3 EXPORTSUPPORTED") ∷ Say 3 (codes "J 3 UNSUPPORTED-REQUEST") ∷ Heard (codes "J 4 CHECKPRESENTEXPORT WORM--a") ∷ Say 4 (codes "J 4 UNSUPPORTED-REQUEST") ∷ []) ≡ true }
+    ensures export_worked { is_legal two (ready ++ Heard (codes "J 3 EXPORT a") ∷ Heard (codes "J 3 CHECKPRESENTEXPORT WORM--a") ∷ Take 3 0 ∷ []) ≡ false }
     ensures export_for_a_value { is_legal two (asking ++ Heard (codes "J 1 EXPORT a b") ∷ error ∷ []) ≡ true }
     ensures plain_waits { is_legal two (plain ++ plain_check ∷ Heard (codes "GETCOST") ∷ []) ≡ false }
     ensures late_tags { is_legal two (plain ++ Heard (codes "EXTENSIONS ASYNC") ∷ Say 0 (codes "EXTENSIONS ASYNC") ∷ Heard (codes "J 1 GETCOST") ∷ Say 1 (codes "J 1 UNSUPPORTED-REQUEST") ∷ []) ≡ true }

@@ -1,6 +1,6 @@
 -- Worked sessions of a kit.
 use Rattle.std.specs.Prelude.{ℕ, List, [], ◌∷◌, Some, None, codes, true}
-use Rattle.annex_model.specs.Messages.{HostMessage, AskExtensions, Prepare, Initremote, Transfer, Checkpresent, Listconfigs, Getcost, Getavailability, Getinfo, Whereis, Value, HostError}
+use Rattle.annex_model.specs.Messages.{HostMessage, AskExtensions, Prepare, Initremote, Transfer, Checkpresent, Listconfigs, Getcost, Getavailability, Getinfo, Whereis, Exportsupported, Export, Transferexport, Checkpresentexport, Removeexport, Renameexport, Value, HostError}
 use Rattle.kit_core.specs.declared.call.Said.{Said}
 use Rattle.kit_core.specs.declared.call.Said.TheVariants.{Yes, No, Failure}
 use Rattle.kit_core.specs.declared.call.Asked.{Asked}
@@ -48,6 +48,19 @@ early_session = heard Prepare ∷ heard_with (Value (codes "d")) (AskPrepare val
 -- a remote that gets ready before it has the values
 abbrev pub hasty_session : List Heard
 hasty_session = heard_with Prepare (AskPrepare []) Yes ∷ []
+
+-- a host that asks about exports: nothing is said to a name
+abbrev pub export_session : List Heard
+export_session =
+    heard Exportsupported
+    ∷ heard (Export (codes "a b.txt")) ∷ heard (Transferexport true key (codes "f"))
+    ∷ heard (Export []) ∷ heard (Checkpresentexport key)
+    ∷ heard (Export (codes "a")) ∷ heard (Removeexport key)
+    ∷ heard (Export (codes "a")) ∷ heard (Renameexport key (codes "c d")) ∷ []
+
+-- a name in place of a value
+abbrev pub name_session : List Heard
+name_session = heard Prepare ∷ heard (Export (codes "a")) ∷ []
 
 -- INITREMOTE doesn't prepare
 abbrev pub init_session : List Heard

@@ -2,7 +2,7 @@
 ghost use Rattle.std.specs.Prelude.{◌≡◌, [], ◌∷◌, ◌++◌, codes, decimal, true, false};
 ghost use Rattle.kit_core.specs.Kits.{IsServed, lines_said, is_over, messages};
 ghost use Rattle.kit_core.specs.Described.{described_lines, AreAnswered};
-ghost use Rattle.kit_core.specs.Rows.{description, described_session, untold_session, awaiting_session, intruding_session, astray_session, settings, check_session, invented_session, early_session, hasty_session, init_session, again_session, transfer_session, value_session, request_session, error_session, bare_session};
+ghost use Rattle.kit_core.specs.Rows.{description, described_session, untold_session, awaiting_session, intruding_session, astray_session, settings, check_session, export_session, name_session, invented_session, early_session, hasty_session, init_session, again_session, transfer_session, value_session, request_session, error_session, bare_session};
 
 /// What a kit with the one setting `directory` says in worked sessions.
 pub fn worked_lines()
@@ -13,6 +13,8 @@ pub fn worked_lines()
     ensures value { lines_said settings value_session ≡ codes "ERROR unexpected message" ∷ [] }
     ensures request { lines_said settings request_session ≡ codes "GETCONFIG directory" ∷ codes "ERROR unexpected message" ∷ [] }
     ensures error { lines_said settings error_session ≡ codes "GETCONFIG directory" ∷ [] }
+    ensures exports { lines_said settings export_session ≡ codes "UNSUPPORTED-REQUEST" ∷ codes "UNSUPPORTED-REQUEST" ∷ codes "UNSUPPORTED-REQUEST" ∷ codes "UNSUPPORTED-REQUEST" ∷ codes "UNSUPPORTED-REQUEST" ∷ [] }
+    ensures name { lines_said settings name_session ≡ codes "GETCONFIG directory" ∷ codes "ERROR unexpected message" ∷ [] }
     ensures bare { lines_said [] bare_session ≡ codes "PREPARE-SUCCESS" ∷ codes "CHECKPRESENT-UNKNOWN WORM--a no disk" ∷ [] }
 {}
 
@@ -26,6 +28,7 @@ pub fn worked_calls()
     ensures again { IsServed settings again_session }
     ensures transfer { IsServed settings transfer_session }
     ensures value { IsServed settings value_session }
+    ensures exports { IsServed settings export_session }
     ensures bare { IsServed [] bare_session }
 {}
 
@@ -35,6 +38,8 @@ pub fn worked_ends()
     ensures transfer { is_over settings (messages transfer_session) ≡ false }
     ensures value { is_over settings (messages value_session) ≡ true }
     ensures request { is_over settings (messages request_session) ≡ true }
+    ensures exports { is_over settings (messages export_session) ≡ false }
+    ensures name { is_over settings (messages name_session) ≡ true }
     ensures error { is_over settings (messages error_session) ≡ true }
 {}
 
