@@ -18,7 +18,8 @@ use Rattle.task_run.specs.Askers.{Asking, AsksOne}
 use Rattle.task_run.specs.declared.setup.Setup.{Setup}
 use Rattle.task_run.specs.Stops.{AnsweredBy, is_done_at}
 use Rattle.task_run.specs.Names.{part_of, fetch_file}
-use Rattle.task_run.specs.Gets.{DecidesBy, Decides, IsChecked, IsFetchKept, GetAnswers}
+use Rattle.task_run.specs.Reads.{is_removed}
+use Rattle.task_run.specs.Gets.{is_got, DecidesBy, Decides, IsChecked, IsFetchKept, GetAnswers}
 use Rattle.task_run.specs.Exports.{AsksOfName, fetch_export}
 use Rattle.task_run.specs.Runs.{RunOf}
 use Rattle.task_run.specs.Ran.{RanGet, answered, is_verdict_of, undone_answer}
@@ -132,7 +133,7 @@ module _ (setup : Setup) (t : ℕ) (key : Parts) (file name : List ℕ) (plain r
   is_kept h = record { moved = h.moved; held = h.held; renamed = h.renamed }
 
   decides : Decides setup t key (0 ∷ []) file (done plain at ∷ []) calls answer → Decides setup t key (0 ∷ []) file (named name request (V.Done at) ∷ []) calls answer
-  decides h = record { begun = h.begun; by_length = by_lengths _ _ _ _ answer is_checked h.by_length; part = by_end _ _ _ _ is_kept h.part }
+  decides h = record { begun = h.begun; by_length = by_lengths _ _ _ _ answer is_checked h.by_length; part = by_end (is_got answer) _ _ (is_removed (part_of file) calls ≡ true) is_kept h.part }
 
   answers : GetAnswers setup t key (0 ∷ []) file (done plain at ∷ []) calls answer → GetAnswers setup t key (0 ∷ []) file (named name request (V.Done at) ∷ []) calls answer
   answers h = record { answered = decides h.answered }

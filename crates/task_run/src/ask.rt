@@ -181,11 +181,14 @@ pub fn transfer_named<A: Asker>(
     let key = Key::copy(alloc, key)?;
     let file = Text::copy(alloc, file)?;
     let name = Text::copy(alloc, name)?;
-    let request = Request::TransferExport {
-        store,
-        key,
-        file,
-        name,
-    };
-    asker.ask(alloc, number, &request)
+    asker.ask(
+        alloc,
+        number,
+        &Request::TransferExport {
+            store,
+            key,
+            file,
+            name,
+        },
+    )
 }
