@@ -12,8 +12,8 @@ returns-in_default-clause-ran g c = get_nothing_ran _ _ _ _ _ _ _ c.requires.wor
 pub returns-in_default-fetch_name-clause-ran : goal.returns-in_default-fetch_name-clause-ran
 returns-in_default-fetch_name-clause-ran g c = get_nothing_ran _ _ _ _ _ _ _ c.requires.work
 
-pub returns-in-Err-transfer_named-clause-ran : goal.returns-in-Err-transfer_named-clause-ran
-returns-in-Err-transfer_named-clause-ran g c = rw c.in-Err-transfer_named.ensures.pairs (get_nothing_ran _ _ _ _ _ _ _ c.requires.work)
+pub returns-clause-ran : goal.returns-clause-ran
+returns-clause-ran g c = rw c.in-Err.ensures.pairs (get_nothing_ran _ _ _ _ _ _ _ c.requires.work)
 
 pub transfer_named-requires-clause-key : goal.transfer_named-requires-clause-key
 transfer_named-requires-clause-key g c = rw c.view-key.ensures (task_key_sent c.args.task.now.key c.requires.task.key_class)
