@@ -1,6 +1,6 @@
 -- What a get may ask so far, and how it ends where it is.
 use Rattle.std.proofs.Common.{◌≡◌, ◌∙◌, ℕ, ◌+◌, ◌-◌, ◌≤◌, min, Bool, true, false, not, List, [], ◌∷◌, ◌++◌, length, map, take, refl, sym, ap, subst, arith, append-nil, length-append}
-use Rattle.std.specs.Prelude.{◌||◌, filter, Option, Some, is_none, nat_le, unwrap_or}
+use Rattle.std.specs.Prelude.{◌||◌, filter, Option, Some, None, is_none, nat_le, unwrap_or}
 use Rattle.std.specs.List.{list_all, filter_map}
 use Rattle.std.proofs.lemmas.Bool.{and_parts}
 use Rattle.std.proofs.lemmas.Bool.Decides.{nat_tests}

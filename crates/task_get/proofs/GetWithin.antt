@@ -1,6 +1,6 @@
 -- A get within a layout: a part more that is asked for, and the calls that fetch it.
 use Rattle.std.proofs.Common.{◌≡◌, ◌∙◌, ℕ, ◌+◌, ◌-◌, ◌<◌, ◌^◌, true, not, List, [], ◌∷◌, ◌++◌, length, map, take, refl, sym, ap, subst, arith, append_assoc, append-nil, length-append}
-use Rattle.std.specs.Prelude.{◌&&◌, filter, Option, Some, is_none, is_some}
+use Rattle.std.specs.Prelude.{◌&&◌, filter, Option, Some, None, is_none, is_some}
 use Rattle.std.specs.List.{list_all, filter_map}
 use Rattle.std.proofs.lemmas.List.{map-append, take-append-le}
 use Rattle.std.proofs.Math.Seq.{take-append_seam}

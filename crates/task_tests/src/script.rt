@@ -30,8 +30,10 @@ fn chosen(request: &Request) -> Verdict
     ensures { can_have (message_of request.now) result ≡ true }
 {
     match request {
-        Request::Transfer { .. } | Request::Remove { .. } => Verdict::Done { at: 1 },
-        Request::CheckPresent { .. } => Verdict::Absent { at: 1 },
+        Request::Transfer { .. } | Request::TransferExport { .. } => Verdict::Done { at: 1 },
+        Request::Remove { .. } | Request::RemoveExport { .. } => Verdict::Done { at: 1 },
+        Request::RenameExport { .. } => Verdict::Done { at: 1 },
+        Request::CheckPresent { .. } | Request::CheckExport { .. } => Verdict::Absent { at: 1 },
         _ => Verdict::Unsent,
     }
 }
