@@ -23,7 +23,7 @@ use Rattle.journal_model.proofs.Looks.{verdict_of-append}
 use Rattle.task_text.specs.declared.task.Task.{Task}
 use Rattle.task_run.specs.Askers.{Asking}
 use Rattle.task_run.specs.declared.setup.Setup.{Setup}
-use Rattle.task_run.specs.Askings.{past_claim, asking_of, askings_from, run_askings, run_notings}
+use Rattle.task_run.specs.Askings.{past_claim, asking_of, askings_from, name_before, run_askings, run_notings}
 use Rattle.task_run.specs.Requests.{AsksFor, AskInOrder}
 use Rattle.task_run.specs.Layouts.{sizes_tried, parts_of_layout}
 use Rattle.task_run.specs.Reads.{holds}
@@ -88,38 +88,43 @@ store_of journal r s key file got = by_change (last_change journal key got.answe
 
 -- ---- a request within a run is one of its askings
 
+-- the request, with this verdict, is one of these, whatever name was said before it
+IsAmong : HostMessage → Verdict → List Asking → Type 0
+IsAmong q v asked = (name : Option (List ℕ)) × IsIn (record { request = Some q; name = name; verdict = v }) asked
+
 among : (journal : List Entry) (u : ℕ) (past entries : List Entry) (s : Request) (v : Verdict) → IsIn s (requests_from past entries) → s.task ≡ u → verdict_of journal s.child s.job ≡ Some v
-    → IsIn (record { request = Some s.asks; name = None; verdict = v }) (askings_from journal u past entries)
+    → IsAmong s.asks v (askings_from journal u past entries)
 among journal u past [] s v h t e = absurd h
 among journal u past (entry ∷ rest) s v h t e = by_what entry.what h (λ k. among journal u (past ++ entry ∷ []) rest s v k t e)
   where
-    a : Asking
-    a = record { request = Some s.asks; name = None; verdict = v }
+    later : (w : What) → IsAmong s.asks v (askings_from journal u (past ++ entry ∷ []) rest)
+        → IsAmong s.asks v (cons_option (asking_of journal u past w) (askings_from journal u (past ++ entry ∷ []) rest))
+    later w m = (m.0, in_option (record { request = Some s.asks; name = m.0; verdict = v }) (asking_of journal u past w) (askings_from journal u (past ++ entry ∷ []) rest) m.1)
 
     by_what : (w : What) → IsIn s (cons_option (request_in past w) (requests_from (past ++ entry ∷ []) rest))
-        → (IsIn s (requests_from (past ++ entry ∷ []) rest) → IsIn (record { request = Some s.asks; name = None; verdict = v }) (askings_from journal u (past ++ entry ∷ []) rest))
-        → IsIn (record { request = Some s.asks; name = None; verdict = v }) (cons_option (asking_of journal u past w) (askings_from journal u (past ++ entry ∷ []) rest))
+        → (IsIn s (requests_from (past ++ entry ∷ []) rest) → IsAmong s.asks v (askings_from journal u (past ++ entry ∷ []) rest))
+        → IsAmong s.asks v (cons_option (asking_of journal u past w) (askings_from journal u (past ++ entry ∷ []) rest))
     by_what (Ask child job task line) k more = by_reading (host_reading (addressed past child line).1) refl k
       where
         by_reading : (o : Option HostMessage) → host_reading (addressed past child line).1 ≡ o
             → IsIn s (cons_option (option_map (λ q. record { at = length past; child = child; job = job; task = task; asks = q }) o) (requests_from (past ++ entry ∷ []) rest))
-            → IsIn (record { request = Some s.asks; name = None; verdict = v }) (cons_option (asking_of journal u past (Ask child job task line)) (askings_from journal u (past ++ entry ∷ []) rest))
-        by_reading None r k = in_option (record { request = Some s.asks; name = None; verdict = v }) (asking_of journal u past (Ask child job task line)) (askings_from journal u (past ++ entry ∷ []) rest) (more k)
-        by_reading (Some q) r (inr k) = in_option (record { request = Some s.asks; name = None; verdict = v }) (asking_of journal u past (Ask child job task line)) (askings_from journal u (past ++ entry ∷ []) rest) (more k)
+            → IsAmong s.asks v (cons_option (asking_of journal u past (Ask child job task line)) (askings_from journal u (past ++ entry ∷ []) rest))
+        by_reading None r k = later (Ask child job task line) (more k)
+        by_reading (Some q) r (inr k) = later (Ask child job task line) (more k)
         by_reading (Some q) r (inl is) =
             let of_task : (task == u) ≡ true = same task (ap (λ (x : Request). x.task) is ∙ t) in
             let settled : verdict_of journal child job ≡ Some v = ap (λ (x : Request). verdict_of journal x.child x.job) is ∙ e in
             let asks : host_reading (addressed past child line).1 ≡ Some s.asks = r ∙ ap (λ (x : Request). Some x.asks) is in
-            let one : asking_of journal u past (Ask child job task line) ≡ Some (record { request = Some s.asks; name = None; verdict = v }) =
+            let one : asking_of journal u past (Ask child job task line) ≡ Some (record { request = Some s.asks; name = name_before past child job; verdict = v }) =
             ap (λ (b : Bool). if b then option_map (λ w. record { request = host_reading (addressed past child line).1; name = name_before past child job; verdict = w }) (verdict_of journal child job) else None) of_task
             ∙ ap (λ (o : Option Verdict). option_map (λ w. record { request = host_reading (addressed past child line).1; name = name_before past child job; verdict = w }) o) settled
-            ∙ ap (λ (o : Option HostMessage). Some (record { request = o; name = None; verdict = v })) asks in
-            let P : Option Asking → Type 0 = λ o. IsIn (record { request = Some s.asks; name = None; verdict = v }) (cons_option o (askings_from journal u (past ++ entry ∷ []) rest)) in
-            subst P (sym one) (inl refl)
+            ∙ ap (λ (o : Option HostMessage). Some (record { request = o; name = name_before past child job; verdict = v })) asks in
+            let P : Option Asking → Type 0 = λ o. IsIn (record { request = Some s.asks; name = name_before past child job; verdict = v }) (cons_option o (askings_from journal u (past ++ entry ∷ []) rest)) in
+            (name_before past child job, subst P (sym one) (inl refl))
           where
             same : (n : ℕ) → n ≡ u → (n == u) ≡ true
             same n e = rw e (eq-eqb u u refl)
-    by_what w k more = in_option (record { request = Some s.asks; name = None; verdict = v }) (asking_of journal u past w) (askings_from journal u (past ++ entry ∷ []) rest) (more k)
+    by_what w k more = later w (more k)
 
 -- ---- one key has one range
 
@@ -217,11 +222,11 @@ range_is o setup told journal t u n chunk key content stores one p a s base plac
         → RangeIs o setup told key one.key content s p (run_askings one.run.run)
     by_request (Some (Transfer false text file)) q (r, of_t, got) =
         let store : IsStore journal text s = store_of journal r s text file got in
-        let asking : Asking = record { request = Some s.asks; name = None; verdict = store.verdict } in
-        let there : IsIn (record { request = Some s.asks; name = None; verdict = store.verdict }) (run_askings one.run.run) =
+        let found : IsAmong s.asks store.verdict (run_askings one.run.run) =
         among journal u (past_claim one.run.run) one.run.run.within s store.verdict (within_run o journal u one.run.run s (task_above o u one.run.task one.run.is) legal store.there of_task) of_task store.settled in
+        let asking : Asking = record { request = Some s.asks; name = found.0; verdict = store.verdict } in
         let range : IsRangeSent setup one.key content (told.calls u) text store.file =
-        chunk_ranges setup u one.key one.run.task.file content (run_askings one.run.run) (told.calls u) (run_notings one.run.run) (record { request = Some s.asks; name = None; verdict = store.verdict }) text store.file store_run one.shows there
+        chunk_ranges setup u one.key one.run.task.file content (run_askings one.run.run) (told.calls u) (run_notings one.run.run) asking text store.file store_run one.shows found.1
         (ap (λ (x : HostMessage). Some x) store.asks) in
         let keys : Some p.key ≡ Some range.part.key = sym q.1 ∙ range.keyed in
         let same : SameRange key one.key p range.part =
@@ -236,7 +241,7 @@ range_is o setup told journal t u n chunk key content stores one p a s base plac
               ∙ ap (λ (m : ℕ). slice_range content m range.part.to) (sym same.from)
               ∙ ap (λ (m : ℕ). slice_range content p.from m) (sym same.to);
           size = same.size;
-          some = some_in (record { request = Some s.asks; name = None; verdict = store.verdict }) (run_askings one.run.run) there;
+          some = some_in asking (run_askings one.run.run) found.1;
         }
     by_request request q got = absurd got
 
