@@ -1,5 +1,5 @@
 -- A task that is run twice, as an example.
-use Rattle.std.specs.Prelude.{List, [], ◌∷◌, ◌++◌, codes, Some}
+use Rattle.std.specs.Prelude.{List, [], ◌∷◌, ◌++◌, codes, Some, None}
 use Rattle.annex_model.specs.Messages.{Remove}
 use Rattle.journal_model.specs.declared.answer.Answer.TheVariants.{Dropped, Failed as FailedAnswer}
 use Rattle.journal_model.specs.declared.verdict.Verdict.{Verdict}
