@@ -10,6 +10,8 @@
 - `lines EDITS`: of the text with other lines. The edits are the same, at a line's number from 1, and all else stays as it is.
 - `bytes TEXT`: of these bytes, where `\\n` is a line's end.
 
+In all of them `\\t` is a byte 9.
+
 After `=>` comes what is found: `legal`, `wrong ENTRY KIND`, or the line that is refused with its reason.
 """
 
@@ -79,7 +81,7 @@ def texts(name):
     lines = []
     for heading, rows in scenes.sections(name):
         pairs = []
-        for row in rows:
+        for row in (row.replace("\\t", "\t") for row in rows):
             if row == "new":
                 lines = []
             elif row.startswith("> "):

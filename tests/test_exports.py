@@ -5,6 +5,7 @@
 
 import os
 
+from annexed import Annex
 from harness import ANNEX_REMOTE_DIR, TOP, Done, audit, expect, limits, require, table
 from runs import expect_run, status_of
 from test_inputs import given, refused
@@ -310,7 +311,6 @@ def tasks_that_share_no_name_go_side_by_side(room, first, second):
 
 # Hears its first two lines, and as many bytes more as come before the end of the third.
 HEARS_A_NAME = """
-import os
 def line():
     text = b""
     while not text.endswith(b"\\n"):
@@ -318,6 +318,7 @@ def line():
         if not byte:
             sys.exit(0)
         text += byte
+    note(b"< ", text[:-1])
     return text
 say("VERSION 1")
 line()
@@ -346,7 +347,6 @@ def a_child_that_goes_between_a_name_and_its_request_is_told_once(room, last_wor
 
 @table([
     ("with all five asked", FIVE, ["ended eof"] * 5),
-    ("after one answer", FIVE + 'say(drop + "REMOVE-SUCCESS WORM--d")\n', ["ended eof"] * 3 + ["dropped", "ended eof"]),
     ("after a line of no job", FIVE + 'say("J 99 REMOVE-SUCCESS WORM--d")\nhear()\n', ["foul J 99 REMOVE-SUCCESS WORM--d"] * 5),
     ("after an answer to another's request", FIVE + 'say(rename + "REMOVE-SUCCESS WORM--d")\nhear()\n',
      ["foul J {rename} REMOVE-SUCCESS WORM--d"] * 5),
@@ -362,6 +362,15 @@ def a_child_with_tags_ends_and_the_next_does_the_rest(room, body, answers):
     expect(audit(room.text("journal")), Done(0, "legal\n", ""), "the audit")
     expect(expect_pairs(room, "remote", journal, 2), (6, 6), "names and requests")
     expect(left(room), ["f"], "the files")
+
+
+def case_a_child_with_tags_ends_after_one_answer(room):
+    # The worker that was answered has asked for the last task by then.
+    room.write("f", "hi")
+    room.children("remote", FIVE + 'say(drop + "REMOVE-SUCCESS WORM--d")\nhear_exports("z")\n')
+    out = "1 ended eof\n2 ended eof\n3 ended eof\n4 dropped\n5 ended eof\n6 ended eof\n"
+    journal = expect_run(room, "./remote", FIVE_TASKS + "xcheck WORM--z z\n", out, jobs=5, busy=5)
+    expect(expect_pairs(room, "remote", journal), (6, 6), "names and requests")
 
 
 # ---- remotes
@@ -426,6 +435,27 @@ def a_name_that_leaves_the_folder_is_refused(room, name):
     out = "".join(f"{n} {line}\n" for n, line in enumerate(lines, 1))
     expect(done, Done(status_of(out), out, ""))
     expect((site(room), left(room)), ({"n": "hi"}, ["f", "site"]), "the files")
+
+
+@limits(60)
+def case_what_git_annex_exported_is_got_renamed_and_found_by_git_annex(room):
+    annex = Annex(room)
+    os.symlink(EXPORT, room.path("bin/git-annex-remote-exporting"))
+    annex.add({"docs/a b.txt": "hello\n", "c": "two\n"})
+    words = ["type=external", "externaltype=exporting", "encryption=none", "exporttree=yes", f"directory={room.mkdir('site')}"]
+    annex.well("git", "annex", "initremote", "-q", "site", *words)
+    annex.well("git", "annex", "export", "-q", "HEAD", "--to=site")
+    expect(site(room), {"c": "two\n", "docs/a b.txt": "hello\n"}, "what git-annex exported")
+    key = annex.key("docs/a b.txt")
+    tasks = f"xget {key} got\tdocs/a b.txt\nxrename {key} docs/a b.txt\tn\nxcheck {key} n\nxrename {key} n\tdocs/a b.txt\n"
+    done = export(room, tasks, 1)
+    expect((done, room.text("got")), (Done(0, "1 got\n2 renamed\n3 present\n4 renamed\n", ""), "hello\n"), "a run")
+    annex.well("git", "annex", "fsck", "-q", "--from=site")
+    annex.well("git", "mv", "docs/a b.txt", "d")
+    annex.well("git", "rm", "-q", "c")
+    annex.well("git", "commit", "-qm", "another name")
+    annex.well("git", "annex", "export", "-q", "HEAD", "--to=site")
+    expect((site(room), os.listdir(room.path("site"))), ({"d": "hello\n"}, ["d"]), "what git-annex left")
 
 
 def case_the_small_remote_says_that_it_exports(room):
