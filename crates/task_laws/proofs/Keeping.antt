@@ -273,7 +273,7 @@ sized_in_chunks key layouts asked p = by_size key.size p
 
 -- where the plain layout alone is tried it is the last
 plain_is_last : {A : Type 0} (asked : List Asking) → is_plain_last (0 ∷ []) asked ≡ false → A
-plain_is_last asked p = by_count (failures asked) p
+plain_is_last {A} asked p = by_count (failures asked) p
   where
     by_count : (m : ℕ) → (unwrap_or (item m (0 ∷ [])) 0 == 0) ≡ false → A
     by_count zero e = apart (sym e)
