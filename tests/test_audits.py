@@ -16,7 +16,7 @@ After `=>` comes what is found: `legal`, `wrong ENTRY KIND`, or the line that is
 """
 
 import scenes
-from harness import SPECIAL, Done, audit, expect, finish, limits, require, start, table
+from harness import SPECIAL, TOP, Done, audit, expect, finish, limits, require, start, table
 
 HEAD = "annex-journal 1\nuuid 00000000-0000-0000-0000-000000000000\nname \ngitdir \nstamp 0\n"
 
@@ -109,3 +109,16 @@ def case_a_text_may_have_65536_tasks(room):
     task = "task drop WORM--a\n"
     expect(audit(HEAD + task * 65536 + "begin\nend 0\n"), done_of("legal"), "as many as there may be")
     expect(audit(HEAD + task * 65537 + "begin\nend 0\n"), done_of("line 65542: entry"), "one more")
+
+
+@table([(name, name) for name in ("chunked", "plain", "tagged")])
+def a_text_of_an_earlier_program_is_read_as_before(room, name):
+    """Each was written by the program before a task could name an exported file."""
+    with open(f"{TOP}/tests/journals/{name}.txt") as file:
+        lines = file.read().splitlines()
+    expect(audit(text_of(lines)), done_of("legal"), "the whole text")
+    first = lines.index("begin") + 1
+    answer = next(at for at, line in enumerate(lines[first:]) if " answer " in line)
+    claim = next(at for at, line in enumerate(lines[first:]) if " claim " in line)
+    expect(audit(with_entries(lines, f"{claim} -")).status, 1, "without its first claim")
+    expect(audit(with_entries(lines, f"{answer} -")).status, 1, "without its first answer")

@@ -12,7 +12,6 @@ from concurrent.futures import ThreadPoolExecutor
 
 from harness import SPECIAL, TOP, UUID, expect, limits, require, run, skip, table
 
-REMOTE = f"{TOP}/examples/folder-remote.sh"
 TASKS = "check WORM-s1--a\ncheck WORM-s1--b\n"
 
 
@@ -31,11 +30,12 @@ def tells_of_memory(done):
 
 
 @table([
-    ("one job", 1),
-    ("two jobs over a pool", 2),
+    ("one job", 1, "folder-remote.sh"),
+    ("two jobs over a pool", 2, "folder-remote.sh"),
+    ("two jobs over a child with tags", 2, "async-remote.sh"),
 ])
 @limits(seconds=120)
-def a_run_that_is_refused_an_allocation_says_so_unless_others_do_its_tasks(room, jobs):
+def a_run_that_is_refused_an_allocation_says_so_unless_others_do_its_tasks(room, jobs, remote):
     """Where a thread is refused the others do the tasks, or the main thread does; and where a pool's second child isn't ready, the first."""
     refusing = library(room, "tools/refuse.c")
     for name in ("WORM-s1--a", "WORM-s1--b"):
@@ -44,7 +44,7 @@ def a_run_that_is_refused_an_allocation_says_so_unless_others_do_its_tasks(room,
     def outcome(number):
         """What came of the run whose allocation of that number is refused, and whether others could do its tasks; None if it makes fewer."""
         names = {name: room.path(f"{name}-{number}") for name in ("refused", "threaded", "journal")}
-        words = [SPECIAL, "run", "--program", REMOTE, "--uuid", UUID, "--work", room.path(), "--jobs", jobs, "--journal", names["journal"]]
+        words = [SPECIAL, "run", "--program", f"{TOP}/examples/{remote}", "--uuid", UUID, "--work", room.path(), "--jobs", jobs, "--journal", names["journal"]]
         done = run(words, TASKS, {"LD_PRELOAD": refusing, "REFUSE_AT": number, "REFUSED": names["refused"], "THREADED": names["threaded"],
                                   "REMOTE_DIR": room.path("contents")})
         if not os.path.exists(names["refused"]):

@@ -25,7 +25,7 @@ use Rattle.journal_model.proofs.Verdicts.{ended_verdict, unsent_verdict, unasked
 use Rattle.talk_serial.specs.declared.request.Request.{Request}
 use Rattle.talk_serial.specs.Requests.{message_of, name_of}
 use Rattle.talk_serial.proofs.Reading.{unnamed}
-use Rattle.host_core.specs.Steps.{group_of, is_gone, next_job, may_request}
+use Rattle.host_core.specs.Steps.{group_of, is_gone, is_named_well, next_job, may_request}
 use Rattle.journal_model.specs.Shares.{are_by, by_link}
 use Rattle.link_roles.specs.Asks.{lost_as}
 use Rattle.link_roles.specs.Alone.{GoesOn, AskedAlone, IsSettled, IsLost}
@@ -128,6 +128,9 @@ greeting_leads (AskExtensions names) h = refl
 greeting_leads Prepare h = refl
 greeting_leads Initremote h = refl
 greeting_leads q h = absurd cc
+
+pub greeting_named : (r : Request) → is_greeting (message_of r) ≡ true → is_named_well (name_of r) ≡ true
+greeting_named r h = ap is_named_well (unnamed r (greeting_leads (message_of r) h))
 
 -- so no name was said before it
 pub asked_plain : (o : Opening) (old new : List Entry) (by c : ℕ) (r : Request) (verdict : Verdict) → is_greeting (message_of r) ≡ true → AskedAlone o old new by c 0 (name_of r) (message_of r) verdict

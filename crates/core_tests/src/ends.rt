@@ -50,6 +50,7 @@ fn plain_answer(word: &str) -> Option<Answer> {
         "got" => Some(Answer::Got),
         "present" => Some(Answer::Present),
         "dropped" => Some(Answer::Dropped),
+        "renamed" => Some(Answer::Renamed),
         "absent" => Some(Answer::Absent),
         "unsupported" => Some(Answer::Unsupported),
         "unsent" => Some(Answer::Unsent),

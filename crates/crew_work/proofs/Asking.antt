@@ -45,8 +45,8 @@ module _ (o : Opening) (n t u : ℕ) (a : Bool) (old new : List Entry) (is : t �
   jobs_on : (c : ℕ) → AtTask o n t new → Grows n a (by_jobs c t) old new → JobsOn o n a c u old new
   jobs_on c at grows = subst (λ (k : ℕ). JobsOn o n a c k old new) is record { may = record { at = at; book = book }; grows = grows }
 
-  pub jobs_on_asked : (c : ℕ) (q : HostMessage) (result : Result Verdict NoMemory) → AskedFor o n t old new q result → Grows n a (by_jobs c t) old new → JobsOn o n a c u old new
-  jobs_on_asked c q result h grows = jobs_on c (at_asked o n t old new q result h) grows
+  pub jobs_on_asked : (c : ℕ) (name : Option (List ℕ)) (q : HostMessage) (result : Result Verdict NoMemory) → AskedFor o n t old new name q result → Grows n a (by_jobs c t) old new → JobsOn o n a c u old new
+  jobs_on_asked c name q result h grows = jobs_on c (at_asked o n t old new name q result h) grows
 
   -- notes of the task, or nothing
   pub jobs_on_noted : (c : ℕ) → AtTask o n t new → Grows n a (by_noting t) old new → JobsOn o n a c u old new

@@ -1,7 +1,7 @@
 // The asker of one task over a child that other threads read and write.
 ghost use Rattle.std.specs.Prelude.{◌≡◌, ◌∷◌, IfOk};
 ghost use Rattle.journal_model.specs.Projection.{IsNamed};
-ghost use Rattle.talk_serial.specs.Requests.{message_of};
+ghost use Rattle.talk_serial.specs.Requests.{message_of, name_of};
 ghost use Rattle.link_roles.specs.Asks.{Grows};
 ghost use Rattle.link_roles.specs.Doors.{IsSameDoor};
 ghost use Rattle.lone_work.specs.AtTasks.{AtTask, AskedFor};
@@ -28,7 +28,7 @@ fn ask_for<D: Door, R: Wait>(
     request: &Request,
 ) -> Result<Verdict, NoMemory>
     requires { AtTask (D.opening door.old) (D.number door.old) task (D.seen door.old) }
-    ensures asked { AskedFor (D.opening door.old) (D.number door.old) task (D.seen door.old) (D.seen door.new) (message_of request.now) result }
+    ensures asked { AskedFor (D.opening door.old) (D.number door.old) task (D.seen door.old) (D.seen door.new) (name_of request.now) (message_of request.now) result }
     ensures named { IfOk result (IsNamed (message_of request.now)) }
     ensures grows { Grows (D.number door.old) (D.alone door.old) (by_jobs child task) (D.seen door.old) (D.seen door.new) }
     ensures door { IsSameDoor D.opening D.number D.seen D.alone D.loans D.home door.old door.new }

@@ -3,7 +3,7 @@ use Rattle.std.proofs.Common.{◌≡◌, [], ◌∷◌, Some, refl, ap, ◌∙�
 use Rattle.std.specs.Prelude.{codes, decimal, option_map}
 use Rattle.ann_digest.specs.Digests.{digest_text}
 use Rattle.journal_model.specs.declared.answer.Answer.{Answer}
-use Rattle.journal_model.specs.declared.answer.Answer.TheVariants.{Stored, Got, Present, Dropped, Absent, Unsupported, Unsent, StartFault, NoChild, FileFault, NoFile, Memory, Failed, Unknown, NotPrepared, Ended, Size, Hash}
+use Rattle.journal_model.specs.declared.answer.Answer.TheVariants.{Stored, Got, Present, Dropped, Renamed, Absent, Unsupported, Unsent, StartFault, NoChild, FileFault, NoFile, Memory, Failed, Unknown, NotPrepared, Ended, Size, Hash}
 use Rattle.entry_lines.specs.Fields.{spaced, by_rows}
 use Rattle.entry_lines.specs.Whys.{why_fields}
 use Rattle.entry_lines.specs.Answers.{answer_fields, answer_at, answer_rows, IsAnswer}
@@ -15,6 +15,7 @@ answer_back Stored h = worded (by_rows answer_rows) (codes "stored") [] refl
 answer_back Got h = worded (by_rows answer_rows) (codes "got") [] refl
 answer_back Present h = worded (by_rows answer_rows) (codes "present") [] refl
 answer_back Dropped h = worded (by_rows answer_rows) (codes "dropped") [] refl
+answer_back Renamed h = worded (by_rows answer_rows) (codes "renamed") [] refl
 answer_back Absent h = worded (by_rows answer_rows) (codes "absent") [] refl
 answer_back Unsupported h = worded (by_rows answer_rows) (codes "unsupported") [] refl
 answer_back Unsent h = worded (by_rows answer_rows) (codes "unsent") [] refl

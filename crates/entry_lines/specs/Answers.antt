@@ -2,7 +2,7 @@
 use Rattle.std.specs.Prelude.{ℕ, ◌<◌, ◌^◌, List, [], ◌∷◌, Option, codes, decimal, option_map}
 use Rattle.ann_digest.specs.Digests.{digest_text}
 use Rattle.journal_model.specs.declared.answer.Answer.{Answer}
-use Rattle.journal_model.specs.declared.answer.Answer.TheVariants.{Stored, Got, Present, Dropped, Absent, Unsupported, Unsent, StartFault, NoChild, FileFault, NoFile, Memory, Failed, Unknown, NotPrepared, Ended, Size, Hash}
+use Rattle.journal_model.specs.declared.answer.Answer.TheVariants.{Stored, Got, Present, Dropped, Renamed, Absent, Unsupported, Unsent, StartFault, NoChild, FileFault, NoFile, Memory, Failed, Unknown, NotPrepared, Ended, Size, Hash}
 use Rattle.entry_lines.specs.Digits.{IsDigest, digest_at}
 use Rattle.entry_lines.specs.Fields.{Row, by_rows, word_row, number_row, first_of, rest_of}
 use Rattle.entry_lines.specs.Whys.{why_fields, why_at, IsWhy}
@@ -12,6 +12,7 @@ answer_fields Stored = codes "stored" ∷ []
 answer_fields Got = codes "got" ∷ []
 answer_fields Present = codes "present" ∷ []
 answer_fields Dropped = codes "dropped" ∷ []
+answer_fields Renamed = codes "renamed" ∷ []
 answer_fields Absent = codes "absent" ∷ []
 answer_fields Unsupported = codes "unsupported" ∷ []
 answer_fields Unsent = codes "unsent" ∷ []
@@ -45,6 +46,7 @@ answer_rows =
     ∷ word_row (codes "got") Got
     ∷ word_row (codes "present") Present
     ∷ word_row (codes "dropped") Dropped
+    ∷ word_row (codes "renamed") Renamed
     ∷ word_row (codes "absent") Absent
     ∷ word_row (codes "unsupported") Unsupported
     ∷ word_row (codes "unsent") Unsent

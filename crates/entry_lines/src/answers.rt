@@ -23,6 +23,7 @@ pub(crate) fn push_answer(
         Answer::Got => push_field(line, b"got"),
         Answer::Present => push_field(line, b"present"),
         Answer::Dropped => push_field(line, b"dropped"),
+        Answer::Renamed => push_field(line, b"renamed"),
         Answer::Absent => push_field(line, b"absent"),
         Answer::Unsupported => push_field(line, b"unsupported"),
         Answer::Unsent => push_field(line, b"unsent"),
@@ -79,6 +80,8 @@ fn served(word: &[u8], text: &[u8]) -> Option<Answer>
         Some(Answer::Present)
     } else if word == b"dropped".as_slice() {
         Some(Answer::Dropped)
+    } else if word == b"renamed".as_slice() {
+        Some(Answer::Renamed)
     } else if word == b"absent".as_slice() {
         Some(Answer::Absent)
     } else if word == b"unsupported".as_slice() {
@@ -90,7 +93,7 @@ fn served(word: &[u8], text: &[u8]) -> Option<Answer>
 
 // One for which something was missing.
 fn missed(word: &[u8], text: &[u8]) -> Option<Answer>
-    ensures { result ≡ by_rows (drop 7 answer_rows) word.now text.now }
+    ensures { result ≡ by_rows (drop 8 answer_rows) word.now text.now }
 {
     if word == b"unsent".as_slice() {
         Some(Answer::Unsent)
@@ -111,7 +114,7 @@ fn missed(word: &[u8], text: &[u8]) -> Option<Answer>
 
 // One that names a place, a reason or a size.
 fn placed(word: &[u8], text: &[u8]) -> Option<Answer>
-    ensures { result ≡ by_rows (drop 13 answer_rows) word.now text.now }
+    ensures { result ≡ by_rows (drop 14 answer_rows) word.now text.now }
 {
     if word == b"failed".as_slice() {
         let at = number_at(text)?;

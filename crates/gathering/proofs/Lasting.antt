@@ -16,7 +16,7 @@ use Rattle.annex_model.specs.Messages.{host_reading}
 use Rattle.journal_model.specs.Journal.{addressed}
 use Rattle.task_run.specs.Askers.{Asking, Noting}
 use Rattle.task_run.specs.declared.setup.Setup.{Setup}
-use Rattle.task_run.specs.Askings.{TaskStretch, past_claim, run_askings, run_notings, asking_of, askings_from, noting_of, notings_from}
+use Rattle.task_run.specs.Askings.{TaskStretch, past_claim, run_askings, run_notings, asking_of, askings_from, noting_of, notings_from, name_before}
 use Rattle.task_run.specs.Runs.{TaskRun}
 use Rattle.journal_model.specs.Makers.{is_of_task}
 use Rattle.journal_model.proofs.Working.{AllAsked, all_asked, kept_verdict}
@@ -51,7 +51,7 @@ alike : (j k : List Entry) (t : ℕ) (past xs : List Entry) (w : What) → SameV
 alike j k t past xs (Ask child job task line) h = go (task == t) h
   where
     asked : Verdict → Asking
-    asked v = record { request = host_reading (addressed past child line).1; verdict = v }
+    asked v = record { request = host_reading (addressed past child line).1; name = name_before past child job; verdict = v }
 
     go : (b : Bool) → SameVerdicts j k (cons_option (cond b (Some (child, job)) None) (each_of (job_for t) xs))
         → (cond b (option_map asked (verdict_of j child job)) None ≡ cond b (option_map asked (verdict_of k child job)) None) × SameVerdicts j k (each_of (job_for t) xs)

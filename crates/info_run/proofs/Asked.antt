@@ -24,7 +24,7 @@ use Rattle.journal_model.proofs.Verdicts.{ended_verdict, unsent_verdict}
 use Rattle.talk_serial.specs.declared.request.Request.{Request}
 use Rattle.talk_serial.specs.Requests.{message_of, name_of}
 use Rattle.talk_serial.proofs.Reading.{unnamed}
-use Rattle.host_core.specs.Steps.{group_of, next_job, may_request}
+use Rattle.host_core.specs.Steps.{group_of, is_named_well, next_job, may_request}
 use Rattle.journal_model.specs.Shares.{are_by, by_link, is_closed}
 use Rattle.link_roles.specs.Asks.{lost_as}
 use Rattle.link_roles.specs.Alone.{AskedAlone, IsSettled, IsLost}
@@ -207,6 +207,9 @@ question_leads (Checkpresentexport key) h = absurd cc
 question_leads (Removeexport key) h = absurd cc
 question_leads (Renameexport key onto) h = absurd cc
 question_leads q h = refl
+
+pub question_named : (r : Request) → is_question (message_of r) ≡ true → is_named_well (name_of r) ≡ true
+question_named r h = ap is_named_well (unnamed r (question_leads (message_of r) h))
 
 pub asked_plain : (o : Opening) (old new : List Entry) (by c : ℕ) (r : Request) (v : Verdict) → is_question (message_of r) ≡ true → AskedAlone o old new by c 0 (name_of r) (message_of r) v
     → AskedAlone o old new by c 0 None (message_of r) v

@@ -7,7 +7,7 @@ use Rattle.journal_model.specs.declared.entry.Entry.{Entry}
 use Rattle.journal_model.specs.declared.opening.Opening.{Opening}
 use Rattle.task_run.specs.declared.setup.Setup.{Setup}
 use Rattle.task_run.specs.Askings.{run_askings}
-use Rattle.task_run.specs.Layouts.{sizes_tried}
+use Rattle.task_run.specs.RunLaws.{sizes_got}
 use Rattle.task_laws.specs.Changes.{Request}
 use Rattle.task_laws.specs.Faithful.{IsFaithful, IsPlayed, Told, sent}
 use Rattle.task_laws.specs.Kept.{Keeps}
@@ -18,7 +18,7 @@ use Rattle.task_laws.specs.Retrieval.{GotStored, KeepsContent, StoredInChunks}
 -- files, these hold that as its file after it.
 pub record JobsKeep (o : Opening) (setup : Setup) (journal : List Entry) : Type 0 where
   pub stored : (told : Told) (number t : ℕ) (key : Parts) (stores : List Request) → IsFaithful o setup told journal → (got : GotStored o setup told journal number t key stores)
-      → Keeps setup t key (sizes_tried key got.run.layouts) got.run.task.file (run_askings got.run.run) (told.calls t) (map (sent o setup told) stores)
+      → Keeps got.run.task.work setup t key (sizes_got got.run.task.work key got.run.layouts) got.run.task.file (run_askings got.run.run) (told.calls t) (map (sent o setup told) stores)
   pub content : (told : Told) (number t u : ℕ) (key : Parts) (bytes : List ℕ) (stores : List Request) → IsFaithful o setup told journal → (got : GotStored o setup told journal number t key stores)
       → key.chunk ≡ None → StoredInChunks o setup told journal u bytes stores → KeepsContent o setup told journal number t key got.run bytes
   pub stored_file : (told : Told) (number t : ℕ) (key : Parts) (stores : List Request) → IsFaithful o setup told journal → IsPlayed told t → (got : GotStored o setup told journal number t key stores)

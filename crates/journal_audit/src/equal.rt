@@ -148,6 +148,7 @@ fn is_same_answer(answer: &Answer, other: &Answer) -> bool
         Answer::Got => matches!(answer, Answer::Got),
         Answer::Present => matches!(answer, Answer::Present),
         Answer::Dropped => matches!(answer, Answer::Dropped),
+        Answer::Renamed => matches!(answer, Answer::Renamed),
         Answer::Absent => matches!(answer, Answer::Absent),
         Answer::Unsupported => matches!(answer, Answer::Unsupported),
         Answer::Unsent => matches!(answer, Answer::Unsent),

@@ -78,9 +78,16 @@ clashes [] b = false
 clashes a [] = false
 clashes a b = bytes_eq a b || bytes_eq a (b ++ codes ".part") || bytes_eq b (a ++ codes ".part")
 
--- two tasks that must not be busy at once
+-- the names of exported files that a task has
+abbrev pub task_names : Task → List (List ℕ)
+task_names t = filter (λ name. not (is_empty name)) (t.name ∷ t.onto ∷ [])
+
+abbrev pub share_name : Task → Task → Bool
+share_name s t = list_any (λ name. list_any (bytes_eq name) (task_names t)) (task_names s)
+
+-- two tasks that must not be busy at once: for their keys or files, or for a name that both have
 abbrev pub conflicts : Task → Task → Bool
-conflicts s t = bytes_eq s.key t.key || clashes s.file t.file
+conflicts s t = bytes_eq s.key t.key || clashes s.file t.file || share_name s t
 
 -- the task of a number, counted from 1
 abbrev pub task_of : Opening → ℕ → Option Task
@@ -98,26 +105,6 @@ abbrev pub is_free : Opening → List Entry → ℕ → Bool
 is_free o past t =
     not (is_claimed past t)
     && not (list_any (λ u. is_busy past u && both_conflict (task_of o u) (task_of o t)) (numbers_of o))
-
--- ---- a free task where tasks have names. This is to take the place of `is_free`; nothing asks for it yet
-
--- the names of exported files that a task has
-abbrev pub task_names : Task → List (List ℕ)
-task_names t = filter (λ name. not (is_empty name)) (t.name ∷ t.onto ∷ [])
-
-abbrev pub share_name : Task → Task → Bool
-share_name s t = list_any (λ name. list_any (bytes_eq name) (task_names t)) (task_names s)
-
--- two tasks that must not be busy at once: for their keys or files, or for a name that both have
-abbrev pub both_exclude : Option Task → Option Task → Bool
-both_exclude (Some s) (Some t) = conflicts s t || share_name s t
-both_exclude s t = false
-
--- not claimed, and no busy task is in its way
-abbrev pub is_free_by_name : Opening → List Entry → ℕ → Bool
-is_free_by_name o past t =
-    not (is_claimed past t)
-    && not (list_any (λ u. is_busy past u && both_exclude (task_of o u) (task_of o t)) (numbers_of o))
 
 abbrev pub is_number : ℕ → Option ℕ → Bool
 is_number n None = false

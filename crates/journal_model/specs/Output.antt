@@ -6,7 +6,7 @@ use Rattle.ann_digest.specs.Digests.{digest_text}
 use Rattle.annex_model.specs.Messages.{RemoteMessage, remote_reading, text_in}
 use Rattle.annex_model.specs.Tags.{untag, without_tag}
 use Rattle.journal_model.specs.declared.answer.Answer.{Answer}
-use Rattle.journal_model.specs.declared.answer.Answer.TheVariants.{Stored, Got, Present, Dropped, Absent, Unsupported, Unsent, StartFault, NoChild, FileFault, NoFile, Memory as NoRoom, Failed, Unknown, NotPrepared, Ended, Size, Hash}
+use Rattle.journal_model.specs.declared.answer.Answer.TheVariants.{Stored, Got, Present, Dropped, Renamed, Absent, Unsupported, Unsent, StartFault, NoChild, FileFault, NoFile, Memory as NoRoom, Failed, Unknown, NotPrepared, Ended, Size, Hash}
 use Rattle.journal_model.specs.declared.entry.What.{What}
 use Rattle.journal_model.specs.declared.entry.What.TheVariants.{Answer as Answered}
 use Rattle.journal_model.specs.declared.entry.Entry.{Entry}
@@ -37,6 +37,7 @@ answer_words journal Stored = codes "stored"
 answer_words journal Got = codes "got"
 answer_words journal Present = codes "present"
 answer_words journal Dropped = codes "dropped"
+answer_words journal Renamed = codes "renamed"
 answer_words journal Absent = codes "absent"
 answer_words journal Unsupported = codes "unsupported"
 answer_words journal Unsent = codes "unsent"

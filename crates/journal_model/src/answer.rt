@@ -12,6 +12,8 @@ pub enum Answer {
     Present,
     /// The remote has it no more.
     Dropped,
+    /// The remote has renamed the file.
+    Renamed,
     /// The remote doesn't have it.
     Absent,
     /// The remote doesn't know the request.

@@ -1,4 +1,5 @@
 pub mod Firsts
+pub mod Naming
 pub mod Parted
 pub mod Written
 pub mod NoneBefore

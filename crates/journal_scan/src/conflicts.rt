@@ -1,6 +1,7 @@
 // The tasks of an opening, and which of them are in each other's way.
-ghost use Rattle.std.specs.Prelude.{◌≡◌, ◌++◌, option_copied, bytes_eq, codes};
-ghost use Rattle.journal_model.specs.Legality.{clashes, conflicts, task_of, both_conflict, changes_content, may_note};
+ghost use Rattle.std.specs.Prelude.{◌≡◌, ◌++◌, ◌&&◌, not, option_copied, bytes_eq, codes};
+ghost use Rattle.std.specs.List.{list_any};
+ghost use Rattle.journal_model.specs.Legality.{clashes, conflicts, is_empty, share_name, task_names, task_of, both_conflict, changes_content, may_note};
 
 use journal_model::Opening;
 use task_text::{Task, Work};
@@ -33,11 +34,30 @@ fn clashes(a: &[u8], b: &[u8]) -> bool
     a == b || is_part_of(a, b) || is_part_of(b, a)
 }
 
+/// Whether the task has the name. An empty one is none.
+#[tactic(auto, using(crate::proofs::Naming::named))]
+fn is_name_of(name: &[u8], task: &Task) -> bool
+    ensures { result ≡ (not (is_empty name.now) && list_any (bytes_eq name.now) (task_names task.now)) }
+{
+    if name.is_empty() {
+        return false;
+    }
+    name == task.name.view().as_bytes() || name == task.onto.view().as_bytes()
+}
+
+#[tactic(auto, using(crate::proofs::Naming::shared))]
+fn share_name(one: &Task, other: &Task) -> bool
+    ensures { result ≡ share_name one.now other.now }
+{
+    is_name_of(one.name.view().as_bytes(), other) || is_name_of(one.onto.view().as_bytes(), other)
+}
+
 fn conflicts(one: &Task, other: &Task) -> bool
     ensures { result ≡ conflicts one.now other.now }
 {
     one.key.view().text() == other.key.view().text()
         || clashes(one.file.view().as_bytes(), other.file.view().as_bytes())
+        || share_name(one, other)
 }
 
 /// The task of a number, counted from 1.

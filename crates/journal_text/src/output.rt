@@ -39,6 +39,7 @@ pub fn print_words(alloc: Global, answer: &Answer, journal: &Journal) -> Result<
         Answer::Got => fixed(alloc, b"got"),
         Answer::Present => fixed(alloc, b"present"),
         Answer::Dropped => fixed(alloc, b"dropped"),
+        Answer::Renamed => fixed(alloc, b"renamed"),
         Answer::Absent => fixed(alloc, b"absent"),
         Answer::Unsupported => fixed(alloc, b"unsupported"),
         Answer::Unsent => fixed(alloc, b"unsent"),

@@ -4,7 +4,7 @@ ghost use Rattle.journal_model.specs.declared.verdict.Why.TheVariants.{Memory, C
 ghost use Rattle.journal_model.specs.Journal.{is_started, is_ended, why_of};
 ghost use Rattle.journal_model.specs.Legality.{Legal, said_version, may_stop};
 ghost use Rattle.journal_model.specs.Projection.{IsNamed};
-ghost use Rattle.host_core.specs.Steps.{may_request};
+ghost use Rattle.host_core.specs.Steps.{is_named_well, may_request};
 ghost use Rattle.talk_serial.specs.Requests.{message_of, name_of};
 ghost use Rattle.link_roles.specs.Doors.{IsSameDoor};
 ghost use Rattle.link_roles.specs.Alone.{GoesOn, Closes, AskedAlone, HearsLink, KeepsLink};
@@ -29,6 +29,7 @@ impl<I: Sink, O: Source> Lone<I, O> {
         requires started { is_started (D.seen door.old) self.old.ear.child ≡ true }
         requires legal { Legal (D.opening door.old) (D.seen door.old) }
         requires may { may_request (D.seen door.old) (D.number door.old) task self.old.ear.child (message_of request.now) ≡ true }
+        requires named { is_named_well (name_of request.now) ≡ true }
         ensures asked { IfOk result (AskedAlone (D.opening door.old) (D.seen door.old) (D.seen door.new) (D.number door.old) self.old.ear.child task (name_of request.now) (message_of request.now)) }
         ensures named { IfOk result (IsNamed (message_of request.now)) }
         ensures none { OnErr result (D.seen door.new ≡ D.seen door.old) }

@@ -3,7 +3,7 @@ ghost use Rattle.std.specs.Prelude.{◌≡◌, ◌≢◌, ◌<◌, ◌^◌, true
 ghost use Rattle.journal_model.specs.Journal.{is_started, is_ended, why_of, verdict_of};
 ghost use Rattle.journal_model.specs.Legality.{Legal, said_version};
 ghost use Rattle.journal_model.specs.Projection.{IsNamed};
-ghost use Rattle.host_core.specs.Steps.{is_asked, may_request};
+ghost use Rattle.host_core.specs.Steps.{is_asked, is_named_well, may_request};
 ghost use Rattle.talk_serial.specs.Requests.{message_of, name_of};
 ghost use Rattle.link_roles.specs.Doors.{IsSameDoor, Passed, Ends};
 ghost use Rattle.journal_model.specs.declared.verdict.Why.TheVariants.{Memory};
@@ -303,6 +303,7 @@ impl<I: Sink, O: Source> Lone<I, O> {
         requires started { is_started (D.seen door.old) self.old.ear.child ≡ true }
         requires legal { Legal (D.opening door.old) (D.seen door.old) }
         requires may { D.alone door.old ≡ true → may_request (D.seen door.old) (D.number door.old) task self.old.ear.child (message_of request.now) ≡ true }
+        requires named { is_named_well (name_of request.now) ≡ true }
         ensures asked { IfOk result (HasAsked (D.opening door.old) (D.number door.old) (D.alone door.old) (by_link self.old.ear.child) (D.seen door.old) (D.seen door.new) self.old.ear.child task (name_of request.now) (message_of request.now) (λ job. HeardOut self.old.ear.child job (D.seen door.new))) }
         ensures named { IfOk result (IsNamed (message_of request.now)) }
         ensures none { OnErr result (Passed (D.number door.old) (D.alone door.old) (D.seen door.old) (D.seen door.new)) }

@@ -1,14 +1,15 @@
 // A mouth writes to a child what the core has for it.
 ghost use Rattle.std.specs.Prelude.{◌≡◌, ◌≢◌, ◌<◌, ◌++◌, ◌∷◌, [], ℕ, true, false, take, None, IsFalse, OnOk, OnErr};
+ghost use Rattle.journal_model.specs.declared.verdict.Why.TheVariants.{Memory};
 ghost use Rattle.std.specs.Io.KnownBytes.{Appends};
 ghost use Rattle.host_core.specs.declared.event.Event.TheVariants.{Fetch};
 ghost use Rattle.host_core.specs.declared.event.Reply.TheVariants.{Wait, Over};
 ghost use Rattle.journal_model.specs.Journal.{is_started, is_ended};
-ghost use Rattle.link_roles.specs.Doors.{IsSameDoor};
+ghost use Rattle.link_roles.specs.Doors.{Ends, IsSameDoor};
 ghost use Rattle.journal_model.specs.Halves.{IsSameMouth};
 ghost use Rattle.link_roles.specs.Moves.{MouthMoved};
 ghost use Rattle.link_roles.specs.Events.{Says, IsNextLine};
-ghost use Rattle.link_roles.specs.Writings.{IsSpeaking, IsWriting};
+ghost use Rattle.link_roles.specs.Writings.{IsSpeaking, IsWriting, mouth_value};
 
 use crate::door::Door;
 use crate::ear::Turn;
@@ -18,22 +19,73 @@ use ann_outside::{Failed, Sink, write_all};
 use journal_model::Why;
 use std::marker::Model;
 
-/// What writes a child's input. Contracts see of it what was written, and not its inlet.
+// Writes the whole line to the inlet.
+fn write<I: Sink>(inlet: &mut I, line: &[u8]) -> Result<(), Failed>
+    requires { I.is_open inlet.old ≡ true }
+    ensures ok { OnOk result (Appends (I.taken inlet.old) (I.taken inlet.new) line.now) }
+    ensures prefix { (n : ℕ) × Appends (I.taken inlet.old) (I.taken inlet.new) (take n line.now) }
+    ensures silent { I.taken inlet.old ≡ None → I.taken inlet.new ≡ None }
+    ensures err { OnErr result (0 < I.faults inlet.new) }
+    ensures open { I.is_open inlet.new ≡ true }
+    ensures number { I.number inlet.new ≡ I.number inlet.old }
+{
+    write_all(inlet, line)
+}
+
+// Writes the next line of the child to its inlet, and tells the core what came of it.
+fn send<I: Sink, D: Door>(inlet: &mut I, door: &mut D, child: u32, line: &Bytes)
+    requires open { I.is_open inlet.old ≡ true }
+    requires started { is_started (D.seen door.old) child ≡ true }
+    requires next { IsNextLine (D.seen door.old) child line.now }
+    ensures writing { IsWriting (D.opening door.old) (D.number door.old) (D.alone door.old) (D.seen door.old) (D.seen door.new)
+        (mouth_value child (I.taken inlet.old) (I.faults inlet.old) (I.number inlet.old)) (mouth_value child (I.taken inlet.new) (I.faults inlet.new) (I.number inlet.new)) line.now }
+    ensures moved { MouthMoved (D.number door.old) (D.alone door.old) (D.seen door.old) (D.seen door.new)
+        (mouth_value child (I.taken inlet.old) (I.faults inlet.old) (I.number inlet.old)) (mouth_value child (I.taken inlet.new) (I.faults inlet.new) (I.number inlet.new)) }
+    ensures open { I.is_open inlet.new ≡ true }
+    ensures number { I.number inlet.new ≡ I.number inlet.old }
+    ensures door { IsSameDoor D.opening D.number D.seen D.alone D.loans D.home door.old door.new }
+{
+    let bytes = line.view();
+    match write(inlet, bytes) {
+        Ok(()) => events::sent(door, child),
+        Err(Failed) => events::mute(door, child),
+    }
+}
+
+// Ends the child for lack of memory and closes its inlet, so that it finds its input at an end: an ear may be waiting in a read for
+// what it says. The end is in the journal first.
+fn end_child<I: Sink, D: Door>(inlet: &mut I, door: &mut D, child: u32)
+    requires open { I.is_open inlet.old ≡ true }
+    requires started { is_started (D.seen door.old) child ≡ true }
+    ensures closed { I.is_open inlet.new ≡ false }
+    ensures same { mouth_value child (I.taken inlet.new) (I.faults inlet.new) (I.number inlet.new) ≡ mouth_value child (I.taken inlet.old) (I.faults inlet.old) (I.number inlet.old) }
+    ensures ends { Ends (D.opening door.old) (D.number door.old) (D.alone door.old) (D.seen door.old) (D.seen door.new) child Memory }
+    ensures over { is_ended (D.seen door.new) child ≡ true }
+    ensures door { IsSameDoor D.opening D.number D.seen D.alone D.loans D.home door.old door.new }
+{
+    events::stop(door, child, Why::Memory);
+    inlet.close();
+}
+
+/// What writes a child's input. Contracts see of it what was written, and not its inlet, which is open until the mouth gives up for
+/// lack of memory.
 #[derive(Drop)]
 pub struct Mouth<I: Sink> {
     child: u32,
     inlet: I,
+    // It gave up, and its inlet is closed.
+    closed: bool,
 }
 
 impl<I: Sink> Model for Mouth<I> {
-    ghost use Rattle.std.specs.Prelude.{◌≡◌, true};
+    ghost use Rattle.std.specs.Prelude.{◌≡◌, not};
     ghost use Rattle.journal_model.specs.Halves.{MouthValue};
 
     ghost Value = { MouthValue };
 
     ghost view = { λ s. record { child = s.child; taken = I.taken s.inlet; faults = I.faults s.inlet; number = I.number s.inlet } };
 
-    ghost invariant = { λ s. I.is_open s.inlet ≡ true };
+    ghost invariant = { λ s. I.is_open s.inlet ≡ not s.closed };
 }
 
 impl<I: Sink> Mouth<I> {
@@ -42,7 +94,11 @@ impl<I: Sink> Mouth<I> {
         requires { I.is_open inlet ≡ true }
         ensures { result ≡ record { child = child; taken = I.taken inlet; faults = I.faults inlet; number = I.number inlet } }
     {
-        Mouth { child, inlet }
+        Mouth {
+            child,
+            inlet,
+            closed: false,
+        }
     }
 
     /// The child's number.
@@ -52,7 +108,7 @@ impl<I: Sink> Mouth<I> {
         self.child
     }
 
-    /// Closes the inlet, and hands it out. It takes no memory.
+    /// Closes the inlet, where it is open still, and hands it out. It takes no memory.
     pub fn finish(self) -> I
         ensures taken { I.taken result ≡ self.taken }
         ensures faults { I.faults result ≡ self.faults }
@@ -62,42 +118,33 @@ impl<I: Sink> Mouth<I> {
         let Mouth {
             child: _,
             mut inlet,
+            closed,
         } = self;
-        inlet.close();
+        if !closed {
+            inlet.close();
+        }
         inlet
     }
 }
 
 impl<I: Sink> Mouth<I> {
-    // Writes the whole line to the inlet.
-    fn write(&mut self, line: &[u8]) -> Result<(), Failed>
-        ensures same { self.new ≡ record self.old { taken = self.new.taken; faults = self.new.faults } }
-        ensures ok { OnOk result (Appends self.old.taken self.new.taken line.now) }
-        ensures prefix { (n : ℕ) × Appends self.old.taken self.new.taken (take n line.now) }
-        ensures silent { self.old.taken ≡ None → self.new.taken ≡ None }
-        ensures err { OnErr result (0 < self.new.faults) }
-    {
-        write_all(&mut self.inlet, line)
-    }
-
-    // Writes the next line of the child, and tells the core what came of it.
-    fn send<D: Door>(&mut self, door: &mut D, line: &Bytes)
+    // Ends the child for lack of memory, and closes its inlet, unless that was done before.
+    fn give_up<D: Door>(&mut self, door: &mut D)
         requires started { is_started (D.seen door.old) self.old.child ≡ true }
-        requires next { IsNextLine (D.seen door.old) self.old.child line.now }
-        ensures writing { IsWriting (D.opening door.old) (D.number door.old) (D.alone door.old) (D.seen door.old) (D.seen door.new) self.old self.new line.now }
-        ensures moved { MouthMoved (D.number door.old) (D.alone door.old) (D.seen door.old) (D.seen door.new) self.old self.new }
-        ensures same { IsSameMouth self.old self.new }
+        ensures same { self.new ≡ self.old }
+        ensures ends { Ends (D.opening door.old) (D.number door.old) (D.alone door.old) (D.seen door.old) (D.seen door.new) self.old.child Memory }
+        ensures over { is_ended (D.seen door.new) self.old.child ≡ true }
         ensures door { IsSameDoor D.opening D.number D.seen D.alone D.loans D.home door.old door.new }
     {
-        let child = self.child();
-        let bytes = line.view();
-        match self.write(bytes) {
-            Ok(()) => events::sent(door, child),
-            Err(Failed) => events::mute(door, child),
+        if self.closed {
+            events::stop(door, self.child, Why::Memory);
+        } else {
+            end_child(&mut self.inlet, door, self.child);
+            self.closed = true;
         }
     }
 
-    /// Writes the next line to the child, where there is one. Where there is no memory the child ends.
+    /// Writes the next line to the child, where there is one. Where there is no memory the child ends, and its inlet is closed.
     pub fn turn<D: Door>(&mut self, door: &mut D) -> Turn
         requires started { is_started (D.seen door.old) self.old.child ≡ true }
         ensures moved { MouthMoved (D.number door.old) (D.alone door.old) (D.seen door.old) (D.seen door.new) self.old self.new }
@@ -107,16 +154,19 @@ impl<I: Sink> Mouth<I> {
         ensures over { result ≡ Turn.Over → Says (D.opening door.old) (D.number door.old) (D.seen door.new) (Fetch self.old.child) Over }
         ensures door { IsSameDoor D.opening D.number D.seen D.alone D.loans D.home door.old door.new }
     {
-        let child = self.child();
-        match events::fetch(door, child) {
+        if self.closed {
+            self.give_up(door);
+            return Turn::Over;
+        }
+        match events::fetch(door, self.child) {
             Ok(Fetched::Line(line)) => {
-                self.send(door, &line);
+                send(&mut self.inlet, door, self.child, &line);
                 Turn::Again
             }
             Ok(Fetched::Rest) => Turn::Rest,
             Ok(Fetched::Over) => Turn::Over,
             Err(NoMemory) => {
-                events::stop(door, child, Why::Memory);
+                self.give_up(door);
                 Turn::Over
             }
         }
@@ -140,7 +190,7 @@ impl<I: Sink> Mouth<I> {
         }
     }
 
-    /// Turns until there is nothing more to do.
+    /// Turns until there is nothing more to do. Where there is no memory the child ends, and its inlet is closed.
     pub fn run<D: Door>(&mut self, door: &mut D)
         requires started { is_started (D.seen door.old) self.old.child ≡ true }
         ensures moved { MouthMoved (D.number door.old) (D.alone door.old) (D.seen door.old) (D.seen door.new) self.old self.new }
@@ -153,7 +203,6 @@ impl<I: Sink> Mouth<I> {
                 return;
             }
         }
-        let child = self.child();
-        events::stop(door, child, Why::Memory);
+        self.give_up(door);
     }
 }

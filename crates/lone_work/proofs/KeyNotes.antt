@@ -21,7 +21,7 @@ use Rattle.journal_model.specs.declared.entry.Entry.{Entry}
 use Rattle.journal_model.specs.declared.opening.Opening.{Opening}
 use Rattle.journal_model.specs.Journal.{any, each_of, is_live, is_mute}
 use Rattle.journal_model.specs.Due.{due_after}
-use Rattle.journal_model.specs.Legality.{Legal, answers, claims, is_busy, is_claimed, is_claimed_by, is_free, is_number, least_free, numbers_of, task_of, both_conflict, conflicts, clashes, holder, turned_by, may_come, may_note, has_open_job, is_prepared}
+use Rattle.journal_model.specs.Legality.{Legal, answers, claims, is_busy, is_claimed, is_claimed_by, is_free, is_number, least_free, numbers_of, task_of, both_conflict, conflicts, clashes, share_name, holder, turned_by, may_come, may_note, has_open_job, is_prepared}
 use Rattle.journal_model.specs.Notes.{noted, note_of, with_notes, AreCurrentAt}
 use Rattle.journal_model.proofs.Looks.{entry, both, same, same_number, either_left, either_right, true_not_false, each_of-append}
 use Rattle.journal_model.proofs.Holding.{claimed, answered, due_names, holder_append, unturned, held_busy}
@@ -80,7 +80,7 @@ none_at p a (suc n) u h l b = by_first (a == u) refl (λ o. none_at p (a + 1) n 
         other q = let s : (a == u) ≡ true = eq-eqb a u q in absurd cc
 
 not_in_way : (o : Opening) (past : List Entry) (t u : ℕ) (s r : Task) → is_free o past t ≡ true → is_busy past u ≡ true → task_of o t ≡ Some s → task_of o u ≡ Some r → bytes_eq r.key s.key ≡ false
-not_in_way o past t u s r f b et eu = either_left (bytes_eq r.key s.key) (clashes r.file s.file) conflict
+not_in_way o past t u s r f b et eu = either_left (bytes_eq r.key s.key) (clashes r.file s.file) (either_left (bytes_eq r.key s.key || clashes r.file s.file) (share_name r s) conflict)
   where
     turned_off : (x : Bool) → not x ≡ true → x ≡ false
     turned_off true e = absurd cc

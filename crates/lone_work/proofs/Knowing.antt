@@ -85,9 +85,9 @@ known_grown o n t {a} {makes} {mine} {old} {new} before after same s =
     ap (λ (j : List Entry). known_layouts o j t) s.is
     ∙ known_stay o n t old s.more before (subst (λ (j : List Entry). AtTask o n t j) s.is after) (ap (λ (j : List Entry). notings j t) (sym s.is) ∙ same)
 
-noted_asked : (o : Opening) (n t : ℕ) (old new : List Entry) (q : HostMessage) (result : Result Verdict NoMemory) → AskedFor o n t old new q result → notings new t ≡ notings old t
-noted_asked o n t old new q (Ok v) h = h.noted
-noted_asked o n t old new q (Err e) h = h.noted
+noted_asked : (o : Opening) (n t : ℕ) (old new : List Entry) (name : Option (List ℕ)) (q : HostMessage) (result : Result Verdict NoMemory) → AskedFor o n t old new name q result → notings new t ≡ notings old t
+noted_asked o n t old new name q (Ok v) h = h.noted
+noted_asked o n t old new name q (Err e) h = h.noted
 
 -- the same of an asker, whose door has the same opening and whose task is the same
 module _ {P Q : Type 0} (o o' : Opening) (n t u : ℕ) {a : Bool} {makes mine : What → Bool} {old new : List Entry} (same_opening : o' ≡ o) (same_task : t ≡ u)
@@ -97,8 +97,8 @@ module _ {P Q : Type 0} (o o' : Opening) (n t u : ℕ) {a : Bool} {makes mine : 
       ap (λ (w : Opening). known_layouts w new u) same_opening
       ∙ subst (λ (k : ℕ). known_layouts o new k ≡ known_layouts o old k) same_task is
 
-  pub known_asked : (q : HostMessage) (result : Result Verdict NoMemory) → AskedFor o n t old new q result → known_layouts o' new u ≡ known_layouts o old u
-  known_asked q result h = known_now (known_grown o n t before (at_asked o n t old new q result h) (noted_asked o n t old new q result h) s)
+  pub known_asked : (name : Option (List ℕ)) (q : HostMessage) (result : Result Verdict NoMemory) → AskedFor o n t old new name q result → known_layouts o' new u ≡ known_layouts o old u
+  known_asked name q result h = known_now (known_grown o n t before (at_asked o n t old new name q result h) (noted_asked o n t old new name q result h) s)
 
   -- without memory nothing was noted
   pub known_noted : (chunk count : ℕ) (result : Result (Unit {0}) NoMemory) → NotedFor o n t old new chunk count result → OnErr result (known_layouts o' new u ≡ known_layouts o old u)

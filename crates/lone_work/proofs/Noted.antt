@@ -12,7 +12,7 @@ use Rattle.journal_model.specs.Legality.{job_for, has_open_job}
 use Rattle.journal_model.proofs.Looks.{entry, same, either_left, either_right}
 use Rattle.journal_model.proofs.Working.{AllAsked, all_asked, kept_verdict}
 use Rattle.task_run.specs.Askers.{Asking, Noting}
-use Rattle.task_run.specs.Askings.{asking_of, askings_from, askings, noting_of, notings_from}
+use Rattle.task_run.specs.Askings.{asking_of, askings_from, askings, noting_of, notings_from, name_before}
 use Rattle.lone_work.specs.AtTasks.{notings}
 
 -- the entry notes something for task t
@@ -40,7 +40,7 @@ alike : (j k : List Entry) (t : ℕ) (past xs : List Entry) (w : What) → SameV
 alike j k t past xs (Ask child job task line) h = go (task == t) h
   where
     asked : Verdict → Asking
-    asked v = record { request = host_reading (addressed past child line).1; verdict = v }
+    asked v = record { request = host_reading (addressed past child line).1; name = name_before past child job; verdict = v }
 
     go : (b : Bool) → SameVerdicts j k (cons_option (cond b (Some (child, job)) None) (each_of (job_for t) xs))
         → (cond b (option_map asked (verdict_of j child job)) None ≡ cond b (option_map asked (verdict_of k child job)) None) × SameVerdicts j k (each_of (job_for t) xs)

@@ -30,9 +30,10 @@ use Rattle.host_core.specs.Steps.{Step, step_of, append, asking, may_request, ne
 use Rattle.host_core.specs.declared.event.Event.TheVariants.{Note as NoteEvent}
 use Rattle.host_core.specs.declared.event.Reply.{Reply}
 use Rattle.host_core.specs.declared.event.Reply.TheVariants.{Done}
-use Rattle.task_run.specs.Askers.{Asking, Noting, is_gone}
-use Rattle.task_run.specs.Askings.{askings, lost_verdict}
+use Rattle.task_run.specs.Askers.{Asking, Noting, is_gone, said_with}
+use Rattle.task_run.specs.Askings.{askings, lost_verdict, name_before}
 use Rattle.task_run.proofs.Askings.{asks_for, askings-unasked, askings-ask, askings-lost}
+use Rattle.task_run.proofs.NamesBefore.{none_before, one_before}
 use Rattle.link_roles.specs.Doors.{Passed, Appended, Made}
 use Rattle.link_roles.specs.Events.{IsJob}
 use Rattle.link_roles.specs.Asks.{HasAsked, Grows, lost_as, never}
@@ -74,6 +75,15 @@ lost_same (Some why) = refl
 lost_gone : (why : Option Why) → is_gone (lost_as why) ≡ true
 lost_gone None = refl
 lost_gone (Some why) = refl
+
+-- before a request that is asked its name is said, and before none nothing
+said_before : (name : Option (List ℕ)) (q : HostMessage) → said_with name (Some q) ≡ name
+said_before None q = refl
+said_before (Some name) q = refl
+
+unsaid : (name : Option (List ℕ)) → said_with name None ≡ None
+unsaid None = refl
+unsaid (Some name) = refl
 
 verdict_settles : (past : List Entry) (c j : ℕ) (v : Verdict) → verdict_of past c j ≡ Some v → is_settled past c j ≡ true
 verdict_settles past c j v h = by_either (is_settled past c j) (λ x. x) (λ f. absurd (none_some (sym (settled_none past c j f) ∙ h)))
@@ -122,16 +132,17 @@ module _ (o : Opening) (n t : ℕ) where
       let askable : is_askable q ≡ true = and_right (is_started past c && may_ask past n t c && is_in_turn past c (next_job past c) q) (is_askable q) may in
       ap host_reading (wired_text past c (next_job past c) (host_line q) small) ∙ canonical_read q (test_askable q askable)
 
-  -- the task is held, no job of it is open, and its line reads as the request
-  settled_at : (past more : List Entry) (c job : ℕ) (line : List ℕ) (q : HostMessage) (v : Verdict) → is_claimed_by past n t ≡ true → has_open_job past t ≡ false
-      → host_reading (addressed past c line).1 ≡ Some q → any (is_of_task t) more ≡ false → Legal o (past ++ entry n (Ask c job t line) ∷ more)
-      → verdict_of (past ++ entry n (Ask c job t line) ∷ more) c job ≡ Some v → AsksNow o n t past (past ++ entry n (Ask c job t line) ∷ more) q v
-  settled_at past more c job line q v claimed closed reads none legal settled = record {
+  -- the task is held, no job of it is open, its line reads as the request, and this name stands before it
+  settled_at : (past more : List Entry) (c job : ℕ) (line : List ℕ) (name : Option (List ℕ)) (q : HostMessage) (v : Verdict) → is_claimed_by past n t ≡ true → has_open_job past t ≡ false
+      → host_reading (addressed past c line).1 ≡ Some q → name_before past c job ≡ name → any (is_of_task t) more ≡ false → Legal o (past ++ entry n (Ask c job t line) ∷ more)
+      → verdict_of (past ++ entry n (Ask c job t line) ∷ more) c job ≡ Some v → AsksNow o n t past (past ++ entry n (Ask c job t line) ∷ more) name q v
+  settled_at past more c job line name q v claimed closed reads named none legal settled = record {
     at = record { legal = legal; held = ap (is_held_by n) held ∙ claimed; shut = shut };
     asked = record {
       request = Some q;
       kept = refl;
-      added = askings-ask past more t n c job line (Some q) v closed (any_narrower (asks_for t) (is_of_task t) (asks_of t) more none) reads settled;
+      added = askings-ask past more t n c job line (Some q) name v closed (any_narrower (asks_for t) (is_of_task t) (asks_of t) more none) reads named settled
+          ∙ ap (λ (x : Option (List ℕ)). askings past t ++ record { request = Some q; name = x; verdict = v } ∷ []) (sym (said_before name q));
     };
     noted = notings-unnoted past group t closed (any_narrower (notes_for t) (is_of_task t) (notes_of t) more none);
   }
@@ -153,8 +164,9 @@ module _ (o : Opening) (n t : ℕ) where
           (closed_all past group (each_of (job_for t) past) (all_asked t past) closed)
           (rw (settled_closed (past ++ group) c job (verdict_settles (past ++ group) c job v settled)) refl)
 
-  lost_at : (past : List Entry) (c : ℕ) (q : HostMessage) → AtTask o n t past → Legal o (past ++ entry n (Lost c t) ∷ []) → AsksNow o n t past (past ++ entry n (Lost c t) ∷ []) q (lost_as (why_of past c))
-  lost_at past c q at legal = record {
+  lost_at : (past : List Entry) (c : ℕ) (name : Option (List ℕ)) (q : HostMessage) → AtTask o n t past → Legal o (past ++ entry n (Lost c t) ∷ [])
+      → AsksNow o n t past (past ++ entry n (Lost c t) ∷ []) name q (lost_as (why_of past c))
+  lost_at past c name q at legal = record {
     at = record {
       legal = legal;
       held = ap (is_held_by n) (holder_append past (entry n (Lost c t) ∷ []) t) ∙ at.held;
@@ -164,33 +176,37 @@ module _ (o : Opening) (n t : ℕ) where
       request = None;
       kept = lost_gone (why_of past c);
       added = askings-lost past [] t n c at.shut refl
-          ∙ ap (λ (v : Verdict). askings past t ++ record { request = None; verdict = v } ∷ []) (lost_same (why_of past c));
+          ∙ ap (λ (v : Verdict). askings past t ++ record { request = None; name = None; verdict = v } ∷ []) (lost_same (why_of past c))
+          ∙ ap (λ (x : Option (List ℕ)). askings past t ++ record { request = None; name = x; verdict = lost_as (why_of past c) } ∷ []) (sym (unsaid name));
     };
     noted = notings-unnoted past (entry n (Lost c t) ∷ []) t at.shut refl;
   }
 
   -- after entries that ask and note nothing of the task
-  asks_from : (old mid new : List Entry) (q : HostMessage) (v : Verdict) → askings mid t ≡ askings old t → notings mid t ≡ notings old t → AsksNow o n t mid new q v → AsksNow o n t old new q v
-  asks_from old mid new q v asks notes a = record {
+  asks_from : (old mid new : List Entry) (name : Option (List ℕ)) (q : HostMessage) (v : Verdict) → askings mid t ≡ askings old t → notings mid t ≡ notings old t
+      → AsksNow o n t mid new name q v → AsksNow o n t old new name q v
+  asks_from old mid new name q v asks notes a = record {
     at = a.at;
     asked = record {
       request = a.asked.request;
       kept = a.asked.kept;
-      added = a.asked.added ∙ ap (λ (xs : List Asking). xs ++ record { request = a.asked.request; verdict = v } ∷ []) asks;
+      added = a.asked.added ∙ ap (λ (xs : List Asking). xs ++ record { request = a.asked.request; name = said_with name a.asked.request; verdict = v } ∷ []) asks;
     };
     noted = a.noted ∙ notes;
   }
 
   -- the request, and the name before it, and then what makes nothing of the task
-  settled_named : (past more : List Entry) (c : ℕ) (name : Option (List ℕ)) (q : HostMessage) (v : Verdict) → AtTask o n t past → host_reading (addressed past c (next_on_wire past c q)).1 ≡ Some q
+  settled_named : (past more : List Entry) (c : ℕ) (name : Option (List ℕ)) (q : HostMessage) (v : Verdict) → AtTask o n t past → next_job past c < 2 ^ 64 → host_reading (addressed past c (next_on_wire past c q)).1 ≡ Some q
       → any (is_of_task t) more ≡ false → Legal o (past ++ (made_by n (asking past t c name q) ++ more))
-      → verdict_of (past ++ (made_by n (asking past t c name q) ++ more)) c (next_job past c) ≡ Some v → AsksNow o n t past (past ++ (made_by n (asking past t c name q) ++ more)) q v
-  settled_named past more c None q v at reads none legal settled = settled_at past more c (next_job past c) (next_on_wire past c q) q v at.held at.shut reads none legal settled
-  settled_named past more c (Some name) q v at reads none legal settled =
-      subst (λ (x : List Entry). AsksNow o n t past x q v) back
-      (asks_from past mid (mid ++ entry n (Ask c (next_job past c) t (next_on_wire past c q)) ∷ more) q v (asked_on past (lead ∷ []) at refl) (noted_on past (lead ∷ []) at refl)
-      (settled_at mid more c (next_job past c) (next_on_wire past c q) q v held closed
-      (ap (λ (r : Option ℕ × List ℕ). host_reading r.1) (same_addressed past n c (next_job past c) (next_on_wire past c (Export name)) c (next_on_wire past c q)) ∙ reads) none
+      → verdict_of (past ++ (made_by n (asking past t c name q) ++ more)) c (next_job past c) ≡ Some v → AsksNow o n t past (past ++ (made_by n (asking past t c name q) ++ more)) name q v
+  settled_named past more c None q v at small reads none legal settled =
+      settled_at past more c (next_job past c) (next_on_wire past c q) None q v at.held at.shut reads (none_before o past c (next_job past c) at.legal) none legal settled
+  settled_named past more c (Some name) q v at small reads none legal settled =
+      subst (λ (x : List Entry). AsksNow o n t past x (Some name) q v) back
+      (asks_from past mid (mid ++ entry n (Ask c (next_job past c) t (next_on_wire past c q)) ∷ more) (Some name) q v (asked_on past (lead ∷ []) at refl) (noted_on past (lead ∷ []) at refl)
+      (settled_at mid more c (next_job past c) (next_on_wire past c q) (Some name) q v held closed
+      (ap (λ (r : Option ℕ × List ℕ). host_reading r.1) (same_addressed past n c (next_job past c) (next_on_wire past c (Export name)) c (next_on_wire past c q)) ∙ reads)
+      (one_before past n c (next_job past c) (next_on_wire past c (Export name)) name said) none
       (subst (Legal o) (sym back) legal) (subst (λ (x : List Entry). verdict_of x c (next_job past c) ≡ Some v) (sym back) settled)))
     where
       lead : Entry
@@ -198,6 +214,10 @@ module _ (o : Opening) (n t : ℕ) where
 
       mid : List Entry
       mid = past ++ lead ∷ []
+
+      said : host_reading (addressed mid c (next_on_wire past c (Export name))).1 ≡ Some (Export name)
+      said = ap (λ (r : Option ℕ × List ℕ). host_reading r.1) (same_addressed past n c (next_job past c) (next_on_wire past c (Export name)) c (next_on_wire past c (Export name)))
+          ∙ ap host_reading (wired_text past c (next_job past c) (host_line (Export name)) small) ∙ canonical_read (Export name) tt
 
       back : mid ++ entry n (Ask c (next_job past c) t (next_on_wire past c q)) ∷ more ≡ past ++ lead ∷ entry n (Ask c (next_job past c) t (next_on_wire past c q)) ∷ more
       back = append_assoc past (lead ∷ []) (entry n (Ask c (next_job past c) t (next_on_wire past c q)) ∷ more)
@@ -214,7 +234,7 @@ module _ (o : Opening) (n t : ℕ) where
   asking_holds past c (Some name) q held = ap (is_held_by n) (holder_append past (made_by n (asking past t c (Some name) q)) t) ∙ held
 
   pub asked : {a : Bool} {makes : What → Bool} {Known : ℕ → Type 0} {old new : List Entry} (c : ℕ) (name : Option (List ℕ)) (q : HostMessage) (v : Verdict)
-      → ((w : What) → makes w ≡ true → is_of_task t w ≡ false) → AtTask o n t old → Legal o new → HasAsked o n a makes old new c t name q Known v → AsksNow o n t old new q v
+      → ((w : What) → makes w ≡ true → is_of_task t w ≡ false) → AtTask o n t old → Legal o new → HasAsked o n a makes old new c t name q Known v → AsksNow o n t old new name q v
   asked {makes = makes} {old = old} {new = new} c name q v none at legal (inl s) =
       let p : List Entry = s.asked.past in
       let before : SameTask o n t old p = passed at (s.asked.legal at.legal) s.asked.passed in
@@ -224,16 +244,16 @@ module _ (o : Opening) (n t : ℕ) where
       let whole : Legal o (p ++ (group ++ s.on.more)) = subst (Legal o) is legal in
       let un = apart makes none (p ++ group) s.on.more (subst (Legal o) (sym (append_assoc p group s.on.more)) whole) (asking_holds p c name q before.at.held) s.on.own in
       let small : next_job p c < 2 ^ 64 = subst (λ (k : ℕ). k < 2 ^ 64) j.next s.small in
-      subst (λ (x : List Entry). AsksNow o n t old x q v) (sym is)
-      (asks_from old p (p ++ (group ++ s.on.more)) q v before.asked before.noted
-      (settled_named p s.on.more c name q v before.at (reads p c q j.may small) un whole
+      subst (λ (x : List Entry). AsksNow o n t old x name q v) (sym is)
+      (asks_from old p (p ++ (group ++ s.on.more)) name q v before.asked before.noted
+      (settled_named p s.on.more c name q v before.at small (reads p c q j.may small) un whole
       (subst (λ (k : ℕ). verdict_of (p ++ (group ++ s.on.more)) c k ≡ Some v) j.next (subst (λ (x : List Entry). verdict_of x c s.job ≡ Some v) is s.settled))))
   asked {old = old} {new = new} c name q v none at legal (inr s) =
       let p : List Entry = s.past in
       let before : SameTask o n t old p = passed at (s.legal at.legal) s.passed in
-      subst (λ (x : List Entry). AsksNow o n t old x q v) (sym s.is)
-      (asks_from old p (p ++ entry n (Lost c t) ∷ []) q v before.asked before.noted
-      (subst (λ (w : Verdict). AsksNow o n t p (p ++ entry n (Lost c t) ∷ []) q w) (sym s.found.1) (lost_at p c q before.at (subst (Legal o) s.is legal))))
+      subst (λ (x : List Entry). AsksNow o n t old x name q v) (sym s.is)
+      (asks_from old p (p ++ entry n (Lost c t) ∷ []) name q v before.asked before.noted
+      (subst (λ (w : Verdict). AsksNow o n t p (p ++ entry n (Lost c t) ∷ []) name q w) (sym s.found.1) (lost_at p c name q before.at (subst (Legal o) s.is legal))))
 
   -- ---- a note
 

@@ -25,17 +25,17 @@ use Rattle.journal_model.proofs.Looks.{both, same, differ, any-append, each_of-a
 use Rattle.journal_model.proofs.Projecting.{invariant}
 use Rattle.journal_model.proofs.Testing.{or_left}
 use Rattle.journal_model.proofs.Verdicts.{unasked_none}
-use Rattle.host_core.specs.Steps.{asking, may_request, next_job}
+use Rattle.host_core.specs.Steps.{asking, is_named_well, may_request, next_job}
 use Rattle.journal_model.specs.Due.{made_by}
 use Rattle.link_roles.proofs.Asking.{asks_next}
-use Rattle.task_run.specs.Askers.{names_in_line}
+use Rattle.task_run.specs.Askers.{is_said_in_line, names_in_line}
 use Rattle.link_roles.specs.Doors.{Passed}
 use Rattle.link_roles.specs.Asks.{Grows, HasAsked, never}
 use Rattle.link_roles.proofs.Writings.{lone_apart}
 use Rattle.link_roles.proofs.Roles.{moved_both, moved_by, moved_wider, none_made, started_on}
 use Rattle.lone_work.specs.AtTasks.{AtTask, AskedFor, NotedFor}
 use Rattle.lone_work.specs.Noting.{by_noting}
-use Rattle.lone_work.specs.Servings.{HasTurn, Serves, ServesOn, by_server, names_text}
+use Rattle.lone_work.specs.Servings.{HasTurn, Serves, ServesOn, by_server, is_said_in_text, names_text}
 
 -- ---- the kinds
 
@@ -286,12 +286,17 @@ may_later o n c t a seen q s later askable line text lone = rw (s.started, asks_
     in_turn : is_in_turn seen c (next_job seen c) q ≡ true
     in_turn = rw (later, suits seen c q later line text) (ap (λ (b : Bool). b && true) two)
 
+-- a name that is text, on one line
+pub named_well : (name : Option (List ℕ)) → is_said_in_line name ≡ true → is_said_in_text name ≡ true → is_named_well name ≡ true
+named_well None line text = refl
+named_well (Some name) line text = rw (text, line) refl
+
 -- ---- what asking and noting leave
 
 -- after a request, or where none was asked, the number holds the task still
-pub at_asked : (o : Opening) (n t : ℕ) (old new : List Entry) (q : HostMessage) (result : Result Verdict NoMemory) → AskedFor o n t old new q result → AtTask o n t new
-at_asked o n t old new q (Ok v) h = h.at
-at_asked o n t old new q (Err e) h = h.at
+pub at_asked : (o : Opening) (n t : ℕ) (old new : List Entry) (name : Option (List ℕ)) (q : HostMessage) (result : Result Verdict NoMemory) → AskedFor o n t old new name q result → AtTask o n t new
+at_asked o n t old new name q (Ok v) h = h.at
+at_asked o n t old new name q (Err e) h = h.at
 
 pub at_noted : (o : Opening) (n t : ℕ) (old new : List Entry) (chunk count : ℕ) (result : Result (Unit {0}) NoMemory) → NotedFor o n t old new chunk count result → AtTask o n t new
 at_noted o n t old new chunk count (Ok v) h = h.at
@@ -317,11 +322,11 @@ wider p q f n (e ∷ xs) h =
     one false k = refl
 
 module _ (o : Opening) (n t u : ℕ) (a : Bool) (old new : List Entry) (is : t ≡ u) where
-  pub serves_asked : (c : ℕ) (q : HostMessage) (result : Result Verdict NoMemory) {P Q : Type 0} → Serves o n a c t old → AskedFor o n t old new q result → (a ≡ true → HasTurn old c t → HasTurn new c t)
+  pub serves_asked : (c : ℕ) (name : Option (List ℕ)) (q : HostMessage) (result : Result Verdict NoMemory) {P Q : Type 0} → Serves o n a c t old → AskedFor o n t old new name q result → (a ≡ true → HasTurn old c t → HasTurn new c t)
       → Moved n a (by_server c t) (is_of_child c) old new P Q → ServesOn o n a c u old new P Q
-  serves_asked c q result {P} {Q} s asked turn moved =
+  serves_asked c name q result {P} {Q} s asked turn moved =
       subst (λ (k : ℕ). ServesOn o n a c k old new P Q) is record {
-        serves = record { at = at_asked o n t old new q result asked; started = started_on c moved s.started; book = s.book; turn = λ lone. turn lone (s.turn lone) };
+        serves = record { at = at_asked o n t old new name q result asked; started = started_on c moved s.started; book = s.book; turn = λ lone. turn lone (s.turn lone) };
         moved = moved;
       }
 

@@ -1,5 +1,5 @@
 -- How a task stands that may ask and note, and what asking and noting do.
-use Rattle.std.specs.Prelude.{ℕ, ◌≡◌, true, false, List, [], ◌∷◌, ◌++◌, length, Result, MatchResult}
+use Rattle.std.specs.Prelude.{ℕ, ◌≡◌, true, false, List, [], ◌∷◌, ◌++◌, length, Option, Result, MatchResult}
 use Rattle.ann_key.specs.declared.bytes.NoMemory.{NoMemory}
 use Rattle.annex_model.specs.Messages.{HostMessage}
 use Rattle.journal_model.specs.declared.verdict.Verdict.{Verdict}
@@ -25,15 +25,15 @@ pub record SameTask (o : Opening) (number t : ℕ) (old new : List Entry) : Type
   pub asked : askings new t ≡ askings old t
   pub noted : notings new t ≡ notings old t
 
--- the number holds the task still, and the journal has this request of it more, with this verdict, and no note more
-pub record AsksNow (o : Opening) (number t : ℕ) (old new : List Entry) (q : HostMessage) (verdict : Verdict) : Type 0 where
+-- the number holds the task still, and the journal has this request of it more, after this name, with this verdict, and no note more
+pub record AsksNow (o : Opening) (number t : ℕ) (old new : List Entry) (name : Option (List ℕ)) (q : HostMessage) (verdict : Verdict) : Type 0 where
   pub at : AtTask o number t new
-  pub asked : AsksOne (askings old t) (askings new t) q verdict
+  pub asked : AsksOne (askings old t) (askings new t) name q verdict
   pub noted : notings new t ≡ notings old t
 
 -- without memory nothing was asked
-abbrev pub AskedFor : Opening → ℕ → ℕ → List Entry → List Entry → HostMessage → Result Verdict NoMemory → Type 0
-AskedFor o number t old new q result = MatchResult result (AsksNow o number t old new q) (λ _. SameTask o number t old new)
+abbrev pub AskedFor : Opening → ℕ → ℕ → List Entry → List Entry → Option (List ℕ) → HostMessage → Result Verdict NoMemory → Type 0
+AskedFor o number t old new name q result = MatchResult result (AsksNow o number t old new name q) (λ _. SameTask o number t old new)
 
 -- the number holds the task still, and the journal has this note of it more, after its requests so far, and no request more
 pub record NotesNow (o : Opening) (number t : ℕ) (old new : List Entry) (chunk count : ℕ) : Type 0 where

@@ -1,5 +1,5 @@
 -- How a number stands that serves a task over a child, and what serving makes.
-use Rattle.std.specs.Prelude.{ℕ, ◌≡◌, ◌==◌, ◌&&◌, Bool, true, List, []}
+use Rattle.std.specs.Prelude.{ℕ, ◌≡◌, ◌==◌, ◌&&◌, Bool, true, List, [], Option, Some, None}
 use Rattle.std.specs.Str.{is_utf8}
 use Rattle.annex_model.specs.Messages.{HostMessage, Transfer, Transferexport, Renameexport}
 use Rattle.journal_model.specs.declared.entry.What.{What}
@@ -49,6 +49,11 @@ names_text (Transfer store key file) = is_utf8 file
 names_text (Transferexport store key file) = is_utf8 file
 names_text (Renameexport key onto) = is_utf8 onto
 names_text q = true
+
+-- the name that is said before a request, if one is, is text
+abbrev pub is_said_in_text : Option (List ℕ) → Bool
+is_said_in_text None = true
+is_said_in_text (Some name) = is_utf8 name
 
 -- what an asker over a link and a door made of both: they are the same, and it serves the same task still
 pub record AskerGoes {D H : Type 0} (opening_of : D → Opening) (number_of : D → ℕ) (seen_of : D → List Entry) (alone_of : D → Bool) (loans_of : D → List ℕ) (home_of : D → H)

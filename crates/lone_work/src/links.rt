@@ -4,8 +4,8 @@ ghost use Rattle.journal_model.specs.Journal.{is_started};
 ghost use Rattle.journal_model.specs.Projection.{IsNamed};
 ghost use Rattle.journal_model.specs.Shares.{Moved, is_of_child};
 ghost use Rattle.link_roles.specs.Writings.{LoneWired};
-ghost use Rattle.host_core.specs.Steps.{may_request};
-ghost use Rattle.talk_serial.specs.Requests.{message_of};
+ghost use Rattle.host_core.specs.Steps.{is_named_well, may_request};
+ghost use Rattle.talk_serial.specs.Requests.{message_of, name_of};
 ghost use Rattle.link_roles.specs.Doors.{IsSameDoor};
 ghost use Rattle.link_roles.specs.Moves.{IsSameLink};
 ghost use Rattle.lone_work.specs.AtTasks.{AtTask, AskedFor};
@@ -27,7 +27,8 @@ pub fn ask_by_link<I: Sink, O: Source, D: Door>(
     requires at { AtTask (D.opening door.old) (D.number door.old) task (D.seen door.old) }
     requires started { is_started (D.seen door.old) link.old.ear.child ≡ true }
     requires may { D.alone door.old ≡ true → may_request (D.seen door.old) (D.number door.old) task link.old.ear.child (message_of request.now) ≡ true }
-    ensures asked { AskedFor (D.opening door.old) (D.number door.old) task (D.seen door.old) (D.seen door.new) (message_of request.now) result }
+    requires named { is_named_well (name_of request.now) ≡ true }
+    ensures asked { AskedFor (D.opening door.old) (D.number door.old) task (D.seen door.old) (D.seen door.new) (name_of request.now) (message_of request.now) result }
     ensures named { IfOk result (IsNamed (message_of request.now)) }
     ensures turn { D.alone door.old ≡ true → HasTurn (D.seen door.old) link.old.ear.child task → HasTurn (D.seen door.new) link.old.ear.child task }
     ensures moved { Moved (D.number door.old) (D.alone door.old) (by_server link.old.ear.child task) (is_of_child link.old.ear.child) (D.seen door.old) (D.seen door.new) (LoneWired (D.seen door.old) link.old.ear link.old.mouth) (LoneWired (D.seen door.new) link.new.ear link.new.mouth) }

@@ -1,7 +1,7 @@
 // The asker of one task that has its child's link for itself.
 ghost use Rattle.std.specs.Prelude.{◌≡◌, ◌∷◌, [], true};
-ghost use Rattle.talk_serial.specs.Requests.{message_of};
-ghost use Rattle.lone_work.specs.Servings.{names_text};
+ghost use Rattle.talk_serial.specs.Requests.{message_of, name_of};
+ghost use Rattle.lone_work.specs.Servings.{is_said_in_text, names_text};
 
 use crate::links::ask_by_link;
 use crate::notes;
@@ -23,6 +23,16 @@ fn file_of(request: &Request) -> Option<&str>
         Request::TransferExport { file, .. } => Some(file.view()),
         Request::RenameExport { onto, .. } => Some(onto.view()),
         _ => None,
+    }
+}
+
+// The name that is said before the request, if one is. It is text.
+fn name_before(request: &Request) -> Option<&str>
+    ensures { is_said_in_text (name_of request.now) ≡ true }
+{
+    match request.name() {
+        Some(name) => Some(name.view()),
+        None => None,
     }
 }
 
@@ -66,6 +76,7 @@ impl<'l, 'd, I: Sink, O: Source, D: Door> Asker for LoneAsker<'l, 'd, I, O, D> {
 
     fn ask(&mut self, alloc: Global, number: u32, request: &Request) -> Result<Verdict, NoMemory> {
         let _file = file_of(request);
+        let _name = name_before(request);
         ask_by_link(self.link, self.door, number, request)
     }
 

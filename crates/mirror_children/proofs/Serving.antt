@@ -19,7 +19,7 @@ use Rattle.journal_model.proofs.Looks.{both, any-append, each_of-append, verdict
 use Rattle.talk_serial.specs.declared.request.Request.{Request}
 use Rattle.talk_serial.specs.Requests.{message_of, name_of}
 use Rattle.talk_serial.proofs.Reading.{unnamed}
-use Rattle.host_core.specs.Steps.{group_of, may_request, next_job}
+use Rattle.host_core.specs.Steps.{group_of, is_named_well, may_request, next_job}
 use Rattle.link_roles.specs.Alone.{AskedAlone, KeepsLink}
 use Rattle.child_start.proofs.Jobs.{idle_asked, or_true}
 use Rattle.child_start.proofs.Requests.{main_both}
@@ -157,6 +157,9 @@ mirrored_plain (Transfer store key file) h = refl
 mirrored_plain (Checkpresent key) h = refl
 mirrored_plain (Remove key) h = refl
 mirrored_plain q h = absurd cc
+
+pub mirrored_named : (r : Request) → is_mirrored (message_of r) ≡ true → is_named_well (name_of r) ≡ true
+mirrored_named r h = ap is_named_well (unnamed r (mirrored_leads (message_of r) h))
 
 pub asked_plain : (o : Opening) (old new : List Entry) (k : ℕ) (r : Request) (x : Result Verdict NoMemory) → is_mirrored (message_of r) ≡ true → IfOk x (AskedAlone o old new 0 k 0 (name_of r) (message_of r))
     → IfOk x (AskedAlone o old new 0 k 0 None (message_of r))

@@ -2,7 +2,7 @@
 ghost use Rattle.std.specs.Prelude.{◌≡◌, true, IfOk, IsTrue, OnErr};
 ghost use Rattle.journal_model.specs.Journal.{is_started};
 ghost use Rattle.journal_model.specs.Legality.{Legal};
-ghost use Rattle.host_core.specs.Steps.{may_request};
+ghost use Rattle.host_core.specs.Steps.{is_named_well, may_request};
 ghost use Rattle.link_roles.specs.Alone.{AskedAlone, KeepsLink};
 ghost use Rattle.child_start.specs.Cores.{IsSameCore};
 ghost use Rattle.talk_serial.specs.Requests.{message_of, name_of};
@@ -48,6 +48,7 @@ fn ask_over<I: Sink, O: Source>(
     requires started { is_started core.old.journal link.old.ear.child ≡ true }
     requires legal { Legal core.old.opening core.old.journal }
     requires may { may_request core.old.journal 0 0 link.old.ear.child (message_of request.now) ≡ true }
+    requires named { is_named_well (name_of request.now) ≡ true }
     ensures asked { IfOk result (AskedAlone core.old.opening core.old.journal core.new.journal 0 link.old.ear.child 0 (name_of request.now) (message_of request.now)) }
     ensures none { OnErr result (core.new.journal ≡ core.old.journal) }
     ensures link { KeepsLink core.old.journal core.new.journal link.old.ear link.new.ear link.old.mouth link.new.mouth }

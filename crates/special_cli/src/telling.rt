@@ -126,7 +126,7 @@ fn is_well(answer: Answer) -> bool
     ensures { result ≡ is_well answer }
 {
     match answer {
-        Answer::Stored | Answer::Got | Answer::Present | Answer::Dropped => true,
+        Answer::Stored | Answer::Got | Answer::Present | Answer::Dropped | Answer::Renamed => true,
         _ => false,
     }
 }

@@ -38,7 +38,7 @@ use Rattle.task_laws.specs.WentWell.{IsSuccess, success_of}
 use Rattle.task_text.specs.TaskLines.{IsTask, has_chunk}
 use Rattle.task_text.specs.declared.task.Task.{Task}
 use Rattle.task_text.specs.declared.task.Work.{Work}
-use Rattle.task_text.specs.declared.task.Work.TheVariants.{Store, Get, Check, Drop}
+use Rattle.task_text.specs.declared.task.Work.TheVariants.{Store, Get, Check, Drop, XStore, XGet, XCheck, XDrop, XRename}
 
 -- ---- what was written
 
@@ -167,6 +167,11 @@ success_well Store = refl
 success_well Get = refl
 success_well Check = refl
 success_well Drop = refl
+success_well XStore = refl
+success_well XGet = refl
+success_well XCheck = refl
+success_well XDrop = refl
+success_well XRename = refl
 
 well_or_memory : (tasks : List Task) (answers : List Answer) → AreAllWell tasks answers → (list_all is_well answers ≡ true) ⊎ (list_any says_memory answers ≡ true)
 well_or_memory [] [] h = inl refl

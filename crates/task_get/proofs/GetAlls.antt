@@ -30,6 +30,7 @@ use Rattle.task_get.proofs.LastCalls.{after_last-none}
 use Rattle.task_run.proofs.PlainRuns.{of_reading}
 use Rattle.task_get.proofs.GetRuns.{get_task}
 use Rattle.task_run.proofs.NamedRuns.{nameless, with_names}
+use Rattle.task_text.specs.Works.{has_name}
 
 -- nothing was tried
 pub between_first : (p : Place) → Between p [] [] [] p.sizes []
@@ -81,7 +82,7 @@ ran_get task t setup key layouts before after old new result w r g e = record {
   run =
       let as_get : nameless task ≡ get_task task.key task.file = ap (λ x. record { work = x; key = task.key; file = task.file; name = []; onto = [] }) w in
       let P : Task → Type 0 = λ j. TaskRun j t setup layouts g.asked g.made [] (answered result) in
-      with_names task t setup layouts g.asked g.made [] (answered result)
+      with_names task t setup layouts g.asked g.made [] (answered result) (ap has_name w)
       (subst P (sym as_get) (of_reading task.key (λ k. RunOf setup t (get_task task.key task.file) k layouts g.asked g.made [] (answered result))
       (λ k d. let same : key ≡ k = some_inj key k (sym r ∙ d) in
       let Q : Parts → Type 0 = λ k. RunOf setup t (get_task task.key task.file) k layouts g.asked g.made [] (answered result) in

@@ -1,6 +1,6 @@
 -- What a get may ask so far, and how it ends where it is.
 use Rattle.std.proofs.Common.{◌≡◌, ◌∙◌, ℕ, ◌+◌, ◌-◌, ◌≤◌, min, Bool, true, false, not, List, [], ◌∷◌, ◌++◌, length, map, take, refl, sym, ap, subst, arith, append-nil, length-append}
-use Rattle.std.specs.Prelude.{◌||◌, filter, Option, Some, is_none, nat_le, unwrap_or}
+use Rattle.std.specs.Prelude.{◌||◌, filter, Option, Some, None, is_none, nat_le, unwrap_or}
 use Rattle.std.specs.List.{list_all, filter_map}
 use Rattle.std.proofs.lemmas.Bool.{and_parts}
 use Rattle.std.proofs.lemmas.Bool.Decides.{nat_tests}
@@ -21,7 +21,7 @@ use Rattle.task_run.specs.Names.{part_of}
 use Rattle.task_run.specs.Requests.{rounds, RoundsAsk}
 use Rattle.task_run.specs.Reads.{is_run}
 use Rattle.task_run.specs.Gets.{fetch_request, lengths_at_begin, wanted, is_failed, failures, asked_last, first_asked, item, parts_last, held_reads, are_read, wrong_lengths, GetAsks, GetAnswers}
-use Rattle.task_run.specs.Runs.{GetCalls}
+use Rattle.task_run.specs.TaskCalls.{GetCalls}
 use Rattle.task_get.specs.Fronts.{Place, keys_in, is_calm, Tried, Sound, are_free, Ended}
 use Rattle.task_run.proofs.Texts.{apart}
 use Rattle.task_get.proofs.AskLaws.{count_none, count_more, item_behind}
@@ -105,7 +105,7 @@ pub record Fore (p : Place) (asked : List Asking) (calls : List Call) : Type 0 w
 calm_goes_on : (a : Asking) → is_calm a ≡ true → is_none (asking_stop W.Get a) ≡ true
 calm_goes_on a h = of a.request a.verdict h
   where
-    of : (request : Option HostMessage) (v : Verdict) → is_calm (record { request = request; verdict = v }) ≡ true → is_none (asking_stop W.Get (record { request = request; verdict = v })) ≡ true
+    of : (request : Option HostMessage) (v : Verdict) → is_calm (record { request = request; name = None; verdict = v }) ≡ true → is_none (asking_stop W.Get (record { request = request; name = None; verdict = v })) ≡ true
     of request (V.Done at) h = refl
     of request (V.Failed at) h = refl
     of request (V.Absent at) h = apart h

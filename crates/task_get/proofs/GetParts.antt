@@ -22,7 +22,7 @@ use Rattle.task_run.specs.Requests.{rounds, RoundsAsk}
 use Rattle.task_run.specs.Reads.{length_or_none, reads_of, read_of, bytes_of, is_run, is_reading, is_known, appended, holds, takes_away, is_renaming, is_last, is_removed, piece_of}
 use Rattle.task_run.specs.Discipline.{are_found, name_only, changes_as_result, size_of_only}
 use Rattle.task_run.specs.Gets.{fetch_request, begins, lengths_at_begin, wanted, wrong_lengths, held_reads, since_begin, bytes_fetched, fit_in, is_got, IsSaid, GetAsks, GetAnswers}
-use Rattle.task_run.specs.Runs.{fetched_files}
+use Rattle.task_run.specs.TaskCalls.{fetched_files}
 use Rattle.task_run.specs.Ran.{answered}
 use Rattle.task_run.specs.Fetching.{Outcome, if_made, discarded, settling, settled}
 use Rattle.task_get.specs.Fronts.{Place, Turn, first_in, fetch_at, keys_in, is_calm, is_apart, Sound, Within, Kept, Between, Ended, begin_of}

@@ -20,7 +20,8 @@ use Rattle.task_run.specs.Requests.{AsksFor}
 use Rattle.task_run.specs.Layouts.{chunk_sizes, sizes_tried}
 use Rattle.task_run.specs.Reads.{reads_of, read_of, is_run}
 use Rattle.task_run.specs.Gets.{fetch_request, GetAsks, GetAnswers, held_reads, is_wrong}
-use Rattle.task_run.specs.Runs.{RunOf, GetCalls}
+use Rattle.task_run.specs.Runs.{RunOf}
+use Rattle.task_run.specs.TaskCalls.{GetCalls}
 use Rattle.task_run.proofs.GetCallsLaws.{Fair, Good}
 use Rattle.task_run.proofs.Lists.{all_taken, none_stop}
 
@@ -33,7 +34,7 @@ get_task text file = record { work = W.Get; key = text; file = file; name = []; 
 
 -- the one request, which is done
 abbrev pub done : Option HostMessage → ℕ → Asking
-done request at = record { request = request; verdict = Done at }
+done request at = record { request = request; name = None; verdict = Done at }
 
 none_tail : {Y : Type 0} (o : Option Y) (ys : List Y) → cons_option o ys ≡ [] → ys ≡ []
 none_tail None ys h = h

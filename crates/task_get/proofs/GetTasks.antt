@@ -21,6 +21,7 @@ use Rattle.task_run.proofs.GetCallsLaws.{Apart}
 use Rattle.task_get.proofs.GetRuns.{get_task}
 use Rattle.std.proofs.Common.{refl, arith}
 use Rattle.task_run.proofs.NamedRuns.{nameless, with_names}
+use Rattle.task_text.specs.Works.{has_name}
 
 pub names_apart : (setup : Setup) (t n : ℕ) (file : List ℕ) → Apart file (fetch_file setup t n)
 names_apart setup t n file = record {
@@ -51,6 +52,6 @@ get_nothing_ran task t setup layouts pairs log e w = record {
   run =
       let as_get : nameless task ≡ get_task task.key task.file = ap (λ x. record { work = x; key = task.key; file = task.file; name = []; onto = [] }) w in
       let P : Task → Type 0 = λ j. TaskRun j t setup layouts [] [] [] A.Memory in
-      with_names task t setup layouts [] [] [] A.Memory
+      with_names task t setup layouts [] [] [] A.Memory (ap has_name w)
       (subst P (sym as_get) (of_reading task.key (λ key. RunOf setup t (get_task task.key task.file) key layouts [] [] [] A.Memory) (λ key r. get_nothing setup t key task.key task.file layouts)));
 }

@@ -58,7 +58,7 @@ one_failed past cur a d f =
 failed_undone : (a : Asking) → is_failed a ≡ true → is_done a ≡ false
 failed_undone a h = of a.request a.verdict h
   where
-    of : (request : Option HostMessage) (v : Verdict) → is_failed (record { request = request; verdict = v }) ≡ true → is_done (record { request = request; verdict = v }) ≡ false
+    of : (request : Option HostMessage) (v : Verdict) → is_failed (record { request = request; name = None; verdict = v }) ≡ true → is_done (record { request = request; name = None; verdict = v }) ≡ false
     of request (V.Done at) h = apart h
     of request (V.Failed at) h = refl
     of request (V.Absent at) h = refl
@@ -320,21 +320,21 @@ asked_end u cur got left part a n calls answer w is few asks ok stop =
     (subst R (sym (append-nil calls)) w.free) stop)
 
 pub asks_for_part : (setup : Setup) (t n : ℕ) (text : List ℕ) (key : Parts) (request : Option HostMessage) (v : Verdict) → key_reading text ≡ Some key
-    → KeepsRequest (Transfer false text (fetch_file setup t n)) request v → AsksFor (fetch_request setup t) n key (record { request = request; verdict = v })
+    → KeepsRequest (Transfer false text (fetch_file setup t n)) request v → AsksFor (fetch_request setup t) n key (record { request = request; name = None; verdict = v })
 asks_for_part setup t n text key None v e k = k
 asks_for_part setup t n text key (Some q) v e k = rw k (refl, e)
 
 undone_end : (u : Turn) (cur : List Asking) (got left : List Part) (part : Part) (n : ℕ) (calls : List Call) (held : List (ℕ × List ℕ)) (bytes : List ℕ) (before after : Checker)
     (request : Option HostMessage) (v : Verdict) (text fetch : List ℕ) → Within u cur got (part ∷ left) calls
     → length (lengths_at_begin u.place.file calls) ≡ length u.done + 1 → n ≡ first_in u + length cur → n < 2 ^ 64
-    → AsksFor (fetch_request u.place.setup u.place.task) n part.key (record { request = request; verdict = v })
+    → AsksFor (fetch_request u.place.setup u.place.task) n part.key (record { request = request; name = None; verdict = v })
     → is_verdict_of (Transfer false text fetch) v ≡ true → is_done_at v ≡ false
-    → PartEnd u cur got left part calls held bytes before after (record { request = request; verdict = v } ∷ []) [] (Ok (undone_went v))
+    → PartEnd u cur got left part calls held bytes before after (record { request = request; name = None; verdict = v } ∷ []) [] (Ok (undone_went v))
 undone_end u cur got left part n calls held bytes before after request (V.Done at) text fetch w begun is few asks kind d = apart (sym d)
 undone_end u cur got left part n calls held bytes before after request (V.Absent at) text fetch w begun is few asks kind d = apart kind
 undone_end u cur got left part n calls held bytes before after request (V.Unknown at) text fetch w begun is few asks kind d = apart kind
 undone_end u cur got left part n calls held bytes before after request (V.Failed at) text fetch w begun is few asks kind d =
-    let a : Asking = record { request = request; verdict = V.Failed at } in
+    let a : Asking = record { request = request; name = None; verdict = V.Failed at } in
     let P : List Call → Type 0 = λ l. Between u.place (u.past ++ (cur ++ a ∷ [])) (u.done ++ (got ++ part ∷ left) ∷ []) (u.tried ++ u.chunk ∷ []) u.rest l in
     (subst P (sym (append-nil calls)) (failed_between u cur got left part a n calls w begun is few asks refl), refl)
 undone_end u cur got left part n calls held bytes before after request (V.Unsupported at) text fetch w begun is few asks kind d = asked_end u cur got left part _ n calls A.Unsupported w is few asks refl refl
@@ -349,17 +349,17 @@ abbrev pub grown_by : (text part fetch : List ℕ) (n : ℕ) (before after : Che
     → TakeIs text part fetch n before after pairs later old new result how → Grown pairs later old new
 grown_by text part fetch n before after pairs later old new result Unmade so = record { asked = []; made = []; pairs_are = so.none_asked ∙ sym (append-nil pairs); log_is = gained_same old new so.none_called }
 grown_by text part fetch n before after pairs later old new result (Undone v) so =
-    record { asked = record { request = so.asks.request; verdict = v } ∷ []; made = []; pairs_are = so.asks.added; log_is = gained_same old new so.none_called }
+    record { asked = record { request = so.asks.request; name = None; verdict = v } ∷ []; made = []; pairs_are = so.asks.added; log_is = gained_same old new so.none_called }
 grown_by text part fetch n before after pairs later old new result (Fetched v how) so =
-    record { asked = record { request = so.asks.request; verdict = v } ∷ []; made = come_calls part fetch n how; pairs_are = so.asks.added; log_is = so.calls }
+    record { asked = record { request = so.asks.request; name = None; verdict = v } ∷ []; made = come_calls part fetch n how; pairs_are = so.asks.added; log_is = so.calls }
 
 fetched_end : (u : Turn) (cur : List Asking) (got left : List Part) (part : Part) (n : ℕ) (calls : List Call) (held : List (ℕ × List ℕ)) (bytes : List ℕ) (len size : ℕ) (before after : Checker)
     (request : Option HostMessage) (v : Verdict) (how : Come) → Within u cur got (part ∷ left) calls → Kept u cur got (part ∷ left) calls held bytes → n ≡ first_in u + length cur → n + length left < 2 ^ 64
-    → AsksFor (fetch_request u.place.setup u.place.task) n part.key (record { request = request; verdict = v }) → is_done_at v ≡ true
+    → AsksFor (fetch_request u.place.setup u.place.task) n part.key (record { request = request; name = None; verdict = v }) → is_done_at v ≡ true
     → u.place.key.size ≡ Some size → len ≡ part.to - part.from → ComeIs (part_of u.place.file) (fetch_at u.place n) len before after how
-    → PartEnd u cur got left part calls held bytes before after (record { request = request; verdict = v } ∷ []) (come_calls (part_of u.place.file) (fetch_at u.place n) len how) (come_result how)
+    → PartEnd u cur got left part calls held bytes before after (record { request = request; name = None; verdict = v } ∷ []) (come_calls (part_of u.place.file) (fetch_at u.place n) len how) (come_result how)
 fetched_end u cur got left part n calls held bytes len size before after request v how w k is room asks d s l so =
-    come_end (here_at u cur got left part (record { request = request; verdict = v }) n calls) len size held bytes before after how
+    come_end (here_at u cur got left part (record { request = request; name = None; verdict = v }) n calls) len size held bytes before after how
     (record { within = w; number = is; few = omega (arith, room); asks = asks; is_done_now = d }) k s l room so
 
 pub take_end : (u : Turn) (cur : List Asking) (got left : List Part) (part : Part) (n : ℕ) (calls : List Call) (held : List (ℕ × List ℕ)) (bytes : List ℕ) (len size : ℕ) (text : List ℕ)

@@ -33,6 +33,7 @@ use Rattle.task_run.specs.Ran.{answered, is_verdict_of, undone_answer}
 use Rattle.task_run.specs.Fetching.{Fetches, Files3, Outcome, if_made, discarded, kept, Move, NotMade, NotCopied, NotRemoved, Settled, move_calls, move_result, MoveIs, Fetch, NotSized, WrongSize, Moved, fetch_calls, fetch_result, FetchIs}
 use Rattle.task_get.specs.Fronts.{Place, Turn, fetch_at, is_apart, is_calm, Tried, Sound, Within, Between, Ended}
 use Rattle.task_get.specs.LayoutRuns.{place_at, WholeRan}
+use Rattle.task_get.specs.WholeFetches.{TakesWhole}
 use Rattle.fetch_copy.proofs.CopyLaws.{gained_nothing}
 use Rattle.task_run.proofs.Texts.{apart, same_name}
 use Rattle.task_run.proofs.HeldLaws.{is_growing, holds_more, holds_grown}
@@ -390,7 +391,7 @@ failed_last past a answer e =
     last_behind o [] = refl
     last_behind o (x ∷ xs) = last_behind (Some x) xs
 
-failed_of : (request : Option HostMessage) (w : Verdict) (at : ℕ) → w ≡ V.Failed at → is_failed (record { request = request; verdict = w }) ≡ true
+failed_of : (request : Option HostMessage) (w : Verdict) (at : ℕ) → w ≡ V.Failed at → is_failed (record { request = request; name = None; verdict = w }) ≡ true
 failed_of request w at e = rw e refl
 
 -- every layout has failed
@@ -437,8 +438,8 @@ plain_failed p past done tried a calls at b few asks v =
 -- ---- what the code promises
 
 asked_over : (p : Place) (past : List Asking) (done : List (List Part)) (tried : List ℕ) (request : Option HostMessage) (v : Verdict) (calls : List Call) (text : List ℕ) → Between p past done tried (0 ∷ []) calls → length past + 1 < 2 ^ 64
-    → AsksFor (fetch_request p.setup p.task) (length past + 1) p.key (record { request = request; verdict = v }) → is_verdict_of (Transfer false text (fetch_at p (length past + 1))) v ≡ true → is_done_at v ≡ false
-    → Ended p (past ++ record { request = request; verdict = v } ∷ []) (calls ++ []) (unwrap_or (undone_answer v) A.Memory)
+    → AsksFor (fetch_request p.setup p.task) (length past + 1) p.key (record { request = request; name = None; verdict = v }) → is_verdict_of (Transfer false text (fetch_at p (length past + 1))) v ≡ true → is_done_at v ≡ false
+    → Ended p (past ++ record { request = request; name = None; verdict = v } ∷ []) (calls ++ []) (unwrap_or (undone_answer v) A.Memory)
 asked_over p past done tried request (V.Done at) calls text b few asks k d = apart (sym d)
 asked_over p past done tried request (V.Absent at) calls text b few asks k d = apart k
 asked_over p past done tried request (V.Unknown at) calls text b few asks k d = apart k
@@ -453,29 +454,28 @@ whole_nothing setup t key file first pairs log e = record {
   goes = λ sizes past done tried calls n b. unasked_end (record { place = place_at setup t key file sizes; past = past; done = done; tried = tried; chunk = 0; rest = [] }) [] [] (whole_part key ∷ []) calls (plain_within (place_at setup t key file sizes) past done tried calls b);
 }
 
-pub whole_undone : (setup : Setup) (t : ℕ) (key : Parts) (file : List ℕ) (first : ℕ) (pairs later : List Asking) (log : Option Log) (text : List ℕ) (v : Verdict) (answer : Answer) → first + 1 < 2 ^ 64 → key_reading text ≡ Some key
-    → AsksOne pairs later (Transfer false text (fetch_file setup t (first + 1))) v → is_verdict_of (Transfer false text (fetch_file setup t (first + 1))) v ≡ true → is_done_at v ≡ false → Some answer ≡ undone_answer v
-    → WholeRan setup t key file first pairs later log log (Ok answer)
-whole_undone setup t key file first pairs later log text v answer few r a k d is = record {
-  grown = record { asked = record { request = a.request; verdict = v } ∷ []; made = []; pairs_are = a.added; log_is = gained_nothing log };
+whole_undone : (setup : Setup) (t : ℕ) (key : Parts) (file : List ℕ) (first : ℕ) (pairs later : List Asking) (log : Option Log) (text : List ℕ) (v : Verdict) → first + 1 < 2 ^ 64 → key_reading text ≡ Some key
+    → AsksOne pairs later None (Transfer false text (fetch_file setup t (first + 1))) v → is_verdict_of (Transfer false text (fetch_file setup t (first + 1))) v ≡ true → is_done_at v ≡ false
+    → WholeRan setup t key file first pairs later log log (Ok (unwrap_or (undone_answer v) A.Memory))
+whole_undone setup t key file first pairs later log text v few r a k d = record {
+  grown = record { asked = record { request = a.request; name = None; verdict = v } ∷ []; made = []; pairs_are = a.added; log_is = gained_nothing log };
   goes = λ sizes past done tried calls n b.
       let p = place_at setup t key file sizes in
-      let x : Asking = record { request = a.request; verdict = v } in
+      let x : Asking = record { request = a.request; name = None; verdict = v } in
       let N : ℕ → Type 0 = λ j. AsksFor (fetch_request setup t) j key x in
       let K : ℕ → Type 0 = λ j. is_verdict_of (Transfer false text (fetch_file setup t j)) v ≡ true in
       let e : first + 1 ≡ length past + 1 = omega (arith, n) in
-      let O : Option Answer → Type 0 = λ o. Ended p (past ++ x ∷ []) (calls ++ []) (unwrap_or o A.Memory) in
-      subst O (sym is) (asked_over p past done tried a.request v calls text b (omega (arith, n, few)) (subst N e (asks_for_part setup t (first + 1) text key a.request v r a.kept)) (subst K e k) d);
+      asked_over p past done tried a.request v calls text b (omega (arith, n, few)) (subst N e (asks_for_part setup t (first + 1) text key a.request v r a.kept)) (subst K e k) d;
 }
 
 pub whole_fetched : (setup : Setup) (t : ℕ) (key : Parts) (file part fetch : List ℕ) (first : ℕ) (pairs later : List Asking) (old new : Option Log) (text : List ℕ) (v : Verdict) (result : Result Answer NoMemory) → first + 1 < 2 ^ 64 → key_reading text ≡ Some key
-    → AsksOne pairs later (Transfer false text (fetch_file setup t (first + 1))) v → is_done_at v ≡ true → part ≡ part_of file → fetch ≡ fetch_file setup t (first + 1)
+    → AsksOne pairs later None (Transfer false text (fetch_file setup t (first + 1))) v → is_done_at v ≡ true → part ≡ part_of file → fetch ≡ fetch_file setup t (first + 1)
     → Fetches (record { file = file; part = part; fetch = fetch }) key old new result → WholeRan setup t key file first pairs later old new result
 whole_fetched setup t key file part fetch first pairs later old new text v result few r a d p q f = record {
-  grown = record { asked = record { request = a.request; verdict = v } ∷ []; made = fetch_calls (record { file = file; part = part; fetch = fetch }) f.how; pairs_are = a.added; log_is = f.calls };
+  grown = record { asked = record { request = a.request; name = None; verdict = v } ∷ []; made = fetch_calls (record { file = file; part = part; fetch = fetch }) f.how; pairs_are = a.added; log_is = f.calls };
   goes = λ sizes past done tried calls n b.
       let place = place_at setup t key file sizes in
-      let x : Asking = record { request = a.request; verdict = v } in
+      let x : Asking = record { request = a.request; name = None; verdict = v } in
       let e : first + 1 ≡ length past + 1 = omega (arith, n) in
       let N : ℕ → Type 0 = λ j. AsksFor (fetch_request setup t) j key x in
       let fetching : FetchingAt (plain_here place past done tried x calls) = record {
@@ -490,3 +490,14 @@ whole_fetched setup t key file part fetch first pairs later old new text v resul
       let R : Result Answer NoMemory → Type 0 = λ z. Ended place (past ++ x ∷ []) (calls ++ fetch_calls (plain_names place past) f.how) (answered z) in
       subst P (sym p) (subst Q (sym (q ∙ ap (fetch_file setup t) e)) (λ so. subst R (sym f.result_is) (plain_fetched place past done tried x calls fetching f.how so))) f.so;
 }
+
+-- whatever the request came to
+pub whole_taken : (setup : Setup) (t : ℕ) (key : Parts) (file part fetch : List ℕ) (first : ℕ) (pairs later : List Asking) (old new : Option Log) (text : List ℕ) (v : Verdict) (result : Result Answer NoMemory) → first + 1 < 2 ^ 64 → key_reading text ≡ Some key
+    → AsksOne pairs later None (Transfer false text (fetch_file setup t (first + 1))) v → is_verdict_of (Transfer false text (fetch_file setup t (first + 1))) v ≡ true → part ≡ part_of file → fetch ≡ fetch_file setup t (first + 1)
+    → TakesWhole (record { file = file; part = part; fetch = fetch }) key v old new result → WholeRan setup t key file first pairs later old new result
+whole_taken setup t key file part fetch first pairs later old new text v result few r a k p q h = by_test (is_done_at v) refl h
+  where
+    by_test : (b : Bool) → is_done_at v ≡ b → MatchBool b (Fetches (record { file = file; part = part; fetch = fetch }) key old new result) ((new ≡ old) × (result ≡ Ok (unwrap_or (undone_answer v) A.Memory)))
+        → WholeRan setup t key file first pairs later old new result
+    by_test true d f = whole_fetched setup t key file part fetch first pairs later old new text v result few r a d p q f
+    by_test false d h = rw (h.0, h.1) (whole_undone setup t key file first pairs later old text v few r a k d)

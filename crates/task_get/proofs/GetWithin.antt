@@ -1,6 +1,6 @@
 -- A get within a layout: a part more that is asked for, and the calls that fetch it.
 use Rattle.std.proofs.Common.{◌≡◌, ◌∙◌, ℕ, ◌+◌, ◌-◌, ◌<◌, ◌^◌, true, not, List, [], ◌∷◌, ◌++◌, length, map, take, refl, sym, ap, subst, arith, append_assoc, append-nil, length-append}
-use Rattle.std.specs.Prelude.{◌&&◌, filter, Option, Some, is_none, is_some}
+use Rattle.std.specs.Prelude.{◌&&◌, filter, Option, Some, None, is_none, is_some}
 use Rattle.std.specs.List.{list_all, filter_map}
 use Rattle.std.proofs.lemmas.List.{map-append, take-append-le}
 use Rattle.std.proofs.Math.Seq.{take-append_seam}
@@ -17,7 +17,7 @@ use Rattle.task_run.specs.Requests.{AsksFor, AskInOrder, rounds, RoundsAsk}
 use Rattle.task_run.specs.Reads.{length_or_none, lengths_found, reads_of, bytes_of, is_run, is_known, appended, holds}
 use Rattle.task_run.specs.Discipline.{are_found}
 use Rattle.task_run.specs.Gets.{fetch_request, begins, lengths_at_begin, wanted, is_failed, held_reads, are_read, is_read_whole, are_read_whole, bytes_fetched, wrong_lengths, is_wrong, GetAsks}
-use Rattle.task_run.specs.Runs.{fetched_files}
+use Rattle.task_run.specs.TaskCalls.{fetched_files}
 use Rattle.task_get.specs.Fronts.{Place, Turn, first_in, fetch_at, keys_in, is_calm, is_apart, Sound, are_free, Within, Kept}
 use Rattle.task_run.proofs.Texts.{apart}
 use Rattle.task_run.proofs.HeldLaws.{is_growing, told, holds_more, so_front, holds_grown}
@@ -33,7 +33,7 @@ use Rattle.task_get.proofs.GetFronts.{asks_of, Fore}
 done_not_failed : (a : Asking) → is_done a ≡ true → not (is_failed a) ≡ true
 done_not_failed a h = of a.request a.verdict h
   where
-    of : (request : Option HostMessage) (v : Verdict) → is_done (record { request = request; verdict = v }) ≡ true → not (is_failed (record { request = request; verdict = v })) ≡ true
+    of : (request : Option HostMessage) (v : Verdict) → is_done (record { request = request; name = None; verdict = v }) ≡ true → not (is_failed (record { request = request; name = None; verdict = v })) ≡ true
     of request (V.Done at) h = refl
     of request (V.Failed at) h = apart h
     of request (V.Absent at) h = apart h

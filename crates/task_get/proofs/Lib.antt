@@ -19,3 +19,4 @@ pub mod GetBegins
 pub mod GetLayouts
 pub mod GetWholes
 pub mod GetAlls
+pub mod NamedGets

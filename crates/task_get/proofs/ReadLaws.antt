@@ -16,7 +16,7 @@ use Rattle.task_run.specs.Names.{fetch_file, fetch_files, part_of, is_among}
 use Rattle.task_run.specs.Reads.{length_or_none, length_found, lengths_found, read_of, reads_of, bytes_of, is_run, piece_of, appended}
 use Rattle.task_run.specs.Discipline.{are_among, names_in, name_only, changes_as_result, size_among, size_of_only}
 use Rattle.task_run.specs.Gets.{begins, lengths_at_begin, since_begin, held_reads, bytes_fetched, are_read, is_read_whole, are_read_whole, wrong_lengths, is_wrong}
-use Rattle.task_run.specs.Runs.{fetched_files}
+use Rattle.task_run.specs.TaskCalls.{fetched_files}
 use Rattle.task_get.specs.Fronts.{is_apart}
 use Rattle.task_get.proofs.LastCalls.{after_last-at, after_last-more, Last, last_of}
 use Rattle.task_run.proofs.Texts.{apart}

@@ -1,5 +1,5 @@
 -- How one chunk is fetched, as the answers of its calls.
-use Rattle.std.specs.Prelude.{ℕ, ◌≡◌, ◌≤◌, ◌-◌, ◌==◌, List, [], ◌∷◌, ◌++◌, length, Option, Result, Ok, Err, true, false, unwrap_or}
+use Rattle.std.specs.Prelude.{ℕ, ◌≡◌, ◌≤◌, ◌-◌, ◌==◌, List, [], ◌∷◌, ◌++◌, length, Option, None, Result, Ok, Err, true, false, unwrap_or}
 use Rattle.std.specs.List.{concat}
 use Rattle.ann_key.specs.declared.bytes.NoMemory.{NoMemory}
 use Rattle.ann_digest.specs.declared.checker.Checker.{Checker}
@@ -107,14 +107,14 @@ pub record Unasked (pairs later : List Asking) (old new : Option Log) (result : 
   pub no_memory : result ≡ Err record {}
 
 pub record IsUndone (text fetch : List ℕ) (pairs later : List Asking) (old new : Option Log) (result : Result Went NoMemory) (v : Verdict) : Type 0 where
-  pub asks : AsksOne pairs later (Transfer false text fetch) v
+  pub asks : AsksOne pairs later None (Transfer false text fetch) v
   pub of_kind : is_verdict_of (Transfer false text fetch) v ≡ true
   pub not_done : is_done_at v ≡ false
   pub none_called : new ≡ old
   pub goes : result ≡ Ok (undone_went v)
 
 pub record IsFetched (text part fetch : List ℕ) (n : ℕ) (before after : Checker) (pairs later : List Asking) (old new : Option Log) (result : Result Went NoMemory) (v : Verdict) (how : Come) : Type 0 where
-  pub asks : AsksOne pairs later (Transfer false text fetch) v
+  pub asks : AsksOne pairs later None (Transfer false text fetch) v
   pub done : is_done_at v ≡ true
   pub calls : Gained old new (come_calls part fetch n how)
   pub goes : result ≡ come_result how

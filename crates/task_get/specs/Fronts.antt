@@ -15,7 +15,7 @@ use Rattle.task_run.specs.Requests.{rounds, AskInOrder, RoundsAsk}
 use Rattle.task_run.specs.Reads.{is_known, is_run, is_reading, bytes_of, appended, holds, are_found_so}
 use Rattle.task_run.specs.Discipline.{name_only, changes_as_result, size_of_only, are_found}
 use Rattle.task_run.specs.Gets.{fetch_request, lengths_at_begin, wanted, is_failed, failures, asked_last, since_begin, held_reads, bytes_fetched, are_read, are_read_whole, wrong_lengths, GetAsks, GetAnswers}
-use Rattle.task_run.specs.Runs.{GetCalls, fetched_files}
+use Rattle.task_run.specs.TaskCalls.{GetCalls, fetched_files}
 
 -- what a get works on: the chunk sizes of its layouts stand in their order, the plain one's 0 last
 pub record Place : Type 0 where

@@ -2,3 +2,4 @@ pub mod Fronts
 pub mod ChunkFetches
 pub mod PartBegins
 pub mod LayoutRuns
+pub mod WholeFetches

@@ -15,13 +15,12 @@ ghost use Rattle.task_text.specs.declared.task.Work.TheVariants as W;
 
 use crate::get_chunk::Went;
 use crate::get_layout::get_layout;
-use crate::taking::fetched;
+use crate::taking::take_whole;
 use ann_key::{KeyRef, NoMemory};
 use ann_outside::Desk;
 use chunk_plan::count;
 use journal_model::Answer;
 use std::alloc::Global;
-use task_run::answers::{is_done, undone_answer};
 use task_run::names::{fetch_name, part_name};
 use task_run::{Asker, Setup, ask};
 use task_text::Task;
@@ -51,13 +50,7 @@ fn whole_by<A: Asker, D: Desk>(
     ensures causes { HasQuietCauses (D.counts desk.old) (D.counts desk.new) result }
 {
     match ask::transfer(alloc, asker, number, false, key, fetch) {
-        Ok(verdict) => {
-            if is_done(verdict) {
-                fetched(alloc, desk, key, file, part, fetch)
-            } else {
-                Ok(undone_answer(verdict))
-            }
-        }
+        Ok(verdict) => take_whole(alloc, desk, key, file, part, fetch, verdict),
         Err(error) => Err(error),
     }
 }

@@ -1,10 +1,12 @@
-// Fetching content, over all layouts that are known.
+// Fetching content, over all layouts that are known, or under a name.
 #![tactic(auto)]
 
 mod get_begin;
 mod get_chunk;
 mod get_layout;
 mod get_layouts;
+mod get_named;
 mod taking;
 
 pub use get_layouts::get_key;
+pub use get_named::get_export;

@@ -1,8 +1,10 @@
 // Taking in a file that was fetched whole.
-ghost use Rattle.std.specs.Prelude.{◌≡◌, ◌≢◌, ◌<◌, [], true, Ok};
+ghost use Rattle.std.specs.Prelude.{◌≡◌, ◌≢◌, ◌<◌, [], true, Ok, is_some};
 ghost use Rattle.ann_key.specs.KeyRefs.{parts_of};
 ghost use Rattle.task_run.specs.Fetching.{Outcome, Moves, Fetches, discarded, settling, settled};
-ghost use Rattle.task_run.specs.Ran.{is_of_content, may_follow_refusal, HasQuietCauses};
+ghost use Rattle.task_run.specs.Ran.{change_answer, is_of_content, may_follow_refusal, HasQuietCauses};
+ghost use Rattle.task_get.specs.WholeFetches.{TakesWhole};
+ghost use Rattle.journal_model.specs.declared.answer.Answer.TheVariants.{Got};
 ghost use Rattle.ann_outside.specs.Calls.{logged};
 ghost use Rattle.ann_outside.specs.declared.file_desk.Call.TheVariants.{Remove};
 
@@ -10,9 +12,9 @@ use ann_digest::{Checker, Fit};
 use ann_key::{KeyRef, NoMemory};
 use ann_outside::{Desk, DeskError};
 use fetch_copy::{Copied, copy_in};
-use journal_model::Answer;
+use journal_model::{Answer, Verdict};
 use std::alloc::Global;
-use task_run::answers::{is_size, refused};
+use task_run::answers::{is_done, is_size, refused, undone_answer};
 
 // Removes part, where it is there, and gives the answer.
 pub fn discard<D: Desk>(desk: &mut D, part: &str, answer: Answer) -> Result<Answer, NoMemory>
@@ -75,7 +77,7 @@ fn move_in<D: Desk>(
 }
 
 // Takes in the fetched file, where it has the key's size.
-pub fn fetched<D: Desk>(
+fn fetched<D: Desk>(
     alloc: Global,
     desk: &mut D,
     key: KeyRef<'_>,
@@ -96,5 +98,27 @@ pub fn fetched<D: Desk>(
             }
         }
         Err(error) => refused(error),
+    }
+}
+
+// Takes in what the one request for the whole content came to.
+pub fn take_whole<D: Desk>(
+    alloc: Global,
+    desk: &mut D,
+    key: KeyRef<'_>,
+    file: &str,
+    part: &str,
+    fetch: &str,
+    verdict: Verdict,
+) -> Result<Answer, NoMemory>
+    requires differ { fetch.now ≢ part.now }
+    requires verdict { is_some (change_answer Got verdict) ≡ true }
+    ensures took { TakesWhole (record { file = file.now; part = part.now; fetch = fetch.now }) (parts_of key.entry) verdict (D.log desk.old) (D.log desk.new) result }
+    ensures causes { HasQuietCauses (D.counts desk.old) (D.counts desk.new) result }
+{
+    if is_done(verdict) {
+        fetched(alloc, desk, key, file, part, fetch)
+    } else {
+        Ok(undone_answer(verdict))
     }
 }

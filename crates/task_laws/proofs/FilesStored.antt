@@ -11,7 +11,7 @@ use Rattle.journal_model.specs.declared.opening.Opening.{Opening}
 use Rattle.lone_work.specs.Works.{TaskDone}
 use Rattle.task_run.specs.declared.setup.Setup.{Setup}
 use Rattle.task_run.specs.Askings.{run_askings, run_notings}
-use Rattle.task_run.specs.Layouts.{sizes_tried}
+use Rattle.task_run.specs.RunLaws.{sizes_got}
 use Rattle.task_run.specs.Runs.{TaskRun}
 use Rattle.task_laws.specs.Changes.{Request}
 use Rattle.task_laws.specs.Faithful.{Told, IsPlayed, AreInTurn, sent}
@@ -25,14 +25,14 @@ use Rattle.task_laws.proofs.OneStore.{keeps_stored_content}
 use Rattle.task_laws.proofs.Retrieving.{keeps_stored}
 
 module _ (o : Opening) (setup : Setup) (told : Told) (journal : List Entry) (number t : ℕ) (key : Parts) (stores : List Request) (played : IsPlayed told t) (got : GotStored o setup told journal number t key stores) where
-  file_holds : HoldsChecked setup t key (sizes_tried key got.run.layouts) got.run.task.file (run_askings got.run.run) (told.calls t) (told.after t)
+  file_holds : HoldsChecked setup t key (sizes_got got.run.task.work key got.run.layouts) got.run.task.file (run_askings got.run.run) (told.calls t) (told.after t)
   file_holds =
       let P : Answer → Type 0 = λ x. TaskRun got.run.task t setup got.run.layouts (run_askings got.run.run) (told.calls t) (run_notings got.run.run) x in
       got_holds got.run.task t setup got.run.layouts (run_askings got.run.run) (told.calls t) (run_notings got.run.run) key (told.before t) (told.after t) got.keyed (subst P got.got got.run.ran) played
 
 pub file_keeps_stored : FileKeepsStored
 file_keeps_stored o setup told journal number t key stores faithful played got =
-    let kept : Keeps setup t key (sizes_tried key got.run.layouts) got.run.task.file (run_askings got.run.run) (told.calls t) (map (sent o setup told) stores) = keeps_stored o setup told journal number t key stores faithful got in
+    let kept : Keeps got.run.task.work setup t key (sizes_got got.run.task.work key got.run.layouts) got.run.task.file (run_askings got.run.run) (told.calls t) (map (sent o setup told) stores) = keeps_stored o setup told journal number t key stores faithful got in
     (file_holds o setup told journal number t key stores played got).holds ∙ ap (λ (bytes : List ℕ). Some bytes) kept.checked_are
 
 pub file_keeps_content : FileKeepsContent

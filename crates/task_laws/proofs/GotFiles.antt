@@ -14,9 +14,9 @@ use Rattle.task_run.specs.Askers.{Asking, Noting}
 use Rattle.task_run.specs.declared.setup.Setup.{Setup}
 use Rattle.task_run.specs.Stops.{asking_stop, call_stop, stops_of, AnsweredBy}
 use Rattle.task_run.specs.Names.{part_of}
-use Rattle.task_run.specs.Layouts.{sizes_tried}
 use Rattle.task_run.specs.Gets.{checked, is_got}
 use Rattle.task_run.specs.Runs.{RunOf, TaskRun, WorkAnswers}
+use Rattle.task_run.specs.RunLaws.{sizes_got}
 use Rattle.task_run.proofs.GotLaws.{get_fits}
 use Rattle.task_run.proofs.Texts.{apart}
 use Rattle.task_laws.specs.FilesKept.{GotHolds, HoldsChecked}
@@ -54,16 +54,16 @@ got_goes_on task t setup layouts asked calls noted key e r =
 pub got_holds : GotHolds
 got_holds task t setup layouts asked calls noted key old new e r p = record {
   holds =
-      renamed_holds (part_of task.file) (part_of task.file) task.file (checked setup t task.file (sizes_tried key layouts) asked calls) calls old new go p d.kept.renamed
+      renamed_holds (part_of task.file) (part_of task.file) task.file (checked setup t task.file (sizes_got task.work key layouts) asked calls) calls old new go p d.kept.renamed
       (d.kept.held (unwrap_or (content (part_of task.file) old) []) (found_so (part_of task.file) (part_of task.file) calls old new go p));
-  fits = get_fits setup t key (sizes_tried key layouts) task.file asked calls ends.answers;
+  fits = get_fits setup t key (sizes_got task.work key layouts) task.file asked calls ends.answers;
 }
   where
-    ends : GotEnds setup t task key layouts asked calls
+    ends : GotEnds setup t task.work task.file key layouts asked calls
     ends = got_ends task t setup layouts asked calls noted key e r
 
-    d : Decided setup t key (sizes_tried key layouts) task.file asked calls
-    d = decided setup t key (sizes_tried key layouts) task.file asked calls ends.answers
+    d : Decided setup t key (sizes_got task.work key layouts) task.file asked calls
+    d = decided setup t key (sizes_got task.work key layouts) task.file asked calls ends.answers
 
     go : GoOn (part_of task.file) calls
     go = got_goes_on task t setup layouts asked calls noted key e r

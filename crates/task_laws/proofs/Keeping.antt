@@ -13,6 +13,8 @@ use Rattle.annex_model.specs.Messages.{HostMessage}
 use Rattle.chunk_plan.specs.Layouts.{Part, layout, chunk_part, count_of}
 use Rattle.chunk_plan.proofs.Joined.{ranges_are_the_whole}
 use Rattle.journal_model.specs.declared.answer.Answer.TheVariants as A
+use Rattle.task_text.specs.declared.task.Work.{Work}
+use Rattle.task_text.specs.declared.task.Work.TheVariants as W
 use Rattle.task_run.specs.Askers.{Asking}
 use Rattle.task_run.specs.declared.setup.Setup.{Setup}
 use Rattle.task_run.specs.Stops.{is_done, last_failed}
@@ -20,16 +22,17 @@ use Rattle.task_run.specs.Names.{fetch_file}
 use Rattle.task_run.specs.Requests.{AskInOrder}
 use Rattle.task_run.specs.Layouts.{chunk_sizes, sizes_tried, parts_of_layout, keys_of_layout}
 use Rattle.task_run.specs.Reads.{lengths_found, reads_of, bytes_of}
-use Rattle.task_run.specs.Gets.{fetch_request, lengths_at_begin, wanted, failures, item, asked_last, first_asked, parts_last, is_plain_last, held_reads, bytes_fetched, checked, is_wrong, is_read_whole, are_read_whole, wrong_lengths, GetAsks, IsChecked, IsFetchKept, DecidesBy, Decides, GetAnswers}
+use Rattle.task_run.specs.Gets.{lengths_at_begin, wanted, failures, item, asked_last, first_asked, parts_last, is_plain_last, held_reads, bytes_fetched, checked, is_wrong, is_read_whole, are_read_whole, wrong_lengths, IsChecked, IsFetchKept, DecidesBy, Decides, GetAnswers}
+use Rattle.task_run.specs.RunLaws.{sizes_got}
 use Rattle.task_run.proofs.Texts.{apart}
 use Rattle.task_run.proofs.GotLaws.{never_failed, get_fits}
 use Rattle.task_laws.specs.Contents.{AreFetched}
-use Rattle.task_laws.specs.Kept.{chunk_last, is_afresh, Keeps, GotKeeps}
+use Rattle.task_laws.specs.Kept.{chunk_last, fetch_of, is_afresh, Keeps, GotKeeps}
 use Rattle.task_laws.proofs.WellTasks.{layout_within}
-use Rattle.task_laws.proofs.LastRounds.{LastAsks, last_asks}
+use Rattle.task_laws.proofs.LastRounds.{LastAsks}
 use Rattle.task_laws.proofs.WantedParts.{Afresh, HasLength, asks_all, is_there, wanted_few, item_there, item-map}
 use Rattle.task_laws.proofs.FileContents.{fetched_are}
-use Rattle.task_laws.proofs.GotEnds.{GotEnds, got_ends}
+use Rattle.task_laws.proofs.GotEnds.{GotEnds, got_ends, keys_wanted}
 
 -- ---- lengths
 
@@ -138,22 +141,20 @@ decided setup t key sizes file asked calls r = by_test (failures asked == length
     by_test false f d = by_wrong (wrong_lengths setup t key.size calls (first_asked asked) (parts_last key sizes (lengths_at_begin file calls) asked)) f refl d.by_length d
 
 -- all parts of the last layout were asked for
-record AskedAll (setup : Setup) (t : ℕ) (key : Parts) (sizes : List ℕ) (file : List ℕ) (asked : List Asking) (calls : List Call) : Type 0 where
+record AskedAll (ask : ℕ → List ℕ → HostMessage) (key : Parts) (sizes : List ℕ) (file : List ℕ) (asked : List Asking) (calls : List Call) : Type 0 where
   parts : parts_last key sizes (lengths_at_begin file calls) asked ≡ parts_of_layout key (chunk_last sizes asked)
-  in_order : AskInOrder (fetch_request setup t) (first_asked asked) (keys_of_layout key (chunk_last sizes asked)) (asked_last asked)
+  in_order : AskInOrder ask (first_asked asked) (keys_of_layout key (chunk_last sizes asked)) (asked_last asked)
 
-asked_all : (setup : Setup) (t : ℕ) (key : Parts) (sizes : List ℕ) (file : List ℕ) (asked : List Asking) (calls : List Call) → GetAsks setup t key sizes file asked calls → Decided setup t key sizes file asked calls
-    → is_afresh sizes file asked calls ≡ true → AskedAll setup t key sizes file asked calls
-asked_all setup t key sizes file asked calls a d fresh = by_place (item_there (failures asked) sizes below)
+asked_all : (ask : ℕ → List ℕ → HostMessage) (setup : Setup) (t : ℕ) (key : Parts) (sizes : List ℕ) (file : List ℕ) (asked : List Asking) (calls : List Call)
+    → LastAsks ask (keys_wanted key sizes (lengths_at_begin file calls)) asked → Decided setup t key sizes file asked calls
+    → is_afresh sizes file asked calls ≡ true → AskedAll ask key sizes file asked calls
+asked_all ask setup t key sizes file asked calls last d fresh = by_place (item_there (failures asked) sizes below)
   where
     lengths : List ℕ
     lengths = lengths_at_begin file calls
 
     keys_in : List Part → List Parts
     keys_in parts = map (λ (p : Part). p.key) parts
-
-    last : LastAsks (fetch_request setup t) (map (λ (parts : List Part). map (λ (p : Part). p.key) parts) (wanted key sizes (lengths_at_begin file calls))) asked
-    last = last_asks (fetch_request setup t) (map (λ (parts : List Part). map (λ (p : Part). p.key) parts) (wanted key sizes (lengths_at_begin file calls))) asked a.each_failed a.in_order
 
     few : failures asked ≤ length (wanted key sizes (lengths_at_begin file calls))
     few = let l : length (map (λ (parts : List Part). map (λ (p : Part). p.key) parts) (wanted key sizes (lengths_at_begin file calls))) ≡ length (wanted key sizes (lengths_at_begin file calls)) = length-map (wanted key sizes (lengths_at_begin file calls)) (λ (parts : List Part). map (λ (p : Part). p.key) parts) in omega (arith, last.few)
@@ -164,7 +165,7 @@ asked_all setup t key sizes file asked calls a d fresh = by_place (item_there (f
     afresh : Afresh (chunk_last sizes asked) (lengths_at_begin file calls)
     afresh = or_cases (is_plain_last sizes asked) (list_all (λ n. n == 0) (lengths_at_begin file calls)) fresh
 
-    by_place : (chunk : ℕ) × (item (failures asked) sizes ≡ Some chunk) → AskedAll setup t key sizes file asked calls
+    by_place : (chunk : ℕ) × (item (failures asked) sizes ≡ Some chunk) → AskedAll ask key sizes file asked calls
     by_place (chunk, at) = by_parts (item (failures asked) (wanted key sizes (lengths_at_begin file calls))) refl (asks_all key sizes (lengths_at_begin file calls) (failures asked) afresh) there
       where
         is : chunk_last sizes asked ≡ chunk
@@ -181,14 +182,14 @@ asked_all setup t key sizes file asked calls a d fresh = by_place (item_there (f
         there = is_there key sizes (lengths_at_begin file calls) (failures asked) chunk few at has
 
         by_parts : (o : Option (List Part)) → item (failures asked) (wanted key sizes (lengths_at_begin file calls)) ≡ o → (o ≡ None) ⊎ (o ≡ Some (parts_of_layout key (chunk_last sizes asked))) → is_some o ≡ true
-            → AskedAll setup t key sizes file asked calls
+            → AskedAll ask key sizes file asked calls
         by_parts None e w s = apart s
         by_parts (Some ps) e (inl w) s = absurd (let k : Some ps ≡ None = w in cc)
         by_parts (Some ps) e (inr w) s =
             let all : item (failures asked) (wanted key sizes (lengths_at_begin file calls)) ≡ Some (parts_of_layout key (chunk_last sizes asked)) = e ∙ w in
             let keys : item (failures asked) (map (λ (parts : List Part). map (λ (p : Part). p.key) parts) (wanted key sizes (lengths_at_begin file calls))) ≡ Some (keys_of_layout key (chunk_last sizes asked)) =
             item-map (λ (parts : List Part). map (λ (p : Part). p.key) parts) (failures asked) (wanted key sizes (lengths_at_begin file calls)) (parts_of_layout key (chunk_last sizes asked)) all in
-            let P : Option (List Parts) → Type 0 = λ x. AskInOrder (fetch_request setup t) (first_asked asked) (unwrap_or x []) (asked_last asked) in
+            let P : Option (List Parts) → Type 0 = λ x. AskInOrder ask (first_asked asked) (unwrap_or x []) (asked_last asked) in
             record { parts = ap (λ (x : Option (List Part)). unwrap_or x []) all; in_order = subst P keys last.in_order }
 
 -- ---- what was kept
@@ -197,11 +198,11 @@ none_more : (x y : List ℕ) → length (x ++ y) ≡ length y → x ≡ []
 none_more [] y e = refl
 none_more (b ∷ x) y e = let l : length (b ∷ x ++ y) ≡ length (b ∷ x) + length y = length-append (b ∷ x) y in absurd (omega arith)
 
-keeps : (setup : Setup) (t : ℕ) (key : Parts) (sizes : List ℕ) (file : List ℕ) (asked : List Asking) (calls : List Call) (contents : List (List ℕ))
+keeps : (work : Work) (setup : Setup) (t : ℕ) (key : Parts) (sizes : List ℕ) (file : List ℕ) (asked : List Asking) (calls : List Call) (contents : List (List ℕ))
     → (is_plain_last sizes asked ≡ false → is_some key.size ≡ true)
-    → GetAsks setup t key sizes file asked calls → GetAnswers setup t key sizes file asked calls A.Got → is_afresh sizes file asked calls ≡ true
-    → AreFetched setup t calls (first_asked asked) (asked_last asked) contents → Keeps setup t key sizes file asked calls contents
-keeps setup t key sizes file asked calls contents sized a r fresh f = record {
+    → LastAsks (fetch_of work setup t) (keys_wanted key sizes (lengths_at_begin file calls)) asked → GetAnswers setup t key sizes file asked calls A.Got → is_afresh sizes file asked calls ≡ true
+    → AreFetched setup t calls (first_asked asked) (asked_last asked) contents → Keeps work setup t key sizes file asked calls contents
+keeps work setup t key sizes file asked calls contents sized a r fresh f = record {
   all = all;
   in_order = whole.in_order;
   appended_are = d.kept.moved ∙ bytes;
@@ -214,8 +215,8 @@ keeps setup t key sizes file asked calls contents sized a r fresh f = record {
     d : Decided setup t key sizes file asked calls
     d = decided setup t key sizes file asked calls r
 
-    whole : AskedAll setup t key sizes file asked calls
-    whole = asked_all setup t key sizes file asked calls a d fresh
+    whole : AskedAll (fetch_of work setup t) key sizes file asked calls
+    whole = asked_all (fetch_of work setup t) setup t key sizes file asked calls a d fresh
 
     bytes : bytes_fetched setup t calls (first_asked asked) (asked_last asked) ≡ concat contents
     bytes = fetched_are setup t calls (first_asked asked) (asked_last asked) contents f d.was.fetched_whole
@@ -229,7 +230,7 @@ keeps setup t key sizes file asked calls contents sized a r fresh f = record {
     all : length (asked_last asked) ≡ length (keys_of_layout key (chunk_last sizes asked))
     all =
         let some : count_by is_done (asked_last asked) ≤ length (asked_last asked) = count_by-le-length is_done (asked_last asked) in
-        let few : length (asked_last asked) ≤ length (keys_of_layout key (chunk_last sizes asked)) = asks_few (fetch_request setup t) (first_asked asked) (keys_of_layout key (chunk_last sizes asked)) (asked_last asked) whole.in_order in
+        let few : length (asked_last asked) ≤ length (keys_of_layout key (chunk_last sizes asked)) = asks_few (fetch_of work setup t) (first_asked asked) (keys_of_layout key (chunk_last sizes asked)) (asked_last asked) whole.in_order in
         let same : length (parts_last key sizes (lengths_at_begin file calls) asked) ≡ length (parts_of_layout key (chunk_last sizes asked)) = ap length whole.parts in
         let done : count_by is_done (asked_last asked) ≡ length (parts_last key sizes (lengths_at_begin file calls) asked) = d.done in
         let long : length (keys_of_layout key (chunk_last sizes asked)) ≡ length (parts_of_layout key (chunk_last sizes asked)) = keys_long in
@@ -270,7 +271,19 @@ sized_in_chunks key layouts asked p = by_size key.size p
         by_count zero e = apart (sym e)
         by_count (suc m) e = apart (sym e)
 
+-- where the plain layout alone is tried it is the last
+plain_is_last : {A : Type 0} (asked : List Asking) → is_plain_last (0 ∷ []) asked ≡ false → A
+plain_is_last {A} asked p = by_count (failures asked) p
+  where
+    by_count : (m : ℕ) → (unwrap_or (item m (0 ∷ [])) 0 == 0) ≡ false → A
+    by_count zero e = apart (sym e)
+    by_count (suc m) e = apart (sym e)
+
 pub got_keeps : GotKeeps
 got_keeps task t setup layouts asked calls noted key contents e r fresh f =
-    let g : GotEnds setup t task key layouts asked calls = got_ends task t setup layouts asked calls noted key e r in
-    keeps setup t key (sizes_tried key layouts) task.file asked calls contents (sized_in_chunks key layouts asked) g.asks g.answers fresh f
+    let g : GotEnds setup t task.work task.file key layouts asked calls = got_ends task t setup layouts asked calls noted key e r in
+    keeps task.work setup t key (sizes_got task.work key layouts) task.file asked calls contents (sized_by task.work) g.asks g.answers fresh f
+  where
+    sized_by : (work : Work) → is_plain_last (sizes_got work key layouts) asked ≡ false → is_some key.size ≡ true
+    sized_by W.XGet p = plain_is_last asked p
+    sized_by _ p = sized_in_chunks key layouts asked p

@@ -24,7 +24,7 @@ is_calm a = is_done a || is_failed a
 undone : (a : Asking) → is_failed a ≡ true → is_done a ≡ false
 undone a h = of_verdict a.verdict h
   where
-    of_verdict : (v : Verdict) → is_failed (record { request = a.request; verdict = v }) ≡ true → is_done_at v ≡ false
+    of_verdict : (v : Verdict) → is_failed (record { request = a.request; name = a.name; verdict = v }) ≡ true → is_done_at v ≡ false
     of_verdict (V.Failed at) h = refl
     of_verdict (V.Done at) h = apart h
     of_verdict (V.Absent at) h = refl

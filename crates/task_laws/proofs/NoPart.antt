@@ -14,7 +14,7 @@ use Rattle.task_run.specs.Names.{part_of}
 use Rattle.task_run.specs.Stops.{call_stop}
 use Rattle.task_run.specs.Reads.{length_or_none}
 use Rattle.task_run.specs.Gets.{begins, is_plain_last, lengths_at_begin, since_begin}
-use Rattle.task_run.specs.Layouts.{sizes_tried}
+use Rattle.task_run.specs.RunLaws.{sizes_got}
 use Rattle.task_run.proofs.Texts.{apart}
 use Rattle.task_get.proofs.LastCalls.{Last, last_of, after_last-at}
 use Rattle.task_laws.specs.FilesKept.{fills, NoPartIsAfresh}
@@ -247,5 +247,5 @@ module _ (file : List ℕ) (calls : List Call) (old new : Files) (go : GoOn (par
 
 pub no_part_is_afresh : NoPartIsAfresh
 no_part_is_afresh task t setup layouts asked calls noted key old new e r p h =
-    or_right (is_plain_last (sizes_tried key layouts) asked) (list_all (λ n. n == 0) (lengths_at_begin task.file calls))
+    or_right (is_plain_last (sizes_got task.work key layouts) asked) (list_all (λ n. n == 0) (lengths_at_begin task.file calls))
     (found_none task.file calls old new (got_goes_on task t setup layouts asked calls noted key e r) h.missing p h.filled_last)

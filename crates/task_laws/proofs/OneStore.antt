@@ -23,16 +23,17 @@ use Rattle.journal_model.proofs.Looks.{verdict_of-append}
 use Rattle.task_text.specs.declared.task.Task.{Task}
 use Rattle.task_run.specs.Askers.{Asking}
 use Rattle.task_run.specs.declared.setup.Setup.{Setup}
-use Rattle.task_run.specs.Askings.{past_claim, asking_of, askings_from, run_askings, run_notings}
+use Rattle.task_run.specs.Askings.{past_claim, asking_of, askings_from, name_before, run_askings, run_notings}
 use Rattle.task_run.specs.Requests.{AsksFor, AskInOrder}
-use Rattle.task_run.specs.Layouts.{sizes_tried, parts_of_layout}
+use Rattle.task_run.specs.Layouts.{parts_of_layout}
 use Rattle.task_run.specs.Reads.{holds}
-use Rattle.task_run.specs.Gets.{fetch_request, asked_last, first_asked}
+use Rattle.task_run.specs.Gets.{asked_last, first_asked}
 use Rattle.task_run.specs.Runs.{is_chunked}
+use Rattle.task_run.specs.RunLaws.{sizes_got}
 use Rattle.task_run.proofs.Texts.{apart}
 use Rattle.task_laws.specs.Changes.{Request, request_in, requests, requests_from, changes_key, is_storing, last_change, is_done_by, Retrieves}
 use Rattle.task_laws.specs.Faithful.{Told, file_named, is_chunking, sent, IsStoredFor, AreStoredFor}
-use Rattle.task_laws.specs.Kept.{chunk_last, Keeps}
+use Rattle.task_laws.specs.Kept.{chunk_last, fetch_of, Keeps}
 use Rattle.task_laws.specs.Retrieval.{StoredInChunks, KeepsStoredContent}
 use Rattle.task_laws.specs.Sent.{IsRangeSent}
 use Rattle.task_laws.proofs.Members.{IsIn, is_in, found_passes, in_option}
@@ -88,38 +89,43 @@ store_of journal r s key file got = by_change (last_change journal key got.answe
 
 -- ---- a request within a run is one of its askings
 
+-- the request, with this verdict, is one of these, whatever name was said before it
+abbrev IsAmong : HostMessage → Verdict → List Asking → Type 0
+IsAmong q v asked = (name : Option (List ℕ)) × IsIn (record { request = Some q; name = name; verdict = v }) asked
+
 among : (journal : List Entry) (u : ℕ) (past entries : List Entry) (s : Request) (v : Verdict) → IsIn s (requests_from past entries) → s.task ≡ u → verdict_of journal s.child s.job ≡ Some v
-    → IsIn (record { request = Some s.asks; verdict = v }) (askings_from journal u past entries)
+    → IsAmong s.asks v (askings_from journal u past entries)
 among journal u past [] s v h t e = absurd h
 among journal u past (entry ∷ rest) s v h t e = by_what entry.what h (λ k. among journal u (past ++ entry ∷ []) rest s v k t e)
   where
-    a : Asking
-    a = record { request = Some s.asks; verdict = v }
+    later : (w : What) → IsAmong s.asks v (askings_from journal u (past ++ entry ∷ []) rest)
+        → IsAmong s.asks v (cons_option (asking_of journal u past w) (askings_from journal u (past ++ entry ∷ []) rest))
+    later w m = (m.0, in_option (record { request = Some s.asks; name = m.0; verdict = v }) (asking_of journal u past w) (askings_from journal u (past ++ entry ∷ []) rest) m.1)
 
     by_what : (w : What) → IsIn s (cons_option (request_in past w) (requests_from (past ++ entry ∷ []) rest))
-        → (IsIn s (requests_from (past ++ entry ∷ []) rest) → IsIn (record { request = Some s.asks; verdict = v }) (askings_from journal u (past ++ entry ∷ []) rest))
-        → IsIn (record { request = Some s.asks; verdict = v }) (cons_option (asking_of journal u past w) (askings_from journal u (past ++ entry ∷ []) rest))
+        → (IsIn s (requests_from (past ++ entry ∷ []) rest) → IsAmong s.asks v (askings_from journal u (past ++ entry ∷ []) rest))
+        → IsAmong s.asks v (cons_option (asking_of journal u past w) (askings_from journal u (past ++ entry ∷ []) rest))
     by_what (Ask child job task line) k more = by_reading (host_reading (addressed past child line).1) refl k
       where
         by_reading : (o : Option HostMessage) → host_reading (addressed past child line).1 ≡ o
             → IsIn s (cons_option (option_map (λ q. record { at = length past; child = child; job = job; task = task; asks = q }) o) (requests_from (past ++ entry ∷ []) rest))
-            → IsIn (record { request = Some s.asks; verdict = v }) (cons_option (asking_of journal u past (Ask child job task line)) (askings_from journal u (past ++ entry ∷ []) rest))
-        by_reading None r k = in_option (record { request = Some s.asks; verdict = v }) (asking_of journal u past (Ask child job task line)) (askings_from journal u (past ++ entry ∷ []) rest) (more k)
-        by_reading (Some q) r (inr k) = in_option (record { request = Some s.asks; verdict = v }) (asking_of journal u past (Ask child job task line)) (askings_from journal u (past ++ entry ∷ []) rest) (more k)
+            → IsAmong s.asks v (cons_option (asking_of journal u past (Ask child job task line)) (askings_from journal u (past ++ entry ∷ []) rest))
+        by_reading None r k = later (Ask child job task line) (more k)
+        by_reading (Some q) r (inr k) = later (Ask child job task line) (more k)
         by_reading (Some q) r (inl is) =
             let of_task : (task == u) ≡ true = same task (ap (λ (x : Request). x.task) is ∙ t) in
             let settled : verdict_of journal child job ≡ Some v = ap (λ (x : Request). verdict_of journal x.child x.job) is ∙ e in
             let asks : host_reading (addressed past child line).1 ≡ Some s.asks = r ∙ ap (λ (x : Request). Some x.asks) is in
-            let one : asking_of journal u past (Ask child job task line) ≡ Some (record { request = Some s.asks; verdict = v }) =
-            ap (λ (b : Bool). if b then option_map (λ w. record { request = host_reading (addressed past child line).1; verdict = w }) (verdict_of journal child job) else None) of_task
-            ∙ ap (λ (o : Option Verdict). option_map (λ w. record { request = host_reading (addressed past child line).1; verdict = w }) o) settled
-            ∙ ap (λ (o : Option HostMessage). Some (record { request = o; verdict = v })) asks in
-            let P : Option Asking → Type 0 = λ o. IsIn (record { request = Some s.asks; verdict = v }) (cons_option o (askings_from journal u (past ++ entry ∷ []) rest)) in
-            subst P (sym one) (inl refl)
+            let one : asking_of journal u past (Ask child job task line) ≡ Some (record { request = Some s.asks; name = name_before past child job; verdict = v }) =
+            ap (λ (b : Bool). if b then option_map (λ w. record { request = host_reading (addressed past child line).1; name = name_before past child job; verdict = w }) (verdict_of journal child job) else None) of_task
+            ∙ ap (λ (o : Option Verdict). option_map (λ w. record { request = host_reading (addressed past child line).1; name = name_before past child job; verdict = w }) o) settled
+            ∙ ap (λ (o : Option HostMessage). Some (record { request = o; name = name_before past child job; verdict = v })) asks in
+            let P : Option Asking → Type 0 = λ o. IsIn (record { request = Some s.asks; name = name_before past child job; verdict = v }) (cons_option o (askings_from journal u (past ++ entry ∷ []) rest)) in
+            (name_before past child job, subst P (sym one) (inl refl))
           where
             same : (n : ℕ) → n ≡ u → (n == u) ≡ true
             same n e = rw e (eq-eqb u u refl)
-    by_what w k more = in_option (record { request = Some s.asks; verdict = v }) (asking_of journal u past w) (askings_from journal u (past ++ entry ∷ []) rest) (more k)
+    by_what w k more = later w (more k)
 
 -- ---- one key has one range
 
@@ -199,10 +205,10 @@ record RangeIs (o : Opening) (setup : Setup) (told : Told) (k l : Parts) (conten
 some_in : {X : Type 0} (x : X) (xs : List X) → IsIn x xs → xs ≢ []
 some_in {X} x xs h e = let P : List X → Type 0 = λ ys. IsIn x ys in subst P e h
 
-range_is : (o : Opening) (setup : Setup) (told : Told) (journal : List Entry) (t u n chunk : ℕ) (key : Parts) (content : List ℕ) (stores : List Request) (one : StoredInChunks o setup told journal u content stores)
-    (p : Part) (a : Asking) (s : Request) → key.chunk ≡ None → IsIn p (parts_of_layout key chunk) → AsksFor (fetch_request setup t) n p.key a → IsStoredFor journal t a.request s
+range_is : (ask : ℕ → List ℕ → HostMessage) (o : Opening) (setup : Setup) (told : Told) (journal : List Entry) (t u n chunk : ℕ) (key : Parts) (content : List ℕ) (stores : List Request) (one : StoredInChunks o setup told journal u content stores)
+    (p : Part) (a : Asking) (s : Request) → key.chunk ≡ None → IsIn p (parts_of_layout key chunk) → AsksFor ask n p.key a → IsStoredFor journal t a.request s
     → s.task ≡ u → Legal o journal → RangeIs o setup told key one.key content s p (run_askings one.run.run)
-range_is o setup told journal t u n chunk key content stores one p a s base place asks stored of_task legal = by_request a.request asks stored
+range_is ask o setup told journal t u n chunk key content stores one p a s base place asks stored of_task legal = by_request a.request asks stored
   where
     store_run : ChunkStoreAsks setup u one.key one.run.task.file (run_askings one.run.run) (told.calls u) (run_notings one.run.run)
     store_run = store_asks one.run.task u setup one.run.layouts (run_askings one.run.run) (told.calls u) (run_notings one.run.run) one.run.run.answer one.key one.keyed one.work one.chunked one.run.ran
@@ -213,15 +219,15 @@ range_is o setup told journal t u n chunk key content stores one p a s base plac
         let of : is_chunking setup (Some one.run.task) ≡ true = rw keyed one.chunked in
         ap (λ (m : ℕ). is_chunking setup (task_of o m)) of_task ∙ ap (is_chunking setup) one.run.is ∙ of
 
-    by_request : (request : Option HostMessage) → AsksFor (fetch_request setup t) n p.key (record { request = request; verdict = a.verdict }) → IsStoredFor journal t request s
+    by_request : (request : Option HostMessage) → AsksFor ask n p.key (record { request = request; name = a.name; verdict = a.verdict }) → IsStoredFor journal t request s
         → RangeIs o setup told key one.key content s p (run_askings one.run.run)
     by_request (Some (Transfer false text file)) q (r, of_t, got) =
         let store : IsStore journal text s = store_of journal r s text file got in
-        let asking : Asking = record { request = Some s.asks; verdict = store.verdict } in
-        let there : IsIn (record { request = Some s.asks; verdict = store.verdict }) (run_askings one.run.run) =
+        let found : IsAmong s.asks store.verdict (run_askings one.run.run) =
         among journal u (past_claim one.run.run) one.run.run.within s store.verdict (within_run o journal u one.run.run s (task_above o u one.run.task one.run.is) legal store.there of_task) of_task store.settled in
+        let asking : Asking = record { request = Some s.asks; name = found.0; verdict = store.verdict } in
         let range : IsRangeSent setup one.key content (told.calls u) text store.file =
-        chunk_ranges setup u one.key one.run.task.file content (run_askings one.run.run) (told.calls u) (run_notings one.run.run) (record { request = Some s.asks; verdict = store.verdict }) text store.file store_run one.shows there
+        chunk_ranges setup u one.key one.run.task.file content (run_askings one.run.run) (told.calls u) (run_notings one.run.run) asking text store.file store_run one.shows found.1
         (ap (λ (x : HostMessage). Some x) store.asks) in
         let keys : Some p.key ≡ Some range.part.key = sym q.1 ∙ range.keyed in
         let same : SameRange key one.key p range.part =
@@ -236,7 +242,7 @@ range_is o setup told journal t u n chunk key content stores one p a s base plac
               ∙ ap (λ (m : ℕ). slice_range content m range.part.to) (sym same.from)
               ∙ ap (λ (m : ℕ). slice_range content p.from m) (sym same.to);
           size = same.size;
-          some = some_in (record { request = Some s.asks; verdict = store.verdict }) (run_askings one.run.run) there;
+          some = some_in asking (run_askings one.run.run) found.1;
         }
     by_request request q got = absurd got
 
@@ -248,22 +254,22 @@ record RangesAre (o : Opening) (setup : Setup) (told : Told) (k l : Parts) (cont
   size : parts ≢ [] → k.size ≡ l.size
   some : parts ≢ [] → asked ≢ []
 
-ranges_are : (o : Opening) (setup : Setup) (told : Told) (journal : List Entry) (t u n chunk : ℕ) (key : Parts) (content : List ℕ) (all : List Request) (one : StoredInChunks o setup told journal u content all)
+ranges_are : (ask : ℕ → List ℕ → HostMessage) (o : Opening) (setup : Setup) (told : Told) (journal : List Entry) (t u n chunk : ℕ) (key : Parts) (content : List ℕ) (all : List Request) (one : StoredInChunks o setup told journal u content all)
     (parts : List Part) (asked : List Asking) (stores : List Request) → key.chunk ≡ None → ((p : Part) → IsIn p parts → IsIn p (parts_of_layout key chunk))
-    → AskInOrder (fetch_request setup t) n (map (λ (p : Part). p.key) parts) asked → length asked ≡ length parts → AreStoredFor journal t asked stores → ((s : Request) → IsIn s stores → s.task ≡ u) → Legal o journal
+    → AskInOrder ask n (map (λ (p : Part). p.key) parts) asked → length asked ≡ length parts → AreStoredFor journal t asked stores → ((s : Request) → IsIn s stores → s.task ≡ u) → Legal o journal
     → RangesAre o setup told key one.key content stores parts (run_askings one.run.run)
-ranges_are o setup told journal t u n chunk key content all one [] [] [] base place asks long stored known legal =
+ranges_are ask o setup told journal t u n chunk key content all one [] [] [] base place asks long stored known legal =
     record { bytes = refl; size = λ some. absurd (some refl); some = λ some. absurd (some refl) }
-ranges_are o setup told journal t u n chunk key content all one [] [] (s ∷ stores) base place asks long stored known legal = absurd stored
-ranges_are o setup told journal t u n chunk key content all one [] (a ∷ more) stores base place asks long stored known legal = absurd asks
-ranges_are o setup told journal t u n chunk key content all one (p ∷ parts) [] stores base place asks long stored known legal = absurd (omega arith)
-ranges_are o setup told journal t u n chunk key content all one (p ∷ parts) (a ∷ more) [] base place asks long stored known legal = absurd stored
-ranges_are o setup told journal t u n chunk key content all one (p ∷ parts) (a ∷ more) (s ∷ stores) base place asks long stored known legal =
+ranges_are ask o setup told journal t u n chunk key content all one [] [] (s ∷ stores) base place asks long stored known legal = absurd stored
+ranges_are ask o setup told journal t u n chunk key content all one [] (a ∷ more) stores base place asks long stored known legal = absurd asks
+ranges_are ask o setup told journal t u n chunk key content all one (p ∷ parts) [] stores base place asks long stored known legal = absurd (omega arith)
+ranges_are ask o setup told journal t u n chunk key content all one (p ∷ parts) (a ∷ more) [] base place asks long stored known legal = absurd stored
+ranges_are ask o setup told journal t u n chunk key content all one (p ∷ parts) (a ∷ more) (s ∷ stores) base place asks long stored known legal =
     let here : RangeIs o setup told key one.key content s p (run_askings one.run.run) =
-    range_is o setup told journal t u n chunk key content all one p a s base (place p (inl refl)) asks.0 stored.0 (known s (inl refl)) legal in
+    range_is ask o setup told journal t u n chunk key content all one p a s base (place p (inl refl)) asks.0 stored.0 (known s (inl refl)) legal in
     let count : length more ≡ length parts = omega arith in
     let rest : RangesAre o setup told key one.key content stores parts (run_askings one.run.run) =
-    ranges_are o setup told journal t u (n + 1) chunk key content all one parts more stores base (λ q h. place q (inr h)) asks.1 count stored.1 (λ x h. known x (inr h)) legal in
+    ranges_are ask o setup told journal t u (n + 1) chunk key content all one parts more stores base (λ q h. place q (inr h)) asks.1 count stored.1 (λ x h. known x (inr h)) legal in
     record {
       bytes = ap (λ (x : List ℕ). x ∷ map (sent o setup told) stores) here.bytes ∙ ap (λ (xs : List (List ℕ)). slice_range content p.from p.to ∷ xs) rest.bytes;
       size = λ some. here.size;
@@ -284,23 +290,23 @@ keeps_stored_content o setup told journal number t u key content stores legal fa
   renamed = kept.renamed;
 }
   where
-    kept : Keeps setup t key (sizes_tried key got.run.layouts) got.run.task.file (run_askings got.run.run) (told.calls t) (map (sent o setup told) stores)
+    kept : Keeps got.run.task.work setup t key (sizes_got got.run.task.work key got.run.layouts) got.run.task.file (run_askings got.run.run) (told.calls t) (map (sent o setup told) stores)
     kept = keeps_stored o setup told journal number t key stores faithful got
 
     chunk : ℕ
-    chunk = chunk_last (sizes_tried key got.run.layouts) (run_askings got.run.run)
+    chunk = chunk_last (sizes_got got.run.task.work key got.run.layouts) (run_askings got.run.run)
 
-    long : length (asked_last (run_askings got.run.run)) ≡ length (parts_of_layout key (chunk_last (sizes_tried key got.run.layouts) (run_askings got.run.run)))
-    long = kept.all ∙ length-map (parts_of_layout key (chunk_last (sizes_tried key got.run.layouts) (run_askings got.run.run))) (λ (part : Part). part.key)
+    long : length (asked_last (run_askings got.run.run)) ≡ length (parts_of_layout key (chunk_last (sizes_got got.run.task.work key got.run.layouts) (run_askings got.run.run)))
+    long = kept.all ∙ length-map (parts_of_layout key (chunk_last (sizes_got got.run.task.work key got.run.layouts) (run_askings got.run.run))) (λ (part : Part). part.key)
 
-    ranges : RangesAre o setup told key one.key content stores (parts_of_layout key (chunk_last (sizes_tried key got.run.layouts) (run_askings got.run.run))) (run_askings one.run.run)
+    ranges : RangesAre o setup told key one.key content stores (parts_of_layout key (chunk_last (sizes_got got.run.task.work key got.run.layouts) (run_askings got.run.run))) (run_askings one.run.run)
     ranges =
-        ranges_are o setup told journal t u (first_asked (run_askings got.run.run)) (chunk_last (sizes_tried key got.run.layouts) (run_askings got.run.run)) key content stores one
-        (parts_of_layout key (chunk_last (sizes_tried key got.run.layouts) (run_askings got.run.run))) (asked_last (run_askings got.run.run)) stores base (λ p h. h) kept.in_order long got.stored
+        ranges_are (fetch_of got.run.task.work setup t) o setup told journal t u (first_asked (run_askings got.run.run)) (chunk_last (sizes_got got.run.task.work key got.run.layouts) (run_askings got.run.run)) key content stores one
+        (parts_of_layout key (chunk_last (sizes_got got.run.task.work key got.run.layouts) (run_askings got.run.run))) (asked_last (run_askings got.run.run)) stores base (λ p h. h) kept.in_order long got.stored
         (each_in (λ (s : Request). s.task ≡ u) stores one.of_task) legal
 
-    some : parts_of_layout key (chunk_last (sizes_tried key got.run.layouts) (run_askings got.run.run)) ≢ []
-    some = some_part key (unwrap_or key.size 0) (chunk_last (sizes_tried key got.run.layouts) (run_askings got.run.run))
+    some : parts_of_layout key (chunk_last (sizes_got got.run.task.work key got.run.layouts) (run_askings got.run.run)) ≢ []
+    some = some_part key (unwrap_or key.size 0) (chunk_last (sizes_got got.run.task.work key got.run.layouts) (run_askings got.run.run))
 
     content_is : length content ≡ unwrap_or key.size 0
     content_is = by_size one.key.size refl (and_parts (not (setup.chunk == 0)) (is_some one.key.size) one.chunked).1
@@ -314,4 +320,4 @@ keeps_stored_content o setup told journal number t u key content stores legal fa
             ∙ ap (λ (y : Option ℕ). unwrap_or y 0) (sym (ranges.size some ∙ e))
 
     whole : concat (map (sent o setup told) stores) ≡ content
-    whole = ap concat ranges.bytes ∙ ranges_are_the_whole key (unwrap_or key.size 0) (chunk_last (sizes_tried key got.run.layouts) (run_askings got.run.run)) content content_is
+    whole = ap concat ranges.bytes ∙ ranges_are_the_whole key (unwrap_or key.size 0) (chunk_last (sizes_got got.run.task.work key got.run.layouts) (run_askings got.run.run)) content content_is

@@ -37,7 +37,7 @@ no_question n keys [] a text file h k e = absurd k
 no_question n [] (b ∷ more) a text file h k e = absurd h
 no_question n (key ∷ keys) (b ∷ more) a text file h (inr k) e = no_question (n + 1) keys more a text file h.1 k e
 no_question n (key ∷ keys) (b ∷ more) a text file h (inl is) e =
-    let P : Option HostMessage → Type 0 = λ o. AsksFor present_request n key (record { request = o; verdict = b.verdict }) in
+    let P : Option HostMessage → Type 0 = λ o. AsksFor present_request n key (record { request = o; name = b.name; verdict = b.verdict }) in
     let of : b.request ≡ Some (Transfer true text file) = ap (λ (x : Asking). x.request) is ∙ e in
     let asks : (Transfer true text file ≡ Checkpresent text) × (key_reading text ≡ Some key) = subst P of h.0 in
     absurd (let q : Transfer true text file ≡ Checkpresent text = asks.0 in cc)
@@ -68,7 +68,7 @@ part_of_transfer setup t file calls n (part ∷ parts) (b ∷ more) a text name 
     let later : IsOfPart setup t file calls parts text name = part_of_transfer setup t file calls (n + 1) parts more a text name h.1 rest k e in
     record { part = later.part; there = inr later.there; keyed = later.keyed; copied = later.copied; long = later.long; filled = later.filled }
 part_of_transfer setup t file calls n (part ∷ parts) (b ∷ more) a text name h w (inl is) e =
-    let P : Option HostMessage → Type 0 = λ o. AsksFor (chunk_request setup t) n part.key (record { request = o; verdict = b.verdict }) in
+    let P : Option HostMessage → Type 0 = λ o. AsksFor (chunk_request setup t) n part.key (record { request = o; name = b.name; verdict = b.verdict }) in
     let of : b.request ≡ Some (Transfer true text name) = ap (λ (x : Asking). x.request) is ∙ e in
     let asks : (Transfer true text name ≡ Transfer true text (chunk_file setup t n)) × (key_reading text ≡ Some part.key) = subst P of h.0 in
     let named : name ≡ chunk_file setup t n = let q : Transfer true text name ≡ Transfer true text (chunk_file setup t n) = asks.0 in cc in

@@ -31,6 +31,7 @@ use Rattle.task_run.specs.Stores.{is_size, fits_length, stored, missing_parts, t
 use Rattle.task_run.specs.Gets.{failures, asked_last, parts_last, lengths_at_begin, fit_in, IsSaid, IsChecked, DecidesBy, Decides, GetAnswers, checked}
 use Rattle.task_run.specs.Ran.{is_of_content}
 use Rattle.task_run.specs.Runs.{RunOf, is_chunked, WorkAnswers}
+use Rattle.task_run.specs.Exports.{DoneOrFailed}
 use Rattle.task_run.proofs.Texts.{apart}
 use Rattle.task_run.proofs.Lists.{none_stop}
 use Rattle.task_laws.specs.WentWell.{is_told, is_asked_well, error_of, is_borne, is_called_well, is_read_within, IsFileWhole, IsSentWell, IsFoundWell, WentWell, success_of, IsSuccess, WellIsSuccess, WellUnlessRefused}
@@ -113,6 +114,7 @@ ended A.Stored Finished r = inl r
 ended A.Got Finished r = inl r
 ended A.Present Finished r = inl r
 ended A.Dropped Finished r = inl r
+ended A.Renamed Finished r = inl r
 ended A.Absent Finished r = inl r
 ended A.Unsupported Finished r = inl r
 ended A.Unsent Finished r = inl r
@@ -138,13 +140,13 @@ length_fits : {B : Type 0} (key : Parts) (lengths : List ℕ) (answer : Answer) 
 length_fits key [] answer h f e = absurd cc
 length_fits key (n ∷ more) answer h f e = apart (sym f ∙ (and_parts (is_size key.size n) (list_all (is_size key.size) more) h).0)
 
-plain_stored : (key : Parts) (file : List ℕ) (asked : List Asking) (calls : List Call) (answer : Answer) → list_all (is_asked_well W.Store) asked ≡ true
+plain_stored : (work : Work) (key : Parts) (file : List ℕ) (asked : List Asking) (calls : List Call) (answer : Answer) → list_all (is_asked_well work) asked ≡ true
     → IsFileWhole key file calls → PlainStoreAnswers key file asked calls answer → answer ≡ A.Stored
-plain_stored key file asked calls answer h whole r = by_tests (fits_length key (lengths_found file calls)) (nat_lt 0 (count_by is_done asked)) refl r.answered
+plain_stored work key file asked calls answer h whole r = by_tests (fits_length key (lengths_found file calls)) (nat_lt 0 (count_by is_done asked)) refl r.answered
   where
     by_tests : (b c : Bool) → fits_length key (lengths_found file calls) ≡ b → MatchBool b (MatchBool c (answer ≡ A.Stored) (last_failed asked ≡ Some answer)) (map A.Size (lengths_found file calls) ≡ answer ∷ []) → answer ≡ A.Stored
     by_tests true true f e = e
-    by_tests true false f e = not_failed W.Store asked answer h e
+    by_tests true false f e = not_failed work asked answer h e
     by_tests false c f e = length_fits key (lengths_found file calls) answer whole.lengths f e
 
 -- no read of a part of the file came to its end
@@ -244,9 +246,9 @@ store_well setup t task key asked calls noted answer h whole r = by_size key.siz
   where
     by_size : (o : Option ℕ) (c : Bool) → key.size ≡ o → MatchBool (c && is_some o) (ChunkStoreAnswers setup t key task.file asked calls noted answer) (PlainStoreAnswers key task.file asked calls answer) → answer ≡ A.Stored
     by_size (Some size) true e s = chunks_stored setup t size key task.file asked calls noted answer e h whole s
-    by_size (Some size) false e s = plain_stored key task.file asked calls answer h whole s
-    by_size None true e s = plain_stored key task.file asked calls answer h whole s
-    by_size None false e s = plain_stored key task.file asked calls answer h whole s
+    by_size (Some size) false e s = plain_stored W.Store key task.file asked calls answer h whole s
+    by_size None true e s = plain_stored W.Store key task.file asked calls answer h whole s
+    by_size None false e s = plain_stored W.Store key task.file asked calls answer h whole s
 
 -- ---- a check and a drop
 
@@ -271,16 +273,17 @@ some_layout key layouts e = behind (keys_of_layout key) (chunk_sizes key.size la
     behind f [] e = omega arith
     behind f (s ∷ sizes) e = omega arith
 
-check_well : (key : Parts) (layouts : List (ℕ × ℕ)) (asked : List Asking) (answer : Answer) → list_all (is_asked_well W.Check) asked ≡ true
-    → CheckAnswers (layouts_tried key layouts) asked answer → answer ≡ A.Present
-check_well key layouts asked answer h r = by_test (list_any is_there (zip (layouts_tried key layouts) (rounds asked))) r.found
+-- a check by some layout, where all that was asked is there
+checked_well : (work : Work) (tried : List (List Parts)) (asked : List Asking) (answer : Answer) → is_store work ≡ false → (length tried ≡ 0 → ⊥) → list_all (is_asked_well work) asked ≡ true
+    → CheckAnswers tried asked answer → answer ≡ A.Present
+checked_well work tried asked answer other some h r = by_test (list_any is_there (zip tried (rounds asked))) r.found
   where
     none : count_by (λ (a : Asking). not (is_done a)) asked ≡ 0
-    none = none_undone asked (weaken (is_asked_well W.Check) is_done asked (λ a. each_done W.Check a refl) h)
+    none = none_undone asked (weaken (is_asked_well work) is_done asked (λ a. each_done work a other) h)
 
-    by_test : (b : Bool) → MatchBool b (answer ≡ A.Present) ((count_by (λ a. not (is_done a)) asked ≡ length (layouts_tried key layouts)) × (answer ≡ not_there asked)) → answer ≡ A.Present
+    by_test : (b : Bool) → MatchBool b (answer ≡ A.Present) ((count_by (λ a. not (is_done a)) asked ≡ length tried) × (answer ≡ not_there asked)) → answer ≡ A.Present
     by_test true e = e
-    by_test false s = absurd (some_layout key layouts (sym s.0 ∙ none))
+    by_test false s = absurd (some (sym s.0 ∙ none))
 
 drop_well : (key : Parts) (sizes : List ℕ) (asked : List Asking) (answer : Answer) → list_all (is_asked_well W.Drop) asked ≡ true → DropAnswers key sizes asked answer → answer ≡ A.Dropped
 drop_well key sizes asked answer h r = by_test (count_by is_done asked == length (keys_dropped key sizes)) r.dropped
@@ -288,6 +291,14 @@ drop_well key sizes asked answer h r = by_test (count_by is_done asked == length
     by_test : (b : Bool) → MatchBool b (answer ≡ A.Dropped) (last_failed asked ≡ Some answer) → answer ≡ A.Dropped
     by_test true e = e
     by_test false e = not_failed W.Drop asked answer h e
+
+-- the one request of a task of an export was done
+export_done : (work : Work) (done : Answer) (asked : List Asking) (answer : Answer) → list_all (is_asked_well work) asked ≡ true → DoneOrFailed done asked answer → answer ≡ done
+export_done work done asked answer h r = by_test (nat_lt 0 (count_by is_done asked)) r
+  where
+    by_test : (b : Bool) → MatchBool b (answer ≡ done) (last_failed asked ≡ Some answer) → answer ≡ done
+    by_test true e = e
+    by_test false e = not_failed work asked answer h e
 
 -- ---- a get
 
@@ -298,6 +309,7 @@ said_fits key bytes (A.Hash digest) s f = absurd (s.1 f)
 said_fits key bytes A.Stored s f = absurd s
 said_fits key bytes A.Present s f = absurd s
 said_fits key bytes A.Dropped s f = absurd s
+said_fits key bytes A.Renamed s f = absurd s
 said_fits key bytes A.Absent s f = absurd s
 said_fits key bytes A.Unsupported s f = absurd s
 said_fits key bytes A.Unsent s f = absurd s
@@ -311,9 +323,9 @@ said_fits key bytes (A.Unknown at) s f = absurd s
 said_fits key bytes (A.NotPrepared at) s f = absurd s
 said_fits key bytes (A.Ended why) s f = absurd s
 
-get_well : (setup : Setup) (t : ℕ) (key : Parts) (sizes : List ℕ) (file : List ℕ) (asked : List Asking) (calls : List Call) (answer : Answer)
-    → list_all (is_asked_well W.Get) asked ≡ true → IsSentWell setup t key sizes file asked calls → GetAnswers setup t key sizes file asked calls answer → answer ≡ A.Got
-get_well setup t key sizes file asked calls answer h sent r = by_test (failures asked == length sizes) r.answered
+get_well : (work : Work) (setup : Setup) (t : ℕ) (key : Parts) (sizes : List ℕ) (file : List ℕ) (asked : List Asking) (calls : List Call) (answer : Answer)
+    → list_all (is_asked_well work) asked ≡ true → IsSentWell setup t key sizes file asked calls → GetAnswers setup t key sizes file asked calls answer → answer ≡ A.Got
+get_well work setup t key sizes file asked calls answer h sent r = by_test (failures asked == length sizes) r.answered
   where
     decided : Decides setup t key sizes file asked calls answer → answer ≡ A.Got
     decided d =
@@ -323,7 +335,7 @@ get_well setup t key sizes file asked calls answer h sent r = by_test (failures 
         said_fits key (checked setup t file sizes asked calls) answer both.1.said (sent.fits (record { done = both.0; held = both.1.held_whole; fetched = both.1.fetched_whole }))
 
     by_test : (b : Bool) → MatchBool b (last_failed asked ≡ Some answer) (Decides setup t key sizes file asked calls answer) → answer ≡ A.Got
-    by_test true e = not_failed W.Get asked answer h e
+    by_test true e = not_failed work asked answer h e
     by_test false d = decided d
 
 -- ---- any task
@@ -332,9 +344,14 @@ work_well : (setup : Setup) (t : ℕ) (task : Task) (key : Parts) (layouts : Lis
     → list_all (is_asked_well work) asked ≡ true → IsFoundWell setup t task key layouts work asked calls → WorkAnswers setup t task key layouts work asked calls noted answer
     → answer ≡ success_of work
 work_well setup t task key layouts W.Store asked calls noted answer h f r = store_well setup t task key asked calls noted answer h f r
-work_well setup t task key layouts W.Get asked calls noted answer h f r = get_well setup t key (sizes_tried key layouts) task.file asked calls answer h f r
-work_well setup t task key layouts W.Check asked calls noted answer h f r = check_well key layouts asked answer h r
+work_well setup t task key layouts W.Get asked calls noted answer h f r = get_well W.Get setup t key (sizes_tried key layouts) task.file asked calls answer h f r
+work_well setup t task key layouts W.Check asked calls noted answer h f r = checked_well W.Check (layouts_tried key layouts) asked answer refl (some_layout key layouts) h r
 work_well setup t task key layouts W.Drop asked calls noted answer h f r = drop_well key (sizes_tried key layouts) asked answer h r
+work_well setup t task key layouts W.XStore asked calls noted answer h f r = plain_stored W.XStore key task.file asked calls answer h f r
+work_well setup t task key layouts W.XGet asked calls noted answer h f r = get_well W.XGet setup t key (0 ∷ []) task.file asked calls answer h f r
+work_well setup t task key layouts W.XCheck asked calls noted answer h f r = checked_well W.XCheck ((key ∷ []) ∷ []) asked answer refl (λ e. omega (arith, e)) h r
+work_well setup t task key layouts W.XDrop asked calls noted answer h f r = export_done W.XDrop A.Dropped asked answer h r
+work_well setup t task key layouts W.XRename asked calls noted answer h f r = export_done W.XRename A.Renamed asked answer h r
 
 pub run_well : (setup : Setup) (t : ℕ) (task : Task) (key : Parts) (layouts : List (ℕ × ℕ)) (asked : List Asking) (calls : List Call) (noted : List Noting) (answer : Answer)
     → WentWell setup t task key layouts asked calls → RunOf setup t task key layouts asked calls noted answer → IsSuccess task.work answer

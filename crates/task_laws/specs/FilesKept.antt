@@ -11,11 +11,11 @@ use Rattle.journal_model.specs.declared.answer.Answer.TheVariants.{Got}
 use Rattle.task_text.specs.declared.task.Task.{Task}
 use Rattle.task_run.specs.Askers.{Asking, Noting}
 use Rattle.task_run.specs.declared.setup.Setup.{Setup}
-use Rattle.task_run.specs.Layouts.{sizes_tried}
 use Rattle.task_run.specs.Names.{part_of}
 use Rattle.task_run.specs.Gets.{checked, since_begin}
 use Rattle.task_run.specs.Reads.{is_call_of}
 use Rattle.task_run.specs.Runs.{TaskRun}
+use Rattle.task_run.specs.RunLaws.{sizes_got}
 use Rattle.task_laws.specs.Contents.{Shows}
 use Rattle.task_laws.specs.Kept.{is_afresh}
 
@@ -29,7 +29,7 @@ abbrev pub GotHolds : Type 0
 GotHolds =
     (task : Task) (t : ℕ) (setup : Setup) (layouts : List (ℕ × ℕ)) (asked : List Asking) (calls : List Call) (noted : List Noting) (key : Parts) (old new : Files)
     → key_reading task.key ≡ Some key → TaskRun task t setup layouts asked calls noted Got → Played calls old new
-    → HoldsChecked setup t key (sizes_tried key layouts) task.file asked calls new
+    → HoldsChecked setup t key (sizes_got task.work key layouts) task.file asked calls new
 
 -- the call leaves the file as it is
 abbrev pub leaves : List ℕ → Call → Bool
@@ -61,4 +61,4 @@ abbrev pub NoPartIsAfresh : Type 0
 NoPartIsAfresh =
     (task : Task) (t : ℕ) (setup : Setup) (layouts : List (ℕ × ℕ)) (asked : List Asking) (calls : List Call) (noted : List Noting) (key : Parts) (old new : Files)
     → key_reading task.key ≡ Some key → TaskRun task t setup layouts asked calls noted Got → Played calls old new → HasNoPart task.file calls old
-    → is_afresh (sizes_tried key layouts) task.file asked calls ≡ true
+    → is_afresh (sizes_got task.work key layouts) task.file asked calls ≡ true

@@ -11,11 +11,11 @@ use Rattle.journal_model.specs.Legality.{Legal}
 use Rattle.task_text.specs.declared.task.Work.TheVariants.{Store}
 use Rattle.task_run.specs.declared.setup.Setup.{Setup}
 use Rattle.task_run.specs.Askings.{run_askings}
-use Rattle.task_run.specs.Layouts.{sizes_tried}
 use Rattle.task_run.specs.Names.{part_of}
 use Rattle.task_run.specs.Reads.{appended, holds, are_found_so, is_renaming, is_last}
 use Rattle.task_run.specs.Gets.{asked_last, since_begin, checked}
 use Rattle.task_run.specs.Runs.{is_chunked}
+use Rattle.task_run.specs.RunLaws.{sizes_got}
 use Rattle.gathering.specs.JournalRuns.{JournalRun}
 use Rattle.task_laws.specs.Changes.{Request}
 use Rattle.task_laws.specs.Contents.{Shows}
@@ -28,7 +28,7 @@ pub record GotStored (o : Opening) (setup : Setup) (told : Told) (journal : List
   pub run : JournalRun o setup (told.calls t) number t journal
   pub keyed : key_reading run.task.key ≡ Some key
   pub got : run.run.answer ≡ Got
-  pub afresh : is_afresh (sizes_tried key run.layouts) run.task.file (run_askings run.run) (told.calls t) ≡ true
+  pub afresh : is_afresh (sizes_got run.task.work key run.layouts) run.task.file (run_askings run.run) (told.calls t) ≡ true
   pub stored : AreStoredFor journal t (asked_last (run_askings run.run)) stores
 
 -- With a faithful remote such a run keeps what these sent, one after the other, as its file.
@@ -36,7 +36,7 @@ abbrev pub KeepsStored : Type 0
 KeepsStored =
     (o : Opening) (setup : Setup) (told : Told) (journal : List Entry) (number t : ℕ) (key : Parts) (stores : List Request) → IsFaithful o setup told journal
     → (got : GotStored o setup told journal number t key stores)
-    → Keeps setup t key (sizes_tried key got.run.layouts) got.run.task.file (run_askings got.run.run) (told.calls t) (map (sent o setup told) stores)
+    → Keeps got.run.task.work setup t key (sizes_got got.run.task.work key got.run.layouts) got.run.task.file (run_askings got.run.run) (told.calls t) (map (sent o setup told) stores)
 
 -- And where its calls were played on its desk's files, the file holds that after them.
 abbrev pub FileKeepsStored : Type 0
@@ -62,7 +62,7 @@ pub record StoredInChunks (o : Opening) (setup : Setup) (told : Told) (journal :
 -- whatever it held before the task, it is all that part holds in the end. The task's last call renamed part to the file.
 pub record KeepsContent (o : Opening) (setup : Setup) (told : Told) (journal : List Entry) (number t : ℕ) (key : Parts) (run : JournalRun o setup (told.calls t) number t journal) (content : List ℕ) : Type 0 where
   pub appended_are : appended (part_of run.task.file) (since_begin run.task.file (told.calls t)) ≡ content
-  pub checked_are : checked setup t run.task.file (sizes_tried key run.layouts) (run_askings run.run) (told.calls t) ≡ content
+  pub checked_are : checked setup t run.task.file (sizes_got run.task.work key run.layouts) (run_askings run.run) (told.calls t) ≡ content
   pub holds_all : (before : List ℕ) → are_found_so (part_of run.task.file) (Some before) (told.calls t) ≡ true → holds (part_of run.task.file) (Some before) (told.calls t) ≡ Some content
   pub fits : FitsKey key content
   pub renamed : is_last (is_renaming (part_of run.task.file) run.task.file) (told.calls t) ≡ true

@@ -1,5 +1,5 @@
 -- What is so of a task that went well from outside, and how it is answered then. Each part speaks of what was asked and called alone.
-use Rattle.std.specs.Prelude.{ℕ, ◌≡◌, ◌⊎◌, ◌&&◌, ◌||◌, nat_lt, nat_le, Bool, true, false, List, [], length, Option, Some, None, Result, Ok, Err, bytes_eq, count_by}
+use Rattle.std.specs.Prelude.{ℕ, ◌≡◌, ◌⊎◌, ◌&&◌, ◌||◌, nat_lt, nat_le, Bool, true, false, List, [], ◌∷◌, length, Option, Some, None, Result, Ok, Err, bytes_eq, count_by}
 use Rattle.std.specs.List.{list_all}
 use Rattle.ann_key.specs.Keys.{Parts, key_reading}
 use Rattle.ann_digest.specs.Fits.{FitsKey}
@@ -10,7 +10,7 @@ use Rattle.ann_outside.specs.declared.file_desk.Call.TheVariants.{Size, ReadAt, 
 use Rattle.journal_model.specs.declared.verdict.Verdict.{Verdict}
 use Rattle.journal_model.specs.declared.verdict.Verdict.TheVariants.{Done as DoneAt, Absent as AbsentAt, Unknown as UnknownAt, Unsupported as UnsupportedAt}
 use Rattle.journal_model.specs.declared.answer.Answer.{Answer}
-use Rattle.journal_model.specs.declared.answer.Answer.TheVariants.{Stored, Got, Present, Dropped, Memory}
+use Rattle.journal_model.specs.declared.answer.Answer.TheVariants.{Stored, Got, Present, Dropped, Renamed, Memory}
 use Rattle.task_text.specs.declared.task.Task.{Task}
 use Rattle.task_text.specs.declared.task.Work.{Work}
 use Rattle.task_text.specs.declared.task.Work.TheVariants as W
@@ -98,6 +98,11 @@ IsFoundWell setup t task key layouts W.Store asked calls = IsFileWhole key task.
 IsFoundWell setup t task key layouts W.Get asked calls = IsSentWell setup t key (sizes_tried key layouts) task.file asked calls
 IsFoundWell setup t task key layouts W.Check asked calls = Unit {0}
 IsFoundWell setup t task key layouts W.Drop asked calls = Unit {0}
+IsFoundWell setup t task key layouts W.XStore asked calls = IsFileWhole key task.file calls
+IsFoundWell setup t task key layouts W.XGet asked calls = IsSentWell setup t key (0 ∷ []) task.file asked calls
+IsFoundWell setup t task key layouts W.XCheck asked calls = Unit {0}
+IsFoundWell setup t task key layouts W.XDrop asked calls = Unit {0}
+IsFoundWell setup t task key layouts W.XRename asked calls = Unit {0}
 
 -- ---- a task that went well
 
@@ -117,6 +122,11 @@ success_of W.Store = Stored
 success_of W.Get = Got
 success_of W.Check = Present
 success_of W.Drop = Dropped
+success_of W.XStore = Stored
+success_of W.XGet = Got
+success_of W.XCheck = Present
+success_of W.XDrop = Dropped
+success_of W.XRename = Renamed
 
 -- the task's success, or running out of memory
 abbrev pub IsSuccess : Work → Answer → Type 0

@@ -4,10 +4,12 @@ ghost use Rattle.std.specs.List.{list_all};
 ghost use Rattle.ann_outside.specs.declared.file_desk.Call.TheVariants.{Size, Create};
 ghost use Rattle.ann_outside.specs.declared.file_desk.DeskError.TheVariants.{Missing, Failed as CallFailed};
 ghost use Rattle.journal_model.specs.declared.answer.Answer.TheVariants.{Got};
-ghost use Rattle.journal_model.specs.declared.verdict.Verdict.TheVariants.{Done, Failed, Unknown};
+ghost use Rattle.journal_model.specs.declared.verdict.Verdict.TheVariants.{Absent, Done, Failed, Unknown};
 ghost use Rattle.journal_model.specs.Rows.{greeting};
 ghost use Rattle.task_run.specs.Rows.{setup_of, store_a, stores_a, sized, get_abc, fetched_1, gets_abc, got_abc, renamed, part_gone, store_ten, stores_ten, stored_ten, cut_behind_filling, made_twice, lost_ten, stored_short, get_ten, gets_ten, resumed_ten, check_ten, checks_ten, finds_ten, asks, c1, fetched_2_1, got_hi};
 ghost use Rattle.annex_model.specs.Messages.{Checkpresent, Transfer};
+ghost use Rattle.task_text.specs.declared.task.Work.TheVariants.{XCheck};
+ghost use Rattle.task_run.specs.ExportRows.{checks_docs, docs_task, get_docs, gets_docs, rename_docs, renames_docs, store_docs, stores_docs};
 ghost use Rattle.gathering.specs.JournalRuns.{JournalRun};
 ghost use Rattle.task_run.specs.Askings.{run_askings};
 ghost use Rattle.task_laws.specs.Changes.{requests, stored_by, Retrieves};
@@ -38,6 +40,17 @@ pub fn others_went_well()
     ensures no_part { WentWell (setup_of 0) 1 get_ten ten_parts ((4, 3) ∷ []) [] (Size (codes "o.part") (Err Missing) ∷ Create (codes "o.part") (Ok tt) ∷ []) }
     ensures not_fetched { WentWell (setup_of 0) 1 get_abc abc_parts [] (gets_abc (Done 13)) (Size fetched_1 (Err Missing) ∷ []) → ⊥ }
     ensures other_length { WentWell (setup_of 0) 1 get_abc abc_parts [] (gets_abc (Done 13)) (sized fetched_1 2 ++ part_gone) → ⊥ }
+{}
+
+/// A task under a name went well where its one request was done, a file to store has its key's size, and a fetched one has it too.
+pub fn exports_went_well()
+    ensures stored { WentWell (setup_of 0) 1 store_docs hi_parts [] (stores_docs (Done 14)) (sized (codes "f") 2) }
+    ensures renamed { WentWell (setup_of 0) 1 rename_docs worm_parts [] (renames_docs (codes "b") (Done 14)) [] }
+    ensures failed { WentWell (setup_of 0) 1 store_docs hi_parts [] (stores_docs (Failed 14)) (sized (codes "f") 2) → ⊥ }
+    ensures absent { WentWell (setup_of 0) 1 (docs_task XCheck) worm_parts [] (checks_docs (Absent 14)) [] → ⊥ }
+    ensures other_length { WentWell (setup_of 0) 1 store_docs hi_parts [] [] (sized (codes "f") 9) → ⊥ }
+    ensures not_fetched { WentWell (setup_of 0) 1 get_docs abc_parts [] (gets_docs (Done 14)) (Size fetched_1 (Err Missing) ∷ []) → ⊥ }
+    ensures short { WentWell (setup_of 0) 1 get_docs abc_parts [] (gets_docs (Done 14)) (sized fetched_1 2 ++ part_gone) → ⊥ }
 {}
 
 /// A get in the plain layout begins afresh whatever part held, and one in chunks where part was missing or empty.

@@ -13,6 +13,7 @@ use Rattle.journal_model.specs.Journal.{any, each_of, asked_jobs, asks, is_settl
 use Rattle.journal_model.specs.Legality.{job_for, has_open_job}
 use Rattle.journal_model.proofs.Looks.{entry, is_asked, same, same_number, either_left, either_right, true_not_false, verdict_of-append, unsettled}
 use Rattle.task_run.specs.TaskRuns.{Asking, asking_of, askings_from, askings, lost_verdict}
+use Rattle.task_run.specs.Askings.{name_before}
 
 -- the entry is a request of task t, or stands for one
 abbrev pub asks_for : ℕ → What → Bool
@@ -56,8 +57,8 @@ abbrev SameVerdicts : List Entry → List Entry → List (ℕ × ℕ) → Type 0
 SameVerdicts j k [] = Unit {0}
 SameVerdicts j k (q ∷ qs) = (verdict_of j q.0 q.1 ≡ verdict_of k q.0 q.1) × SameVerdicts j k qs
 
-abbrev asked_so : List Entry → ℕ → List ℕ → Verdict → Asking
-asked_so past child line v = record { request = host_reading (addressed past child line).1; verdict = v }
+abbrev asked_so : List Entry → ℕ → ℕ → List ℕ → Verdict → Asking
+asked_so past child job line v = record { request = host_reading (addressed past child line).1; name = name_before past child job; verdict = v }
 
 askings_from-alike : (j k : List Entry) (t : ℕ) (past xs : List Entry) → SameVerdicts j k (each_of (job_for t) xs)
     → askings_from j t past xs ≡ askings_from k t past xs
@@ -71,9 +72,9 @@ askings_from-alike j k t past (e ∷ xs) h = step e.what h (askings_from-alike j
     step (Ask child job task line) h r = go (task == t) h
       where
         go : (b : Bool) → SameVerdicts j k (cons_option (cond b (Some (child, job)) None) (each_of (job_for t) xs))
-            → cons_option (cond b (option_map (asked_so past child line) (verdict_of j child job)) None) (askings_from j t (past ++ e ∷ []) xs)
-            ≡ cons_option (cond b (option_map (asked_so past child line) (verdict_of k child job)) None) (askings_from k t (past ++ e ∷ []) xs)
-        go true h = rw h.0 (ap (cons_option (option_map (asked_so past child line) (verdict_of k child job))) (r h.1))
+            → cons_option (cond b (option_map (asked_so past child job line) (verdict_of j child job)) None) (askings_from j t (past ++ e ∷ []) xs)
+            ≡ cons_option (cond b (option_map (asked_so past child job line) (verdict_of k child job)) None) (askings_from k t (past ++ e ∷ []) xs)
+        go true h = rw h.0 (ap (cons_option (option_map (asked_so past child job line) (verdict_of k child job))) (r h.1))
         go false h = r h
     step (Lost child task) h r = ap (cons_option (asking_of j t past (Lost child task))) (r h)
     step w h r = r h
@@ -169,32 +170,33 @@ askings-unasked past more t h none =
     ∙ ap (λ (xs : List Asking). askings past t ++ xs) (askings_from-none (past ++ more) t past more none)
     ∙ append-nil (askings past t)
 
--- a request that was settled in the end
-pub askings-ask : (past more : List Entry) (t by child job : ℕ) (line : List ℕ) (request : Option HostMessage) (v : Verdict)
+-- a request that was settled in the end, and the name before it
+pub askings-ask : (past more : List Entry) (t by child job : ℕ) (line : List ℕ) (request : Option HostMessage) (name : Option (List ℕ)) (v : Verdict)
     → has_open_job past t ≡ false → any (asks_for t) more ≡ false
-    → host_reading (addressed past child line).1 ≡ request
+    → host_reading (addressed past child line).1 ≡ request → name_before past child job ≡ name
     → verdict_of (past ++ entry by (Ask child job t line) ∷ more) child job ≡ Some v
-    → askings (past ++ entry by (Ask child job t line) ∷ more) t ≡ askings past t ++ record { request = request; verdict = v } ∷ []
-askings-ask past more t by child job line request v h none reading settled =
+    → askings (past ++ entry by (Ask child job t line) ∷ more) t ≡ askings past t ++ record { request = request; name = name; verdict = v } ∷ []
+askings-ask past more t by child job line request name v h none reading named settled =
     let e = entry by (Ask child job t line) in
     let journal = past ++ e ∷ more in
     let rest : askings_from journal t (past ++ e ∷ []) more ≡ [] = askings_from-none journal t (past ++ e ∷ []) more none in
-    let first : asking_of journal t past (Ask child job t line) ≡ Some (record { request = request; verdict = v }) =
-    rw (same t) (rw settled (ap (λ (r : Option HostMessage). Some (record { request = r; verdict = v })) reading)) in
+    let first : asking_of journal t past (Ask child job t line) ≡ Some (record { request = request; name = name; verdict = v }) =
+    rw (same t) (rw settled (ap (λ (r : Option HostMessage). Some (record { request = r; name = name_before past child job; verdict = v })) reading
+    ∙ ap (λ (n : Option (List ℕ)). Some (record { request = request; name = n; verdict = v })) named)) in
     askings-append past (e ∷ more) t h
     ∙ ap (λ (xs : List Asking). askings past t ++ xs)
     (ap (λ (o : Option Asking). cons_option o (askings_from journal t (past ++ e ∷ []) more)) first
-    ∙ ap (cons_option (Some (record { request = request; verdict = v }))) rest)
+    ∙ ap (cons_option (Some (record { request = request; name = name; verdict = v }))) rest)
 
 -- a request that found its child ended or mute
 pub askings-lost : (past more : List Entry) (t by child : ℕ) → has_open_job past t ≡ false → any (asks_for t) more ≡ false
-    → askings (past ++ entry by (Lost child t) ∷ more) t ≡ askings past t ++ record { request = None; verdict = lost_verdict (why_of past child) } ∷ []
+    → askings (past ++ entry by (Lost child t) ∷ more) t ≡ askings past t ++ record { request = None; name = None; verdict = lost_verdict (why_of past child) } ∷ []
 askings-lost past more t by child h none =
     let e = entry by (Lost child t) in
     let journal = past ++ e ∷ more in
     let rest : askings_from journal t (past ++ e ∷ []) more ≡ [] = askings_from-none journal t (past ++ e ∷ []) more none in
-    let first : asking_of journal t past (Lost child t) ≡ Some (record { request = None; verdict = lost_verdict (why_of past child) }) = rw (same t) refl in
+    let first : asking_of journal t past (Lost child t) ≡ Some (record { request = None; name = None; verdict = lost_verdict (why_of past child) }) = rw (same t) refl in
     askings-append past (e ∷ more) t h
     ∙ ap (λ (xs : List Asking). askings past t ++ xs)
     (ap (λ (o : Option Asking). cons_option o (askings_from journal t (past ++ e ∷ []) more)) first
-    ∙ ap (cons_option (Some (record { request = None; verdict = lost_verdict (why_of past child) }))) rest)
+    ∙ ap (cons_option (Some (record { request = None; name = None; verdict = lost_verdict (why_of past child) }))) rest)

@@ -1,5 +1,5 @@
--- Got is no stop, and no work but a get ends with it.
-use Rattle.std.proofs.Common.{◌≡◌, ℕ, List, [], ◌∷◌, ◌++◌, refl, sym, subst}
+-- Got is no stop, and no work but a get, in a layout or under a name, ends with it.
+use Rattle.std.proofs.Common.{◌≡◌, ℕ, List, [], ◌∷◌, ◌++◌, refl, sym, ap, subst}
 use Rattle.std.specs.Prelude.{Bool, true, false, ◌&&◌, not, Option, Some, None, IfSome, MatchOption, Result, Ok, Err, map, take, nat_lt, ◌==◌, count_by, length}
 use Rattle.std.specs.Bool.{MatchBool}
 use Rattle.std.specs.List.{list_all, list_any, filter_map, cons_option, last_or, zip}
@@ -28,8 +28,9 @@ use Rattle.task_run.specs.Stores.{PlainStoreAnswers, ChunkStoreAnswers, IsShort,
 use Rattle.task_run.specs.Reads.{lengths_found}
 use Rattle.task_run.specs.Requests.{rounds}
 use Rattle.task_run.specs.Gets.{checked, failures, is_got, IsChecked, DecidesBy, Decides, GetAnswers}
+use Rattle.task_run.specs.Exports.{DoneOrFailed}
 use Rattle.task_run.specs.Runs.{RunOf, is_chunked, WorkAnswers}
-use Rattle.task_run.specs.RunLaws.{IsGot, GotNeedsFit}
+use Rattle.task_run.specs.RunLaws.{is_get, IsGot, GotNeedsFit}
 use Rattle.task_run.proofs.Texts.{apart}
 
 -- ---- no stop is Got
@@ -194,6 +195,13 @@ drop_other key sizes asked h = by_test (count_by is_done asked == length (keys_d
     by_test true e = cc
     by_test false e = never_failed asked e
 
+one_other : (success : Answer) (asked : List Asking) → not (is_got success) ≡ true → DoneOrFailed success asked A.Got → ⊥
+one_other success asked k h = by_test (nat_lt 0 (count_by is_done asked)) h
+  where
+    by_test : (b : Bool) → MatchBool b (A.Got ≡ success) (last_failed asked ≡ Some A.Got) → ⊥
+    by_test true e = not_other success e k
+    by_test false e = never_failed asked e
+
 -- ---- what a get that ends with it has checked
 
 said : (setup : Setup) (t : ℕ) (key : Parts) (sizes : List ℕ) (file : List ℕ) (asked : List Asking) (calls : List Call) (lengths : List ℕ) (Done : Type 0)
@@ -217,10 +225,14 @@ store_other setup t task key asked calls noted false h = plain_store_other key t
 work_is : (setup : Setup) (t : ℕ) (task : Task) (key : Parts) (layouts : List (ℕ × ℕ)) (asked : List Asking) (calls : List Call) (noted : List Noting) (work : Work)
     → task.work ≡ work → WorkAnswers setup t task key layouts work asked calls noted A.Got → IsGot task t setup layouts asked calls key
 work_is setup t task key layouts asked calls noted W.Store e h = absurd (store_other setup t task key asked calls noted (is_chunked setup key) h)
-work_is setup t task key layouts asked calls noted W.Get e h = record { work = e; fits = get_fits setup t key (sizes_tried key layouts) task.file asked calls h }
+work_is setup t task key layouts asked calls noted W.Get e h = record { work = ap is_get e; fits = rw e (get_fits setup t key (sizes_tried key layouts) task.file asked calls h) }
 work_is setup t task key layouts asked calls noted W.Check e h = absurd (check_other (layouts_tried key layouts) asked h)
 work_is setup t task key layouts asked calls noted W.Drop e h = absurd (drop_other key (sizes_tried key layouts) asked h)
-work_is setup t task key layouts asked calls noted _ e h = absurd h
+work_is setup t task key layouts asked calls noted W.XStore e h = absurd (plain_store_other key task.file asked calls h)
+work_is setup t task key layouts asked calls noted W.XGet e h = record { work = ap is_get e; fits = rw e (get_fits setup t key (0 ∷ []) task.file asked calls h) }
+work_is setup t task key layouts asked calls noted W.XCheck e h = absurd (check_other ((key ∷ []) ∷ []) asked h)
+work_is setup t task key layouts asked calls noted W.XDrop e h = absurd (one_other A.Dropped asked refl h)
+work_is setup t task key layouts asked calls noted W.XRename e h = absurd (one_other A.Renamed asked refl h)
 
 of_run : (setup : Setup) (t : ℕ) (task : Task) (key : Parts) (layouts : List (ℕ × ℕ)) (asked : List Asking) (calls : List Call) (noted : List Noting)
     → RunOf setup t task key layouts asked calls noted A.Got → IsGot task t setup layouts asked calls key

@@ -23,7 +23,7 @@ of_reading text P h = by_case (key_reading text) refl
     by_case (Some key) e = h key e
 
 pub asks_for_check : (text : List ℕ) (key : Parts) (request : Option HostMessage) (v : Verdict) (n : ℕ) → key_reading text ≡ Some key
-    → KeepsRequest (Checkpresent text) request v → AsksFor present_request n key (record { request = request; verdict = v })
+    → KeepsRequest (Checkpresent text) request v → AsksFor present_request n key (record { request = request; name = None; verdict = v })
 asks_for_check text key None v n e k = k
 asks_for_check text key (Some q) v n e k = rw k (refl, e)
 

@@ -7,9 +7,10 @@ use Rattle.annex_model.specs.Messages.{HostMessage, Transfer, Transferexport, Re
 use Rattle.journal_model.specs.declared.verdict.Verdict.{Verdict}
 use Rattle.journal_model.specs.declared.verdict.Verdict.TheVariants.{Ended, Unsent}
 
--- a request, where it is kept, and its verdict
+-- a request, where it is kept, with the name that was said before it, if one was, and its verdict
 pub record Asking : Type 0 where
   pub request : Option HostMessage
+  pub name : Option (List ℕ)
   pub verdict : Verdict
 
 -- a note that the remote has so many chunks of a size, and how many requests of the task were settled before it
@@ -29,16 +30,22 @@ abbrev pub KeepsRequest : HostMessage → Option HostMessage → Verdict → Typ
 KeepsRequest q (Some kept) v = kept ≡ q
 KeepsRequest q None v = is_gone v ≡ true
 
--- one pair more, of this request and its verdict
-pub record AsksOne (old new : List Asking) (q : HostMessage) (v : Verdict) : Type 0 where
+-- the name that is said before a request that is asked. Before one that is left out nothing is said
+abbrev pub said_with : Option (List ℕ) → Option HostMessage → Option (List ℕ)
+said_with None request = None
+said_with (Some name) None = None
+said_with (Some name) (Some q) = Some name
+
+-- one asking more, of this request after this name, and its verdict
+pub record AsksOne (old new : List Asking) (name : Option (List ℕ)) (q : HostMessage) (v : Verdict) : Type 0 where
   pub request : Option HostMessage
   pub kept : KeepsRequest q request v
-  pub added : new ≡ old ++ record { request = request; verdict = v } ∷ []
+  pub added : new ≡ old ++ record { request = request; name = said_with name request; verdict = v } ∷ []
 
 -- without memory nothing was asked
-abbrev pub AskAdds : List Asking → List Asking → HostMessage → Result Verdict NoMemory → Type 0
-AskAdds old new q (Ok v) = AsksOne old new q v
-AskAdds old new q (Err e) = new ≡ old
+abbrev pub AskAdds : List Asking → List Asking → Option (List ℕ) → HostMessage → Result Verdict NoMemory → Type 0
+AskAdds old new name q (Ok v) = AsksOne old new name q v
+AskAdds old new name q (Err e) = new ≡ old
 
 -- without memory nothing was noted
 abbrev pub NoteAdds : List Noting → List Noting → Noting → Result (Unit {0}) NoMemory → Type 0
@@ -51,6 +58,11 @@ names_in_line (Transfer store key file) = not (has_newline file)
 names_in_line (Transferexport store key file) = not (has_newline file)
 names_in_line (Renameexport key onto) = not (has_newline onto)
 names_in_line q = true
+
+-- the name that is said before a request, if one is, is one line
+abbrev pub is_said_in_line : Option (List ℕ) → Bool
+is_said_in_line None = true
+is_said_in_line (Some name) = not (has_newline name)
 
 -- the chunks of each layout hold something
 abbrev pub are_layouts : List (ℕ × ℕ) → Bool

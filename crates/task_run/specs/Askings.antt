@@ -1,13 +1,13 @@
 -- What a journal has of one run of a task: what it asked, what it noted, and how it was answered.
-use Rattle.std.specs.Prelude.{ℕ, ◌≡◌, ◌+◌, ◌-◌, ◌==◌, nat_le, Bool, false, if◌then◌else◌, List, [], ◌∷◌, ◌++◌, length, Option, Some, None, option_map}
-use Rattle.std.specs.List.{cons_option}
-use Rattle.annex_model.specs.Messages.{host_reading}
+use Rattle.std.specs.Prelude.{ℕ, ◌≡◌, ◌+◌, ◌-◌, ◌==◌, ◌&&◌, nat_le, Bool, false, if◌then◌else◌, List, [], ◌∷◌, ◌++◌, length, Option, Some, None, option_and_then, option_map}
+use Rattle.std.specs.List.{cons_option, last_or}
+use Rattle.annex_model.specs.Messages.{HostMessage, Export, host_reading}
 use Rattle.journal_model.specs.declared.answer.Answer.{Answer}
 use Rattle.journal_model.specs.declared.verdict.Why.{Why}
 use Rattle.journal_model.specs.declared.verdict.Verdict.{Verdict}
 use Rattle.journal_model.specs.declared.verdict.Verdict.TheVariants.{Ended, Unsent}
 use Rattle.journal_model.specs.declared.entry.What.{What}
-use Rattle.journal_model.specs.declared.entry.What.TheVariants.{Claim, Ask, Lost, Note, Answer as Answered}
+use Rattle.journal_model.specs.declared.entry.What.TheVariants.{Claim, Lead, Ask, Lost, Note, Answer as Answered}
 use Rattle.journal_model.specs.declared.entry.Entry.{Entry}
 use Rattle.journal_model.specs.Journal.{any, verdict_of, why_of, addressed, is_tagged}
 use Rattle.task_run.specs.Askers.{Asking, Noting}
@@ -19,15 +19,29 @@ abbrev pub lost_verdict : Option Why → Verdict
 lost_verdict None = Unsent
 lost_verdict (Some why) = Ended why
 
--- What the entry asks for task t, where it stands after past: the request that an Ask spells with its tag taken off, if
--- its job was settled; or a request that found its child ended or mute.
+-- the name that an EXPORT says
+abbrev pub name_in : Option HostMessage → Option (List ℕ)
+name_in (Some (Export name)) = Some name
+name_in q = None
+
+-- the name that the entry says for this job
+abbrev pub name_said : List Entry → ℕ → ℕ → What → Option (List ℕ)
+name_said past child job (Lead c j line) = if c == child && j == job then name_in (host_reading (addressed past child line).1) else None
+name_said past child job w = None
+
+-- the name that stands just before the request of this job
+abbrev pub name_before : List Entry → ℕ → ℕ → Option (List ℕ)
+name_before past child job = option_and_then (λ e. name_said past child job e.what) (last_or None past)
+
+-- What the entry asks for task t, where it stands after past: the request that an Ask spells with its tag taken off, and the name before
+-- it, if its job was settled; or a request that found its child ended or mute.
 abbrev pub asking_of : List Entry → ℕ → List Entry → What → Option Asking
 asking_of journal t past (Ask child job task line) =
     if task == t
-    then option_map (λ v. record { request = host_reading (addressed past child line).1; verdict = v }) (verdict_of journal child job)
+    then option_map (λ v. record { request = host_reading (addressed past child line).1; name = name_before past child job; verdict = v }) (verdict_of journal child job)
     else None
 asking_of journal t past (Lost child task) =
-    if task == t then Some (record { request = None; verdict = lost_verdict (why_of past child) }) else None
+    if task == t then Some (record { request = None; name = None; verdict = lost_verdict (why_of past child) }) else None
 asking_of journal t past _ = None
 
 -- the askings of the entries in order, by recursion with what stands before

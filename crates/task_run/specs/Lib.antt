@@ -9,8 +9,9 @@ pub mod Checks
 pub mod Drops
 pub mod Stores
 pub mod Gets
-pub mod Runs
+pub mod TaskCalls
 pub mod Exports
+pub mod Runs
 pub mod ExportRows
 pub mod Rows
 pub mod TaskRuns

@@ -3,7 +3,7 @@ use Rattle.std.specs.Prelude.{ℕ, ◌≡◌, ◌≤◌, ◌+◌, ◌⊎◌, Boo
 use Rattle.ann_key.specs.declared.bytes.NoMemory.{NoMemory}
 use Rattle.journal_model.specs.declared.verdict.Verdict.{Verdict}
 use Rattle.journal_model.specs.declared.verdict.Verdict.TheVariants.{Done as DoneAt, Failed as FailedAt, Absent as AbsentAt, Unknown as UnknownAt, Unsupported as UnsupportedAt, Ended, Unsent}
-use Rattle.annex_model.specs.Messages.{HostMessage, Checkpresent}
+use Rattle.annex_model.specs.Messages.{HostMessage, Checkpresent, Checkpresentexport}
 use Rattle.task_text.specs.declared.task.Task.{Task}
 use Rattle.task_text.specs.declared.task.Work.{Work}
 use Rattle.task_text.specs.declared.task.Work.TheVariants.{Store, Drop}
@@ -52,9 +52,12 @@ is_verdict_of q Unsent = true
 is_verdict_of q (DoneAt at) = true
 is_verdict_of q (UnsupportedAt at) = true
 is_verdict_of (Checkpresent key) (FailedAt at) = false
+is_verdict_of (Checkpresentexport key) (FailedAt at) = false
 is_verdict_of q (FailedAt at) = true
 is_verdict_of (Checkpresent key) (AbsentAt at) = true
 is_verdict_of (Checkpresent key) (UnknownAt at) = true
+is_verdict_of (Checkpresentexport key) (AbsentAt at) = true
+is_verdict_of (Checkpresentexport key) (UnknownAt at) = true
 is_verdict_of q v = false
 
 -- the answer of a store, a get or a drop by a verdict that isn't Done; of Absent and Unknown, which its requests can't have, there is none

@@ -20,10 +20,14 @@ abbrev pub setup_of : ℕ → Setup
 setup_of chunk = record { work = codes "w"; stamp = 1700000000000000; chunk = chunk }
 
 abbrev pub asks : HostMessage → Verdict → Asking
-asks q v = record { request = Some q; verdict = v }
+asks q v = record { request = Some q; name = None; verdict = v }
 
 abbrev pub notes : ℕ → ℕ → ℕ → Noting
 notes chunk count behind = record { chunk = chunk; count = count; behind = behind }
+
+-- the request follows this name
+abbrev pub asks_named : List ℕ → HostMessage → Verdict → Asking
+asks_named name q v = record { request = Some q; name = Some name; verdict = v }
 
 -- ---- plain
 
@@ -146,7 +150,7 @@ finds_ten = asks (Checkpresent c1) (Done 13) ∷ asks (Checkpresent c2) (Done 16
 
 -- the first is there, and the child was gone at the second
 abbrev pub lost_ten : List Asking
-lost_ten = asks (Checkpresent c1) (Done 13) ∷ record { request = None; verdict = Ended Eof } ∷ []
+lost_ten = asks (Checkpresent c1) (Done 13) ∷ record { request = None; name = None; verdict = Ended Eof } ∷ []
 
 -- the file shrank after the second chunk
 abbrev pub stored_short : List Call

@@ -1,7 +1,6 @@
 -- What a task asked, did at its desk and noted, and how it is answered.
-use Rattle.std.specs.Prelude.{ℕ, ◌≡◌, ◌+◌, ◌==◌, ◌&&◌, not, if◌then◌else◌, Bool, true, List, [], ◌∷◌, ◌++◌, length, IfSome, is_some}
+use Rattle.std.specs.Prelude.{ℕ, ◌≡◌, ◌==◌, ◌&&◌, not, Bool, true, List, [], IfSome, is_some}
 use Rattle.std.specs.Bool.{MatchBool}
-use Rattle.std.specs.List.{list_all}
 use Rattle.ann_key.specs.Keys.{Parts, key_reading}
 use Rattle.task_text.specs.declared.task.Work.{Work}
 use Rattle.task_text.specs.declared.task.Work.TheVariants.{Store, Get, Check, Drop}
@@ -10,34 +9,18 @@ use Rattle.ann_outside.specs.declared.file_desk.Call.{Call}
 use Rattle.task_run.specs.Askers.{Asking, Noting}
 use Rattle.journal_model.specs.declared.answer.Answer.{Answer}
 use Rattle.task_run.specs.declared.setup.Setup.{Setup}
-use Rattle.task_run.specs.Stops.{asking_stop, call_stop, is_stop_last, stops_of, AnsweredBy, is_done}
-use Rattle.task_run.specs.Names.{chunk_files, fetch_file, fetch_files, part_of}
+use Rattle.task_run.specs.Stops.{asking_stop, call_stop, is_stop_last, stops_of, AnsweredBy}
+use Rattle.task_run.specs.Names.{part_of}
 use Rattle.task_run.specs.Layouts.{sizes_tried, layouts_tried}
-use Rattle.task_run.specs.Discipline.{name_only, change_only, size_of_only, changes_as_result, are_found}
+use Rattle.task_run.specs.Discipline.{are_found}
+use Rattle.task_run.specs.TaskCalls.{StoreCalls, GetCalls}
 use Rattle.task_run.specs.Checks.{CheckAsks, CheckAnswers}
 use Rattle.task_run.specs.Drops.{DropAsks, DropAnswers}
 use Rattle.task_run.specs.Stores.{PlainStoreAsks, PlainStoreAnswers, ChunkStoreAsks, ChunkStoreAnswers}
 use Rattle.task_run.specs.Gets.{GetAsks, GetAnswers}
+use Rattle.task_run.specs.Exports.{ExportAsks, ExportAnswers}
 
--- the files that the requests fetched which are done
-abbrev pub fetched_files : Setup → ℕ → ℕ → List Asking → List (List ℕ)
-fetched_files setup t n [] = []
-fetched_files setup t n (a ∷ more) = (if is_done a then fetch_file setup t n ∷ [] else []) ++ fetched_files setup t (n + 1) more
-
--- A store names its file and its chunk files, and changes its chunk files alone. It asks the length of its file.
-pub record StoreCalls (setup : Setup) (t : ℕ) (file : List ℕ) (asked : List Asking) (calls : List Call) : Type 0 where
-  pub names : name_only (file ∷ chunk_files setup t (length asked + 1)) calls ≡ true
-  pub changes : change_only (chunk_files setup t (length asked + 1)) calls ≡ true
-  pub lengths : size_of_only (file ∷ []) calls ≡ true
-
--- A get names its file, part and the files that it fetches, and changes its file only by renaming part to it, or removing it as a fetched
--- file. It asks the length of part, and of a file that was fetched.
-pub record GetCalls (setup : Setup) (t : ℕ) (file : List ℕ) (asked : List Asking) (calls : List Call) : Type 0 where
-  pub names : name_only (file ∷ part_of file ∷ fetch_files setup t (length asked)) calls ≡ true
-  pub changes : list_all (changes_as_result file (fetch_files setup t (length asked))) calls ≡ true
-  pub lengths : size_of_only (part_of file ∷ fetched_files setup t 1 asked) calls ≡ true
-
--- ---- by the work. What a task of an export asks is in Exports, and no run of one is a run here yet
+-- ---- by the work
 
 -- content is stored in chunks where a chunk size is set and the key says the content's size
 abbrev pub is_chunked : Setup → Parts → Bool
@@ -52,7 +35,7 @@ WorkAsks setup t task key layouts Get asked calls noted =
     GetCalls setup t task.file asked calls × GetAsks setup t key (sizes_tried key layouts) task.file asked calls × (noted ≡ [])
 WorkAsks setup t task key layouts Check asked calls noted = CheckAsks (layouts_tried key layouts) asked × (calls ≡ []) × (noted ≡ [])
 WorkAsks setup t task key layouts Drop asked calls noted = DropAsks key (sizes_tried key layouts) asked noted × (calls ≡ [])
-WorkAsks setup t task key layouts _ asked calls noted = ⊥
+WorkAsks setup t task key layouts work asked calls noted = ExportAsks setup t task key work asked calls noted
 
 abbrev pub WorkAnswers : Setup → ℕ → Task → Parts → List (ℕ × ℕ) → Work → List Asking → List Call → List Noting → Answer → Type 0
 WorkAnswers setup t task key layouts Store asked calls noted answer =
@@ -60,7 +43,7 @@ WorkAnswers setup t task key layouts Store asked calls noted answer =
 WorkAnswers setup t task key layouts Get asked calls noted answer = GetAnswers setup t key (sizes_tried key layouts) task.file asked calls answer
 WorkAnswers setup t task key layouts Check asked calls noted answer = CheckAnswers (layouts_tried key layouts) asked answer
 WorkAnswers setup t task key layouts Drop asked calls noted answer = DropAnswers key (sizes_tried key layouts) asked answer
-WorkAnswers setup t task key layouts _ asked calls noted answer = ⊥
+WorkAnswers setup t task key layouts work asked calls noted answer = ExportAnswers setup t task key work asked calls answer
 
 -- ---- any task
 

@@ -1,5 +1,5 @@
 -- A task that is run twice, as an example.
-use Rattle.std.specs.Prelude.{List, [], ◌∷◌, ◌++◌, codes, Some}
+use Rattle.std.specs.Prelude.{List, [], ◌∷◌, ◌++◌, codes, Some, None}
 use Rattle.annex_model.specs.Messages.{Remove}
 use Rattle.journal_model.specs.declared.answer.Answer.TheVariants.{Dropped, Failed as FailedAnswer}
 use Rattle.journal_model.specs.declared.verdict.Verdict.{Verdict}
@@ -35,4 +35,4 @@ abbrev pub dropped_twice : List Entry
 dropped_twice = greeting ++ by_main (Claim 1 1) ∷ first_within ++ by_main (Answered 1 (FailedAnswer 13)) ∷ second_run
 
 abbrev pub removes : Verdict → List Asking
-removes v = record { request = Some (Remove (codes "WORM--a")); verdict = v } ∷ []
+removes v = record { request = Some (Remove (codes "WORM--a")); name = None; verdict = v } ∷ []

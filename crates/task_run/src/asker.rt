@@ -4,8 +4,8 @@ ghost use Rattle.annex_model.specs.Messages.{is_askable};
 ghost use Rattle.annex_model.specs.Turns.{turn_of};
 ghost use Rattle.annex_model.specs.declared.turn.Turn.TheVariants.{Later};
 ghost use Rattle.journal_model.specs.Projection.{IsNamed};
-ghost use Rattle.talk_serial.specs.Requests.{message_of};
-ghost use Rattle.task_run.specs.Askers.{Asking, Noting, AskAdds, NoteAdds, IsSameTask, names_in_line, are_layouts};
+ghost use Rattle.talk_serial.specs.Requests.{message_of, name_of};
+ghost use Rattle.task_run.specs.Askers.{Asking, Noting, AskAdds, NoteAdds, IsSameTask, names_in_line, is_said_in_line, are_layouts};
 
 use ann_key::NoMemory;
 use chunk_log::Layouts;
@@ -15,7 +15,7 @@ use talk_serial::Request;
 
 /// The way of one task to its child: it asks requests one after the other, and notes what chunks the remote has.
 pub trait Asker {
-    // the requests that were settled so far, with their verdicts
+    // the requests that were settled so far, with their names and verdicts
     ghost pairs: { Self → List Asking };
 
     // the notes so far
@@ -45,7 +45,8 @@ pub trait Asker {
         requires turn { turn_of (message_of request.now) ≡ Later }
         requires fields { is_askable (message_of request.now) ≡ true }
         requires file { names_in_line (message_of request.now) ≡ true }
-        ensures pairs { AskAdds (pairs self.old) (pairs self.new) (message_of request.now) result }
+        requires name { is_said_in_line (name_of request.now) ≡ true }
+        ensures pairs { AskAdds (pairs self.old) (pairs self.new) (name_of request.now) (message_of request.now) result }
         ensures named { IfOk result (IsNamed (message_of request.now)) }
         ensures notes { notes self.new ≡ notes self.old }
         ensures layouts { current self.new ≡ current self.old }

@@ -11,7 +11,7 @@ ghost use Rattle.task_run.specs.TaskRuns.{askings, CheckRun, CheckTask};
 
 /// A check that found its key asked for it once, and is answered so alone.
 pub fn check_present_runs()
-    ensures asked { askings check_present 1 ≡ record { request = Some (Checkpresent sample_key); verdict = Done 13 } ∷ [] }
+    ensures asked { askings check_present 1 ≡ record { request = Some (Checkpresent sample_key); name = None; verdict = Done 13 } ∷ [] }
     ensures open { askings (greeting ++ asking) 1 ≡ [] }
     ensures other { askings check_present 2 ≡ [] }
     ensures present { CheckRun sample_key (askings check_present 1) Present }
@@ -23,28 +23,28 @@ pub fn check_present_runs()
 /// What a remote doesn't know of a key is neither present nor absent; a request that it doesn't know is told as that; and no
 /// line says that a check failed.
 pub fn check_unknown_runs()
-    ensures asked { askings away 1 ≡ record { request = Some (Checkpresent sample_key); verdict = Unknown 15 } ∷ [] }
+    ensures asked { askings away 1 ≡ record { request = Some (Checkpresent sample_key); name = None; verdict = Unknown 15 } ∷ [] }
     ensures unknown { CheckRun sample_key (askings away 1) (UnknownAnswer 15) }
     ensures absent { CheckRun sample_key (askings away 1) AbsentAnswer → ⊥ }
-    ensures unsupported { CheckRun sample_key (record { request = Some (Checkpresent sample_key); verdict = Unsupported 13 } ∷ []) UnsupportedAnswer }
-    ensures failed { (answer : Answer) → CheckRun sample_key (record { request = Some (Checkpresent sample_key); verdict = Failed 13 } ∷ []) answer → answer ≡ Memory }
+    ensures unsupported { CheckRun sample_key (record { request = Some (Checkpresent sample_key); name = None; verdict = Unsupported 13 } ∷ []) UnsupportedAnswer }
+    ensures failed { (answer : Answer) → CheckRun sample_key (record { request = Some (Checkpresent sample_key); name = None; verdict = Failed 13 } ∷ []) answer → answer ≡ Memory }
 {}
 
 /// The requests of a tagged child are kept without their tags.
 pub fn crossed_runs()
-    ensures first { askings crossed 1 ≡ record { request = Some (Checkpresent (codes "WORM--a")); verdict = Absent 16 } ∷ [] }
-    ensures second { askings crossed 2 ≡ record { request = Some (Checkpresent (codes "WORM--b")); verdict = Done 14 } ∷ [] }
-    ensures ended { askings tag_left_off 1 ≡ record { request = Some (Checkpresent (codes "WORM--a")); verdict = Ended (Foul 14) } ∷ [] }
+    ensures first { askings crossed 1 ≡ record { request = Some (Checkpresent (codes "WORM--a")); name = None; verdict = Absent 16 } ∷ [] }
+    ensures second { askings crossed 2 ≡ record { request = Some (Checkpresent (codes "WORM--b")); name = None; verdict = Done 14 } ∷ [] }
+    ensures ended { askings tag_left_off 1 ≡ record { request = Some (Checkpresent (codes "WORM--a")); name = None; verdict = Ended (Foul 14) } ∷ [] }
 {}
 
 /// A request that found its child ended stands for that end, also where the child was mute; one that found it mute alone was
 /// not sent.
 pub fn lost_runs()
-    ensures ended { askings (greeting ++ by_main (Claim 1 1) ∷ by_main (Mute 1) ∷ by_main (End 1 Eof) ∷ by_main (Lost 1 1) ∷ []) 1 ≡ record { request = None; verdict = Ended Eof } ∷ [] }
-    ensures mute { askings (greeting ++ by_main (Claim 1 1) ∷ by_main (Mute 1) ∷ by_main (Lost 1 1) ∷ by_main (End 1 Eof) ∷ []) 1 ≡ record { request = None; verdict = Unsent } ∷ [] }
-    ensures answer { CheckRun sample_key (record { request = None; verdict = Ended Eof } ∷ []) (EndedAnswer Eof) }
+    ensures ended { askings (greeting ++ by_main (Claim 1 1) ∷ by_main (Mute 1) ∷ by_main (End 1 Eof) ∷ by_main (Lost 1 1) ∷ []) 1 ≡ record { request = None; name = None; verdict = Ended Eof } ∷ [] }
+    ensures mute { askings (greeting ++ by_main (Claim 1 1) ∷ by_main (Mute 1) ∷ by_main (Lost 1 1) ∷ by_main (End 1 Eof) ∷ []) 1 ≡ record { request = None; name = None; verdict = Unsent } ∷ [] }
+    ensures answer { CheckRun sample_key (record { request = None; name = None; verdict = Ended Eof } ∷ []) (EndedAnswer Eof) }
     ensures memory { CheckRun sample_key [] Memory }
-    ensures kept { CheckRun sample_key (record { request = None; verdict = Done 13 } ∷ []) Present → ⊥ }
+    ensures kept { CheckRun sample_key (record { request = None; name = None; verdict = Done 13 } ∷ []) Present → ⊥ }
 {}
 
 /// A check over a child is answered as its request; without one as the start that failed, or as the child that wasn't ready:

@@ -147,7 +147,7 @@ pub fn other_digest_runs(digest: Digest)
     ensures hash { TaskRun get_md5 1 (setup_of 0) ((2, 2) ∷ []) gets_md5 resumed_foo [] (HashAnswer digest) }
 {}
 
-/// Got is answered by a get alone, and only where all that was read fits the key.
+/// Got is answered by a get alone, in a layout or under a name, and only where all that was read fits the key.
 pub fn got_needs_fit()
     ensures { GotNeedsFit }
 {}

@@ -18,7 +18,8 @@ use Rattle.task_run.specs.Requests.{AsksFor, AskInOrder}
 use Rattle.task_run.specs.Layouts.{parts_of_layout}
 use Rattle.task_run.specs.Checks.{present_request}
 use Rattle.task_run.specs.Stores.{is_next_copied, chunk_request, found, transfers, ChunkStoreAsks}
-use Rattle.task_run.specs.Runs.{RunOf, StoreCalls}
+use Rattle.task_run.specs.Runs.{RunOf}
+use Rattle.task_run.specs.TaskCalls.{StoreCalls}
 use Rattle.task_store.specs.ChunkStoring.{chunk_keys}
 use Rattle.task_run.proofs.Texts.{same_name}
 use Rattle.task_run.proofs.Lists.{but_last, all_taken}
@@ -222,28 +223,28 @@ gone_kept setup t key text file layouts size there a answer k o s q =
       each_removed = refl;
     }
 
-gone_lost : (setup : Setup) (t : ℕ) (key : Parts) (text file : List ℕ) (layouts : List (ℕ × ℕ)) (size : ℕ) (there : List Asking) (v : Verdict) (answer : Answer) → Asked setup key size there
+gone_lost : (setup : Setup) (t : ℕ) (key : Parts) (text file : List ℕ) (layouts : List (ℕ × ℕ)) (size : ℕ) (there : List Asking) (name : Option (List ℕ)) (v : Verdict) (answer : Answer) → Asked setup key size there
     → is_gone v ≡ true → length there < count_of size setup.chunk → verdict_stop true v ≡ Some answer
-    → RunOf setup t (store_task text file) key layouts (there ++ record { request = None; verdict = v } ∷ []) (with_size file size []) [] answer
-gone_lost setup t key text file layouts size there v answer k gone few s =
+    → RunOf setup t (store_task text file) key layouts (there ++ record { request = None; name = name; verdict = v } ∷ []) (with_size file size []) [] answer
+gone_lost setup t key text file layouts size there name v answer k gone few s =
     run_asking_stop setup t key text file layouts there a (with_size file size []) answer (chunked_is setup key size k.chunked) (sized_calls setup t file size (there ++ a ∷ []))
     (asks_of setup t key file size (length there) there (a ∷ []) [] [] k.chunked pieces refl (λ some. absurd (some refl))) refl (all_done_free there k.each_there) (stops_anyhow v false answer s) refl
   where
     a : Asking
-    a = record { request = None; verdict = v }
+    a = record { request = None; name = name; verdict = v }
 
-    by_rest : (m : ℕ) → 0 < m → AskInOrder (chunk_request setup t) (length there + 1) (chunk_keys key setup.chunk (length there + 1) m) (record { request = None; verdict = v } ∷ [])
+    by_rest : (m : ℕ) → 0 < m → AskInOrder (chunk_request setup t) (length there + 1) (chunk_keys key setup.chunk (length there + 1) m) (record { request = None; name = name; verdict = v } ∷ [])
     by_rest zero h = absurd (omega arith)
     by_rest (suc m) h = (gone, tt)
 
-    next_is : is_next_copied setup t file (with_size file size []) (length (there ++ record { request = None; verdict = v } ∷ []) + 1)
+    next_is : is_next_copied setup t file (with_size file size []) (length (there ++ record { request = None; name = name; verdict = v } ∷ []) + 1)
         (drop 1 (chunk_parts setup key size (length there + 1) (count_of size setup.chunk - length there))) ≡ true
     next_is =
         let P : List Part → Type 0 = λ l. is_next_copied setup t file (with_size file size []) (length (there ++ a ∷ []) + 1) l ≡ true in
         subst P (sym (drop_range setup key size 1 (length there + 1) (count_of size setup.chunk - length there)))
         (next_of setup t key file size (length (there ++ a ∷ []) + 1) (length there + 1 + 1) (count_of size setup.chunk - length there - 1) (with_size file size []) (λ some. refl))
 
-    pieces : Pieces setup t key file size (length there) there (record { request = None; verdict = v } ∷ []) []
+    pieces : Pieces setup t key file size (length there) there (record { request = None; name = name; verdict = v } ∷ []) []
     pieces = record {
       split = there_split setup key size there (a ∷ []) k refl;
       no_size = refl;
@@ -263,8 +264,8 @@ pub asked_gone : (setup : Setup) (t : ℕ) (key : Parts) (text file : List ℕ) 
 asked_gone setup t key text file layouts size there a answer k o s =
     by_request a.request o (last_asks present_request key setup.chunk 1 1 (count_of size setup.chunk) there a o)
   where
-    by_request : (request : Option HostMessage) → AskInOrder present_request 1 (chunk_keys key setup.chunk 1 (count_of size setup.chunk)) (there ++ record { request = request; verdict = a.verdict } ∷ [])
-        → AsksFor present_request (1 + length there) (with_chunk setup.chunk (1 + length there) key) (record { request = request; verdict = a.verdict }) × (length there < count_of size setup.chunk)
-        → RunOf setup t (store_task text file) key layouts (there ++ record { request = request; verdict = a.verdict } ∷ []) (with_size file size []) [] answer
-    by_request None o r = gone_lost setup t key text file layouts size there a.verdict answer k r.0 r.1 s
-    by_request (Some q) o r = gone_kept setup t key text file layouts size there (record { request = Some q; verdict = a.verdict }) answer k o s (rw r.0.0 refl)
+    by_request : (request : Option HostMessage) → AskInOrder present_request 1 (chunk_keys key setup.chunk 1 (count_of size setup.chunk)) (there ++ record { request = request; name = a.name; verdict = a.verdict } ∷ [])
+        → AsksFor present_request (1 + length there) (with_chunk setup.chunk (1 + length there) key) (record { request = request; name = a.name; verdict = a.verdict }) × (length there < count_of size setup.chunk)
+        → RunOf setup t (store_task text file) key layouts (there ++ record { request = request; name = a.name; verdict = a.verdict } ∷ []) (with_size file size []) [] answer
+    by_request None o r = gone_lost setup t key text file layouts size there a.name a.verdict answer k r.0 r.1 s
+    by_request (Some q) o r = gone_kept setup t key text file layouts size there (record { request = Some q; name = a.name; verdict = a.verdict }) answer k o s (rw r.0.0 refl)

@@ -22,7 +22,8 @@ use Rattle.task_run.specs.Layouts.{parts_of_layout}
 use Rattle.task_run.specs.Discipline.{are_found}
 use Rattle.task_run.specs.Checks.{present_request}
 use Rattle.task_run.specs.Stores.{is_size_call, are_whole, are_removed, is_next_copied, chunk_request, questions, found, transfers, ChunkStoreAsks}
-use Rattle.task_run.specs.Runs.{RunOf, StoreCalls, WorkAnswers, is_chunked}
+use Rattle.task_run.specs.Runs.{RunOf, WorkAnswers, is_chunked}
+use Rattle.task_run.specs.TaskCalls.{StoreCalls}
 use Rattle.task_store.specs.ChunkStoring.{chunk_keys, is_missing_at, IsSought}
 use Rattle.task_run.proofs.Texts.{same_name, apart}
 use Rattle.task_run.proofs.GetCallsLaws.{nat_same}

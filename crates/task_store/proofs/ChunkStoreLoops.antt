@@ -47,21 +47,21 @@ pub record Seeking (key : Parts) (chunk count : ℕ) (before after : List Asking
   pub each_there : list_all is_done there ≡ true
   pub so_many : length there ≡ n
 
-present_any : (n m : ℕ) (key : Parts) (request : Option HostMessage) (v : Verdict) → AsksFor present_request n key (record { request = request; verdict = v })
-    → AsksFor present_request m key (record { request = request; verdict = v })
+present_any : (n m : ℕ) (key : Parts) (request : Option HostMessage) (v : Verdict) → AsksFor present_request n key (record { request = request; name = None; verdict = v })
+    → AsksFor present_request m key (record { request = request; name = None; verdict = v })
 present_any n m key None v h = h
 present_any n m key (Some q) v h = h
 
 one_more : (key : Parts) (chunk count n : ℕ) (before between after : List Asking) (v : Verdict) → (s : Seeking key chunk count before between n) → n < count
     → (o : AsksOneFor present_request (with_chunk chunk (n + 1) key) between after v)
-    → AskInOrder present_request 1 (chunk_keys key chunk 1 count) (s.there ++ record { request = o.request; verdict = v } ∷ [])
+    → AskInOrder present_request 1 (chunk_keys key chunk 1 count) (s.there ++ record { request = o.request; name = None; verdict = v } ∷ [])
 one_more key chunk count n before between after v s low o =
-    order_more present_request (λ number. with_chunk chunk number key) 1 1 count s.there (record { request = o.request; verdict = v }) s.in_order (omega (arith, s.so_many))
+    order_more present_request (λ number. with_chunk chunk number key) 1 1 count s.there (record { request = o.request; name = None; verdict = v }) s.in_order (omega (arith, s.so_many))
     (at_place (1 + length s.there) (omega (arith, s.so_many)))
   where
-    at_place : (k : ℕ) → k ≡ n + 1 → AsksFor present_request k (with_chunk chunk k key) (record { request = o.request; verdict = v })
+    at_place : (k : ℕ) → k ≡ n + 1 → AsksFor present_request k (with_chunk chunk k key) (record { request = o.request; name = None; verdict = v })
     at_place k e =
-        let P : ℕ → Type 0 = λ i. AsksFor present_request k (with_chunk chunk i key) (record { request = o.request; verdict = v }) in
+        let P : ℕ → Type 0 = λ i. AsksFor present_request k (with_chunk chunk i key) (record { request = o.request; name = None; verdict = v }) in
         subst P (sym e) (present_any 1 k (with_chunk chunk (n + 1) key) o.request v o.asks)
 
 joined : (before between after there : List Asking) (a : Asking) → between ≡ before ++ there → after ≡ between ++ a ∷ [] → after ≡ before ++ (there ++ a ∷ [])
@@ -70,33 +70,33 @@ joined before between after there a e f = f ∙ ap (λ l. l ++ a ∷ []) e ∙ a
 pub seeking_more : (key : Parts) (chunk count n : ℕ) (before between after : List Asking) (v : Verdict) → Seeking key chunk count before between n → n < count
     → AsksOneFor present_request (with_chunk chunk (n + 1) key) between after v → is_done_at v ≡ true → Seeking key chunk count before after (n + 1)
 seeking_more key chunk count n before between after v s low o d = record {
-  there = s.there ++ record { request = o.request; verdict = v } ∷ [];
-  pairs_are = joined before between after s.there (record { request = o.request; verdict = v }) s.pairs_are o.added;
+  there = s.there ++ record { request = o.request; name = None; verdict = v } ∷ [];
+  pairs_are = joined before between after s.there (record { request = o.request; name = None; verdict = v }) s.pairs_are o.added;
   in_order = one_more key chunk count n before between after v s low o;
-  each_there = all_more is_done s.there (record { request = o.request; verdict = v } ∷ []) s.each_there (rw d refl);
-  so_many = length-append s.there (record { request = o.request; verdict = v } ∷ []) ∙ ap (λ k. k + 1) s.so_many;
+  each_there = all_more is_done s.there (record { request = o.request; name = None; verdict = v } ∷ []) s.each_there (rw d refl);
+  so_many = length-append s.there (record { request = o.request; name = None; verdict = v } ∷ []) ∙ ap (λ k. k + 1) s.so_many;
 }
 
 pub seeks_missing : (key : Parts) (chunk count n : ℕ) (before between after : List Asking) (v : Verdict) → Seeking key chunk count before between n → n < count
     → AsksOneFor present_request (with_chunk chunk (n + 1) key) between after v → is_missing_at v ≡ true → Seeks key chunk count before after (Ok (Missing n))
 seeks_missing key chunk count n before between after v s low o d = record {
   there = s.there;
-  last = record { request = o.request; verdict = v } ∷ [];
-  pairs_are = joined before between after s.there (record { request = o.request; verdict = v }) s.pairs_are o.added;
+  last = record { request = o.request; name = None; verdict = v } ∷ [];
+  pairs_are = joined before between after s.there (record { request = o.request; name = None; verdict = v }) s.pairs_are o.added;
   in_order = one_more key chunk count n before between after v s low o;
   each_there = s.each_there;
-  ends = (sym s.so_many, (record { request = o.request; verdict = v }, refl, d));
+  ends = (sym s.so_many, (record { request = o.request; name = None; verdict = v }, refl, d));
 }
 
 pub seeks_over : (key : Parts) (chunk count n : ℕ) (before between after : List Asking) (v : Verdict) (answer : Answer) → Seeking key chunk count before between n → n < count
     → AsksOneFor present_request (with_chunk chunk (n + 1) key) between after v → verdict_stop true v ≡ Some answer → Seeks key chunk count before after (Ok (Over answer))
 seeks_over key chunk count n before between after v answer s low o d = record {
   there = s.there;
-  last = record { request = o.request; verdict = v } ∷ [];
-  pairs_are = joined before between after s.there (record { request = o.request; verdict = v }) s.pairs_are o.added;
+  last = record { request = o.request; name = None; verdict = v } ∷ [];
+  pairs_are = joined before between after s.there (record { request = o.request; name = None; verdict = v }) s.pairs_are o.added;
   in_order = one_more key chunk count n before between after v s low o;
   each_there = s.each_there;
-  ends = (record { request = o.request; verdict = v }, refl, d);
+  ends = (record { request = o.request; name = None; verdict = v }, refl, d);
 }
 
 -- ---- chunks

@@ -108,8 +108,8 @@ split_of qs ts f h k n = record {
     q : questions (qs ++ ts) ≡ length qs
     q = count_front is_question qs ts h k
 
-question_of : (key : Parts) (n : ℕ) (request : Option HostMessage) (v : Verdict) → AsksFor present_request n key (record { request = request; verdict = v }) → is_gone v ≡ false
-    → is_question (record { request = request; verdict = v }) ≡ true
+question_of : (key : Parts) (n : ℕ) (request : Option HostMessage) (v : Verdict) → AsksFor present_request n key (record { request = request; name = None; verdict = v }) → is_gone v ≡ false
+    → is_question (record { request = request; name = None; verdict = v }) ≡ true
 question_of key n None v h g = apart (sym g ∙ h)
 question_of key n (Some q) v h g = rw h.0 refl
 

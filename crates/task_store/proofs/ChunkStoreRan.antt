@@ -21,13 +21,15 @@ use Rattle.task_run.specs.declared.setup.Setup.{Setup}
 use Rattle.task_run.specs.Names.{part_of}
 use Rattle.task_run.specs.Layouts.{parts_of_layout}
 use Rattle.task_run.specs.Stores.{is_size, is_copied, is_next_copied, begins_with_size, ChunkStoreAsks}
-use Rattle.task_run.specs.Runs.{RunOf, TaskRun, StoreCalls, is_chunked}
+use Rattle.task_run.specs.Runs.{RunOf, TaskRun, is_chunked}
+use Rattle.task_run.specs.TaskCalls.{StoreCalls}
 use Rattle.task_run.specs.Ran.{RanStore, IsInChunks, answered, refusal}
 use Rattle.task_store.specs.ChunkStoring.{StoresSized}
 use Rattle.task_run.proofs.Texts.{same_name, other_name, longer_differs, apart}
 use Rattle.task_run.proofs.PlainRuns.{of_reading}
 use Rattle.task_store.proofs.ChunkStoreEnds.{store_task}
 use Rattle.task_run.proofs.NamedRuns.{nameless, with_names}
+use Rattle.task_text.specs.Works.{has_name}
 
 as_store : (task : Task) → task.work ≡ W.Store → nameless task ≡ store_task task.key task.file
 as_store task e = ap (λ w. record { work = w; key = task.key; file = task.file; name = []; onto = [] }) e
@@ -38,7 +40,7 @@ store_run : (task : Task) (t : ℕ) (setup : Setup) (key : Parts) (layouts : Lis
 store_run task t setup key layouts asked calls noted answer w r h =
     let P : Task → Type 0 = λ j. TaskRun j t setup layouts asked calls noted answer in
     let Q : Parts → Type 0 = λ k. RunOf setup t (store_task task.key task.file) k layouts asked calls noted answer in
-    with_names task t setup layouts asked calls noted answer
+    with_names task t setup layouts asked calls noted answer (ap has_name w)
     (subst P (sym (as_store task w)) (of_reading task.key (λ k. RunOf setup t (store_task task.key task.file) k layouts asked calls noted answer)
     (λ k e. let same : key ≡ k = one key k (sym r ∙ e) in subst Q same h)))
   where

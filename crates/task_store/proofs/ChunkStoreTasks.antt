@@ -210,13 +210,13 @@ within_front to xs ys zs h =
     let s : list_all (reads_before to) ((xs ++ ys) ++ zs) ≡ (list_all (reads_before to) (xs ++ ys) && list_all (reads_before to) zs) = list_all-append (reads_before to) (xs ++ ys) zs in
     (and_parts (list_all (reads_before to) (xs ++ ys)) (list_all (reads_before to) zs) (sym s ∙ k)).0
 
-pub asks_as : (setup : Setup) (t n : ℕ) (key : Parts) (request : Option HostMessage) (v : Verdict) → AsksFor (from_file (chunk_file setup t n)) 1 key (record { request = request; verdict = v })
-    → AsksFor (chunk_request setup t) n key (record { request = request; verdict = v })
+pub asks_as : (setup : Setup) (t n : ℕ) (key : Parts) (request : Option HostMessage) (v : Verdict) → AsksFor (from_file (chunk_file setup t n)) 1 key (record { request = request; name = None; verdict = v })
+    → AsksFor (chunk_request setup t) n key (record { request = request; name = None; verdict = v })
 asks_as setup t n key None v h = h
 asks_as setup t n key (Some q) v h = h
 
-pub no_question : (name : List ℕ) (key : Parts) (request : Option HostMessage) (v : Verdict) → AsksFor (from_file name) 1 key (record { request = request; verdict = v })
-    → is_question (record { request = request; verdict = v }) ≡ false
+pub no_question : (name : List ℕ) (key : Parts) (request : Option HostMessage) (v : Verdict) → AsksFor (from_file name) 1 key (record { request = request; name = None; verdict = v })
+    → is_question (record { request = request; name = None; verdict = v }) ≡ false
 no_question name key None v h = refl
 no_question name key (Some q) v h = rw h.0 refl
 

@@ -35,17 +35,17 @@ use Rattle.task_run.proofs.Gains.{gained_remove}
 
 -- ---- requests
 
-pub chunk_there : (text : List ℕ) (key : Parts) (before after : List Asking) (r : Result Verdict NoMemory) → IsKey text key → AskAdds before after (Checkpresent text) r
+pub chunk_there : (text : List ℕ) (key : Parts) (before after : List Asking) (r : Result Verdict NoMemory) → IsKey text key → AskAdds before after None (Checkpresent text) r
     → AsksNext present_request key before after r
 chunk_there text key before after (Err e) k a = a
 chunk_there text key before after (Ok v) k a = record { request = a.request; asks = asks_for_check text key a.request v 1 (read_of_spelled text key k) a.kept; added = a.added }
 
 asks_from : (text name : List ℕ) (key : Parts) (request : Option HostMessage) (v : Verdict) → key_reading text ≡ Some key → KeepsRequest (Transfer true text name) request v
-    → AsksFor (from_file name) 1 key (record { request = request; verdict = v })
+    → AsksFor (from_file name) 1 key (record { request = request; name = None; verdict = v })
 asks_from text name key None v e k = k
 asks_from text name key (Some q) v e k = rw k (refl, e)
 
-pub chunk_from : (text name : List ℕ) (key : Parts) (before after : List Asking) (r : Result Verdict NoMemory) → IsKey text key → AskAdds before after (Transfer true text name) r
+pub chunk_from : (text name : List ℕ) (key : Parts) (before after : List Asking) (r : Result Verdict NoMemory) → IsKey text key → AskAdds before after None (Transfer true text name) r
     → AsksNext (from_file name) key before after r
 chunk_from text name key before after (Err e) k a = a
 chunk_from text name key before after (Ok v) k a = record { request = a.request; asks = asks_from text name key a.request v (read_of_spelled text key k) a.kept; added = a.added }
@@ -115,19 +115,19 @@ pub settled_chunk : (file name : List ℕ) (from to : ℕ) (key : Parts) (before
 settled_chunk file name from to key before after a b d v result h o k s = by_test (is_settled_at v) refl s
   where
     one : Asking
-    one = record { request = o.request; verdict = v }
+    one = record { request = o.request; name = None; verdict = v }
 
     by_test : (t : Bool) → is_settled_at v ≡ t → MatchBool t ((r : Outcome) × (d ≡ logged b (Remove name r)) × (result ≡ removal_result (undone_answer v) r)) ((d ≡ b) × (result ≡ Ok (undone_answer v)))
         → StoresChunk file name from to key before after a d result
     by_test true e s = record {
-      how = Settled h.0 h.1 (record { request = o.request; verdict = v }) s.0;
+      how = Settled h.0 h.1 (record { request = o.request; name = None; verdict = v }) s.0;
       pairs_are = o.added;
       calls = gained_more a b d (cut_calls file name from h.0 h.1) (if_made s.0 (Remove name s.0)) h.2 (gained_remove b d name s.0 s.1);
       result_is = s.2;
       so = (h.3, h.4, o.asks, e);
     }
     by_test false e s = record {
-      how = Undone h.0 h.1 (record { request = o.request; verdict = v });
+      how = Undone h.0 h.1 (record { request = o.request; name = None; verdict = v });
       pairs_are = o.added;
       calls = let P : Option Log → Type 0 = λ l. Gained a l (cut_calls file name from h.0 h.1) in subst P (sym s.0) h.2;
       result_is = s.1;

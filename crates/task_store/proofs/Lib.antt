@@ -9,3 +9,4 @@ pub mod ChunkStoreAll
 pub mod ChunkStoreWays
 pub mod ChunkStoreLoops
 pub mod ChunkStoreRan
+pub mod ExportStores

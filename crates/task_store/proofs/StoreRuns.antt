@@ -24,15 +24,17 @@ use Rattle.task_run.specs.Names.{part_of}
 use Rattle.task_run.specs.Requests.{AsksFor, key_named}
 use Rattle.task_run.specs.Stops.{is_question}
 use Rattle.task_run.specs.Stores.{store_request, is_size, PlainStoreAsks}
-use Rattle.task_run.specs.Runs.{RunOf, TaskRun, StoreCalls, is_chunked}
+use Rattle.task_run.specs.Runs.{RunOf, TaskRun, is_chunked}
+use Rattle.task_run.specs.TaskCalls.{StoreCalls}
 use Rattle.task_run.specs.Ran.{RanPlain, answered, is_verdict_of, change_answer, refusal}
 use Rattle.std.specs.Prelude.{unwrap_or}
 use Rattle.task_run.proofs.Texts.{same_name, other_name, longer_differs, apart}
 use Rattle.task_run.proofs.PlainRuns.{of_reading}
 use Rattle.task_run.proofs.NamedRuns.{nameless, with_names}
+use Rattle.task_text.specs.Works.{has_name}
 
 asks_for_store : (text file : List ℕ) (key : Parts) (request : Option HostMessage) (v : Verdict) (n : ℕ) → key_reading text ≡ Some key
-    → KeepsRequest (Transfer true text file) request v → AsksFor (store_request file) n key (record { request = request; verdict = v })
+    → KeepsRequest (Transfer true text file) request v → AsksFor (store_request file) n key (record { request = request; name = None; verdict = v })
 asks_for_store text file key None v n e k = k
 asks_for_store text file key (Some q) v n e k = rw k (refl, e)
 
@@ -94,39 +96,39 @@ store_asks : (key : Parts) (file : List ℕ) (n : ℕ) (a : Asking) → is_size 
     → PlainStoreAsks key file (a ∷ []) (Size file (Ok n) ∷ [])
 store_asks key file n a s h = record { one_call = refl; in_order = rw (same_name file) (rw s (h, tt)) }
 
-no_question : (file : List ℕ) (q : HostMessage) (v : Verdict) (n : ℕ) → q ≡ store_request file n (key_named q) → is_question (record { request = Some q; verdict = v }) ≡ false
+no_question : (file : List ℕ) (q : HostMessage) (v : Verdict) (n : ℕ) → q ≡ store_request file n (key_named q) → is_question (record { request = Some q; name = None; verdict = v }) ≡ false
 no_question file q v n e = rw e refl
 
 store_once : (setup : Setup) (t : ℕ) (key : Parts) (text file : List ℕ) (n : ℕ) (request : Option HostMessage) (v : Verdict)
     → is_chunked setup key ≡ false → is_size key.size n ≡ true
-    → AsksFor (store_request file) 1 key (record { request = request; verdict = v }) → is_verdict_of (Transfer true text file) v ≡ true
-    → RunOf setup t (store_task text file) key [] (record { request = request; verdict = v } ∷ []) (Size file (Ok n) ∷ []) [] (unwrap_or (change_answer Stored v) Memory)
+    → AsksFor (store_request file) 1 key (record { request = request; name = None; verdict = v }) → is_verdict_of (Transfer true text file) v ≡ true
+    → RunOf setup t (store_task text file) key [] (record { request = request; name = None; verdict = v } ∷ []) (Size file (Ok n) ∷ []) [] (unwrap_or (change_answer Stored v) Memory)
 store_once setup t key text file n request (Done at) w s h k = record {
   asked_till_stop = refl;
   calls_till_stop = refl;
   found = refl;
-  work = (store_calls setup t file (record { request = request; verdict = Done at } ∷ []) (Ok n), rw w (store_asks key file n (record { request = request; verdict = Done at }) s h, refl));
+  work = (store_calls setup t file (record { request = request; name = None; verdict = Done at } ∷ []) (Ok n), rw w (store_asks key file n (record { request = request; name = None; verdict = Done at }) s h, refl));
   answered = rw w (record { answered = rw (same_name file) (rw s refl) });
 }
 store_once setup t key text file n request (Failed at) w s h k = record {
   asked_till_stop = refl;
   calls_till_stop = refl;
   found = refl;
-  work = (store_calls setup t file (record { request = request; verdict = Failed at } ∷ []) (Ok n), rw w (store_asks key file n (record { request = request; verdict = Failed at }) s h, refl));
+  work = (store_calls setup t file (record { request = request; name = None; verdict = Failed at } ∷ []) (Ok n), rw w (store_asks key file n (record { request = request; name = None; verdict = Failed at }) s h, refl));
   answered = rw w (record { answered = rw (same_name file) (rw s refl) });
 }
 store_once setup t key text file n request (Ended why) w s h k = record {
   asked_till_stop = refl;
   calls_till_stop = refl;
   found = refl;
-  work = (store_calls setup t file (record { request = request; verdict = Ended why } ∷ []) (Ok n), rw w (store_asks key file n (record { request = request; verdict = Ended why }) s h, refl));
+  work = (store_calls setup t file (record { request = request; name = None; verdict = Ended why } ∷ []) (Ok n), rw w (store_asks key file n (record { request = request; name = None; verdict = Ended why }) s h, refl));
   answered = refl;
 }
 store_once setup t key text file n request Unsent w s h k = record {
   asked_till_stop = refl;
   calls_till_stop = refl;
   found = refl;
-  work = (store_calls setup t file (record { request = request; verdict = Unsent } ∷ []) (Ok n), rw w (store_asks key file n (record { request = request; verdict = Unsent }) s h, refl));
+  work = (store_calls setup t file (record { request = request; name = None; verdict = Unsent } ∷ []) (Ok n), rw w (store_asks key file n (record { request = request; name = None; verdict = Unsent }) s h, refl));
   answered = refl;
 }
 store_once setup t key text file n None (Unsupported at) w s h k = apart h
@@ -134,7 +136,7 @@ store_once setup t key text file n (Some q) (Unsupported at) w s h k = record {
   asked_till_stop = refl;
   calls_till_stop = refl;
   found = refl;
-  work = (store_calls setup t file (record { request = Some q; verdict = Unsupported at } ∷ []) (Ok n), rw w (store_asks key file n (record { request = Some q; verdict = Unsupported at }) s h, refl));
+  work = (store_calls setup t file (record { request = Some q; name = None; verdict = Unsupported at } ∷ []) (Ok n), rw w (store_asks key file n (record { request = Some q; name = None; verdict = Unsupported at }) s h, refl));
   answered = rw (no_question file q (Unsupported at) 1 h.0) refl;
 }
 store_once setup t key text file n request (Absent at) w s h k = apart k
@@ -149,7 +151,7 @@ store_run : (task : Task) (t : ℕ) (setup : Setup) (asked : List Asking) (calls
     → TaskRun task t setup [] asked calls [] answer
 store_run task t setup asked calls answer w h =
     let P : Task → Type 0 = λ j. TaskRun j t setup [] asked calls [] answer in
-    with_names task t setup [] asked calls [] answer
+    with_names task t setup [] asked calls [] answer (ap has_name w)
     (subst P (sym (as_store task w)) (of_reading task.key (λ key. RunOf setup t (store_task task.key task.file) key [] asked calls [] answer) h))
 
 pub store_refused_ran : (task : Task) (t : ℕ) (pairs : List Asking) (old new : Option Log) (e : DeskError) → task.work ≡ W.Store
@@ -199,14 +201,14 @@ store_other_size_ran task t pairs old new n size w sized s l = record {
 
 pub store_once_ran : (task : Task) (t : ℕ) (before after : List Asking) (old new : Option Log) (n : ℕ) (size : Option ℕ) (v : Verdict) → task.work ≡ W.Store
     → ((key : Parts) → key_reading task.key ≡ Some key → key.size ≡ size) → is_size size n ≡ true
-    → new ≡ logged old (Size task.file (Ok n)) → AsksOne before after (Transfer true task.key task.file) v
+    → new ≡ logged old (Size task.file (Ok n)) → AsksOne before after None (Transfer true task.key task.file) v
     → is_verdict_of (Transfer true task.key task.file) v ≡ true → RanPlain task t [] before after old new (Ok (unwrap_or (change_answer Stored v) Memory))
 store_once_ran task t before after old new n size v w sized s l a k = record {
-  asked = record { request = a.request; verdict = v } ∷ [];
+  asked = record { request = a.request; name = None; verdict = v } ∷ [];
   calls = Size task.file (Ok n) ∷ [];
   pairs_are = a.added;
   log_is = l ∙ gained_call old (Size task.file (Ok n)) refl;
-  run = λ setup whole. store_run task t setup (record { request = a.request; verdict = v } ∷ []) (Size task.file (Ok n) ∷ []) (unwrap_or (change_answer Stored v) Memory) w
+  run = λ setup whole. store_run task t setup (record { request = a.request; name = None; verdict = v } ∷ []) (Size task.file (Ok n) ∷ []) (unwrap_or (change_answer Stored v) Memory) w
       (λ key r. store_once setup t key task.key task.file n a.request v (whole key r) (rw (sized key r) s) (asks_for_store task.key task.file key a.request v 1 r a.kept) k);
 }
 

@@ -35,8 +35,8 @@ use Rattle.task_text.specs.declared.task.Work.TheVariants.{Store}
 -- one pair more, of a request for this key
 pub record AsksOneFor (ask : ℕ → List ℕ → HostMessage) (key : Parts) (before after : List Asking) (v : Verdict) : Type 0 where
   pub request : Option HostMessage
-  pub asks : AsksFor ask 1 key (record { request = request; verdict = v })
-  pub added : after ≡ before ++ record { request = request; verdict = v } ∷ []
+  pub asks : AsksFor ask 1 key (record { request = request; name = None; verdict = v })
+  pub added : after ≡ before ++ record { request = request; name = None; verdict = v } ∷ []
 
 abbrev pub AsksNext : (ℕ → List ℕ → HostMessage) → Parts → List Asking → List Asking → Result Verdict NoMemory → Type 0
 AsksNext ask key before after (Ok v) = AsksOneFor ask key before after v

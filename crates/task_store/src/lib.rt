@@ -1,8 +1,10 @@
-// Storing content, whole or in chunks.
+// Storing content, whole, in chunks or under a name.
 #![tactic(auto)]
 
 mod chunk_store;
+mod export_store;
 mod store;
 
 pub use chunk_store::store_chunks;
+pub use export_store::store_export;
 pub use store::store_whole;

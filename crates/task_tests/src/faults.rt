@@ -73,6 +73,44 @@ static GETS: [Row; 3] = [
     },
 ];
 
+// Gets under a name: what is left of part goes, and where the content doesn't fit, part goes too.
+static EXPORTS_GOT: [Row; 2] = [
+    Row {
+        case: Case {
+            line: "xget WORM-s3--a o\tdocs/a b.txt",
+            layouts: &[(4, 1)],
+            chunk: 0,
+            files: &[("o", "old"), ("o.part", "rest"), (FETCH_1, "abc")],
+        },
+        calls: &[
+            ("size", FETCH_1, &[("o", "old"), ("o.part", "rest")]),
+            ("create", "o.part", &[("o", "old"), ("o.part", "rest")]),
+            ("read", FETCH_1, &[("o", "old"), ("o.part", "")]),
+            ("append", "o.part", &[("o.part", ""), (FETCH_1, "abc")]),
+            ("remove", FETCH_1, &[("o.part", "abc"), (FETCH_1, "abc")]),
+            (
+                "rename",
+                "o.part",
+                &[("o", "old"), ("o.part", "abc"), (FETCH_1, "-")],
+            ),
+        ],
+        answer: "got",
+    },
+    Row {
+        case: Case {
+            line: "xget WORM-s3--a o\tn",
+            layouts: &[],
+            chunk: 0,
+            files: &[("o.part", "old"), (FETCH_1, "ab")],
+        },
+        calls: &[
+            ("size", FETCH_1, &[("o.part", "old"), (FETCH_1, "ab")]),
+            ("remove", "o.part", &[("o.part", "old"), (FETCH_1, "ab")]),
+        ],
+        answer: "size",
+    },
+];
+
 const LEFT: Files = &[("o", "old"), ("o.part", "abcd"), (FETCH_1, "efgh")];
 
 const HALF: Files = &[("o", "old"), ("o.part", "abcdefgh"), (FETCH_2, "ij")];
@@ -135,7 +173,27 @@ static CHUNKS_GOT: [Row; 2] = [
     },
 ];
 
-static STORES: [Row; 2] = [
+static STORES: [Row; 4] = [
+    Row {
+        case: Case {
+            line: "xstore WORM-s2--a f\tdocs/a b.txt",
+            layouts: &[],
+            chunk: 4,
+            files: &[("f", "hi")],
+        },
+        calls: &[("size", "f", &[("f", "hi")])],
+        answer: "stored",
+    },
+    Row {
+        case: Case {
+            line: "xstore WORM-s3--a f\tn",
+            layouts: &[],
+            chunk: 0,
+            files: &[("f", "hi")],
+        },
+        calls: &[("size", "f", &[("f", "hi")])],
+        answer: "size",
+    },
     Row {
         case: Case {
             line: "store WORM--a f",
@@ -189,6 +247,30 @@ fn expect_rows(rt: &impl Abort, alloc: Global, rows: &[Row]) -> Result<(), Fail>
 #[test]
 fn each_call_of_a_task_fails(rt: HostRuntime) -> Result<(), Fail> {
     expect_rows(&rt, rt.alloc(), &GETS)?;
+    expect_rows(&rt, rt.alloc(), &EXPORTS_GOT)?;
     expect_rows(&rt, rt.alloc(), &CHUNKS_GOT)?;
     expect_rows(&rt, rt.alloc(), &STORES)
+}
+
+// The tasks that make no call, and their answers by an asker to which all is done and that is told that nothing is there.
+static NAMED: [(&str, &str); 3] = [
+    ("xcheck WORM--a docs/a b.txt", "absent"),
+    ("xdrop WORM--a docs/a b.txt", "dropped"),
+    ("xrename WORM--a docs/a b.txt\tn", "renamed"),
+];
+
+#[test]
+fn names_are_checked_dropped_and_renamed(rt: HostRuntime) -> Result<(), Fail> {
+    for (line, answer) in &NAMED {
+        let case = Case {
+            line: *line,
+            layouts: &[],
+            chunk: 0,
+            files: &[],
+        };
+        let came = tried(rt.alloc(), &case, 1)?;
+        assert_eq!(rt; came.answer, *answer, "{line}");
+        assert!(rt; came.ends_with(0, "", ""), "{line}");
+    }
+    Ok(())
 }

@@ -3,8 +3,8 @@ ghost use Rattle.std.specs.Prelude.{◌≡◌, ◌<◌, ℕ, List, [], ◌∷◌
 ghost use Rattle.annex_model.specs.Messages.{is_askable};
 ghost use Rattle.annex_model.specs.Turns.{turn_of};
 ghost use Rattle.journal_model.specs.Projection.{IsNamed};
-ghost use Rattle.talk_serial.specs.Requests.{message_of};
-ghost use Rattle.task_run.specs.Askers.{Asking, Noting, AskAdds, NoteAdds, IsSameTask, names_in_line, are_layouts};
+ghost use Rattle.talk_serial.specs.Requests.{message_of, name_of};
+ghost use Rattle.task_run.specs.Askers.{Asking, Noting, AskAdds, NoteAdds, IsSameTask, names_in_line, is_said_in_line, are_layouts};
 ghost use Rattle.task_tests.specs.Scripts.{can_have, pair_of, note_of};
 
 use ann_key::NoMemory;
@@ -30,8 +30,10 @@ fn chosen(request: &Request) -> Verdict
     ensures { can_have (message_of request.now) result ≡ true }
 {
     match request {
-        Request::Transfer { .. } | Request::Remove { .. } => Verdict::Done { at: 1 },
-        Request::CheckPresent { .. } => Verdict::Absent { at: 1 },
+        Request::Transfer { .. } | Request::TransferExport { .. } => Verdict::Done { at: 1 },
+        Request::Remove { .. } | Request::RemoveExport { .. } => Verdict::Done { at: 1 },
+        Request::RenameExport { .. } => Verdict::Done { at: 1 },
+        Request::CheckPresent { .. } | Request::CheckExport { .. } => Verdict::Absent { at: 1 },
         _ => Verdict::Unsent,
     }
 }

@@ -108,6 +108,9 @@ fn word_of(answer: &Answer) -> &'static str {
     match answer {
         Answer::Stored => "stored",
         Answer::Got => "got",
+        Answer::Dropped => "dropped",
+        Answer::Renamed => "renamed",
+        Answer::Absent => "absent",
         Answer::FileFault => "filefault",
         Answer::Size { .. } => "size",
         Answer::Hash { .. } => "hash",

@@ -30,6 +30,7 @@ use Rattle.task_works.specs.Rounds.{RoundAsks, joined, Ended, EachEnded, Missed,
 use Rattle.task_run.proofs.Texts.{apart}
 use Rattle.task_works.proofs.RoundLaws.{length_keys, some_keys}
 use Rattle.task_run.proofs.NamedRuns.{nameless, with_names}
+use Rattle.task_text.specs.Works.{has_name}
 
 -- ---- askings that end nothing
 
@@ -323,7 +324,7 @@ ran task t key layouts before after asked result w r p h = record {
   asked = asked;
   pairs_are = p;
   run = λ setup. let P : Task → Type 0 = λ j. TaskRun j t setup layouts asked [] [] (answered result) in
-      with_names task t setup layouts asked [] [] (answered result)
+      with_names task t setup layouts asked [] [] (answered result) (ap has_name w)
       (subst P (sym (as_check task w)) (let Q : Option Parts → Type 0 = λ o. IfSome o (λ k. RunOf setup t (check_task task.key task.file) k layouts asked [] [] (answered result)) in subst Q (sym r) (h setup)));
 }
 

@@ -32,6 +32,7 @@ use Rattle.task_works.specs.Rounds.{RoundAsks, Removed, RanNoting, notes_none}
 use Rattle.task_run.proofs.Texts.{apart}
 use Rattle.task_works.proofs.CheckRuns.{goes_on, all_done_go_on, but_last, all_take, none_stops, take_next}
 use Rattle.task_run.proofs.NamedRuns.{nameless, with_names}
+use Rattle.task_text.specs.Works.{has_name}
 
 -- ---- what a drop notes
 
@@ -257,7 +258,7 @@ ran task t key layouts before after asked notes later noted result w r p n h = r
   pairs_are = p;
   notes_are = n;
   run = λ setup. let P : Task → Type 0 = λ j. TaskRun j t setup layouts asked [] noted (answered result) in
-      with_names task t setup layouts asked [] noted (answered result)
+      with_names task t setup layouts asked [] noted (answered result) (ap has_name w)
       (subst P (sym (as_drop task w)) (let Q : Option Parts → Type 0 = λ o. IfSome o (λ k. RunOf setup t (drop_task task.key task.file) k layouts asked [] noted (answered result)) in subst Q (sym r) (h setup)));
 }
 

@@ -3,3 +3,4 @@ pub mod RoundLaws
 pub mod CheckRuns
 pub mod DropRuns
 pub mod AllRuns
+pub mod NameRuns

@@ -64,7 +64,7 @@ some_keys size chunk = by_chunk (chunk == 0) refl
 -- ---- one more
 
 asks_for : (query : Query) (text : List ℕ) (key : Parts) (request : Option HostMessage) (v : Verdict) (n : ℕ) → key_reading text ≡ Some key
-    → KeepsRequest (asked_by query 1 text) request v → AsksFor (asked_by query) n key (record { request = request; verdict = v })
+    → KeepsRequest (asked_by query 1 text) request v → AsksFor (asked_by query) n key (record { request = request; name = None; verdict = v })
 asks_for Q.Present text key None v n e k = k
 asks_for Q.Present text key (Some q) v n e k = rw k (refl, e)
 asks_for Q.Remove text key None v n e k = k
@@ -86,9 +86,9 @@ pub asked_nothing : (query : Query) (pairs : List Asking) (keys : List Parts) �
 asked_nothing query pairs keys = record { round = []; pairs_are = sym (append-nil pairs); in_order = λ n. tt; each_done = refl; so_many = refl }
 
 module _ (query : Query) (a b c : List Asking) (key : Parts) (chunk at : ℕ) (text : List ℕ) (v : Verdict) (m : Asked query a b (keys_of_layout key chunk) at) (l : at < key_count key.size chunk)
-    (r : key_reading text ≡ Some (key_at key chunk (at + 1))) (o : AsksOne b c (asked_by query 1 text) v) where
+    (r : key_reading text ≡ Some (key_at key chunk (at + 1))) (o : AsksOne b c None (asked_by query 1 text) v) where
   abbrev the_one : Asking
-  the_one = record { request = o.request; verdict = v }
+  the_one = record { request = o.request; name = None; verdict = v }
 
   pairs_more : c ≡ a ++ (m.round ++ the_one ∷ [])
   pairs_more = o.added ∙ ap (λ p. p ++ the_one ∷ []) m.pairs_are ∙ append_assoc a m.round (the_one ∷ [])

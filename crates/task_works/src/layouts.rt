@@ -98,7 +98,7 @@ fn ask_key<A: Asker>(
     requires task { number ≡ A.task asker.old }
     requires ready { A.ready asker.old }
     requires key { is_sent_key (text_of key) ≡ true }
-    ensures pairs { AskAdds (A.pairs asker.old) (A.pairs asker.new) (asked_by query 1 (text_of key.entry)) result }
+    ensures pairs { AskAdds (A.pairs asker.old) (A.pairs asker.new) None (asked_by query 1 (text_of key.entry)) result }
     ensures verdict { IfOk result (λ v. is_verdict_of (asked_by query 1 []) v ≡ true) }
     ensures notes { A.notes asker.new ≡ A.notes asker.old }
     ensures layouts { A.current asker.new ≡ A.current asker.old }

@@ -3,6 +3,7 @@
 
 mod check_layouts;
 mod drop_layouts;
+mod exports;
 mod layouts;
 mod run;
 

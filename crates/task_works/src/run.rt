@@ -10,13 +10,14 @@ ghost use Rattle.task_text.specs.declared.task.Work.TheVariants as W;
 
 use crate::check_layouts::check;
 use crate::drop_layouts::drop_key;
+use crate::exports::{check_export, drop_export, rename_export};
 use ann_key::NoMemory;
 use ann_outside::Desk;
 use journal_model::Answer;
 use std::alloc::Global;
-use task_get::get_key;
+use task_get::{get_export, get_key};
 use task_run::{Asker, Setup};
-use task_store::{store_chunks, store_whole};
+use task_store::{store_chunks, store_export, store_whole};
 use task_text::{Task, Work};
 
 // Whether the content is stored in chunks.
@@ -77,7 +78,10 @@ pub fn run_task<A: Asker, D: Desk>(
         Work::Get => get_key(alloc, task, number, setup, asker, desk),
         Work::Check => check(alloc, task, number, asker),
         Work::Drop => drop_key(alloc, task, number, asker),
-        // what they ask and how they are answered is still to be written
-        Work::XStore | Work::XGet | Work::XCheck | Work::XDrop | Work::XRename => unreachable!(),
+        Work::XStore => store_export(alloc, task, number, asker, desk),
+        Work::XGet => get_export(alloc, task, number, setup, asker, desk),
+        Work::XCheck => check_export(alloc, task, number, asker),
+        Work::XDrop => drop_export(alloc, task, number, asker),
+        Work::XRename => rename_export(alloc, task, number, asker),
     }
 }

@@ -7,8 +7,11 @@ use Rattle.link_roles.proofs.Solo.{keeps_both}
 use Rattle.child_start.specs.declared.starting.RequestOutcome.{RequestOutcome}
 use Rattle.child_start.specs.Stages.{AsksNext}
 use Rattle.child_start.proofs.Jobs.{goes_as}
-use Rattle.child_start.proofs.Requests.{greets_goes, greets_asked, asked_plain, early_job, asked_next, given_up_next}
+use Rattle.child_start.proofs.Requests.{greets_goes, greets_asked, asked_plain, early_job, asked_next, given_up_next, greeting_named}
 use Rattle.child_start.proofs.starting.ask_one.Goals as goal
+
+pub ask_alone-requires-clause-named : goal.ask_alone-requires-clause-named
+ask_alone-requires-clause-named g c = greeting_named c.args.request.now c.requires.may.kind
 
 pub give_up_alone-requires-clause-started : goal.give_up_alone-requires-clause-started
 give_up_alone-requires-clause-started g c =

@@ -9,7 +9,7 @@ use Rattle.link_roles.specs.Alone.{AskedAlone}
 use Rattle.link_roles.proofs.Roles.{same_both}
 use Rattle.link_roles.proofs.Solo.{keeps_own, keeps_both}
 use Rattle.info_run.specs.Askings.{Asks, MayGoOn}
-use Rattle.info_run.proofs.Asked.{may_next, goes_on, stops, asked_plain, asked_question, one_more, front, front_either}
+use Rattle.info_run.proofs.Asked.{may_next, goes_on, stops, asked_plain, asked_question, question_named, one_more, front, front_either}
 use Rattle.info_run.proofs.asking.ask_each.Goals as goal
 
 pub ask_alone-requires-clause-may : goal.ask_alone-requires-clause-may
@@ -19,6 +19,10 @@ ask_alone-requires-clause-may g c =
     may_next (map message_of (take c.loop-request.request-index c.args.requests.now)) (g.D.Door.seen c.args.door.now) (g.D.Door.seen c.loop-request.door)
     c.args.link.now.ear.child c.loop-request.link.ear.child (g.D.Door.number c.loop-request.door) (message_of c.request-item.result) before.link.same_ear.0 (before.door.number ∙ c.requires.main.first) before.goes
     (asked_question c.args.requests.now c.loop-request.request-index c.request-item.result c.requires.questions within c.request-item.is)
+
+pub ask_alone-requires-clause-named : goal.ask_alone-requires-clause-named
+ask_alone-requires-clause-named g c =
+    question_named c.request-item.result (asked_question c.args.requests.now c.loop-request.request-index c.request-item.result c.requires.questions (omega arith) c.request-item.is)
 
 pub returns-in_err-verdict-clause-asks : goal.returns-in_err-verdict-clause-asks
 returns-in_err-verdict-clause-asks g c =

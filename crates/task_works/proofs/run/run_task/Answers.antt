@@ -30,3 +30,33 @@ returns-in-Check-clause-causes g c = from_content _ _ c.check.ensures.content
 
 pub returns-in-Drop-clause-causes : goal.returns-in-Drop-clause-causes
 returns-in-Drop-clause-causes g c = from_content _ _ c.drop_key.ensures.content
+
+pub returns-in-XStore-clause-ran : goal.returns-in-XStore-clause-ran
+returns-in-XStore-clause-ran g c = from_get _ _ _ _ _ _ _ _ _ _ _ (c.store_export.ensures.ran _ _) c.store_export.ensures.notes
+
+pub returns-in-XGet-clause-ran : goal.returns-in-XGet-clause-ran
+returns-in-XGet-clause-ran g c = from_get _ _ _ _ _ _ _ _ _ _ _ c.get_export.ensures.ran c.get_export.ensures.notes
+
+pub returns-in-XCheck-clause-ran : goal.returns-in-XCheck-clause-ran
+returns-in-XCheck-clause-ran g c = from_asking _ _ _ _ _ _ _ _ _ _ c.check_export.ensures.ran c.check_export.ensures.notes
+
+pub returns-in-XDrop-clause-ran : goal.returns-in-XDrop-clause-ran
+returns-in-XDrop-clause-ran g c = from_asking _ _ _ _ _ _ _ _ _ _ c.drop_export.ensures.ran c.drop_export.ensures.notes
+
+pub returns-in-XRename-clause-ran : goal.returns-in-XRename-clause-ran
+returns-in-XRename-clause-ran g c = from_asking _ _ _ _ _ _ _ _ _ _ c.rename_export.ensures.ran c.rename_export.ensures.notes
+
+pub returns-in-XStore-clause-causes : goal.returns-in-XStore-clause-causes
+returns-in-XStore-clause-causes g c = from_quiet _ _ _ c.store_export.ensures.causes
+
+pub returns-in-XGet-clause-causes : goal.returns-in-XGet-clause-causes
+returns-in-XGet-clause-causes g c = from_quiet _ _ _ c.get_export.ensures.causes
+
+pub returns-in-XCheck-clause-causes : goal.returns-in-XCheck-clause-causes
+returns-in-XCheck-clause-causes g c = from_content _ _ c.check_export.ensures.content
+
+pub returns-in-XDrop-clause-causes : goal.returns-in-XDrop-clause-causes
+returns-in-XDrop-clause-causes g c = from_content _ _ c.drop_export.ensures.content
+
+pub returns-in-XRename-clause-causes : goal.returns-in-XRename-clause-causes
+returns-in-XRename-clause-causes g c = from_content _ _ c.rename_export.ensures.content

@@ -1,5 +1,5 @@
 use Rattle.std.proofs.Common.{ℕ, sym, subst, refl}
-use Rattle.talk_serial.specs.Requests.{message_of}
+use Rattle.talk_serial.specs.Requests.{message_of, name_of}
 use Rattle.lone_work.specs.AtTasks.{AtTask}
 use Rattle.lone_work.proofs.Knowing.{known_asked}
 use Rattle.crew_work.proofs.Asking.{jobs_on_asked}
@@ -12,7 +12,7 @@ returns-clause-layouts g c =
     let n = g.D.Door.number s.door.now in
     let seen = g.D.Door.seen s.door.now in
     known_asked o (g.D.Door.opening c.ask_for.new.door) n c.args.number s.task c.ask_for.ensures.door.opening c.requires.task
-    (subst (λ (k : ℕ). AtTask o n k seen) (sym c.requires.task) c.requires.ready.at) c.ask_for.ensures.grows (message_of c.args.request.now) c.ask_for.result c.ask_for.ensures.asked
+    (subst (λ (k : ℕ). AtTask o n k seen) (sym c.requires.task) c.requires.ready.at) c.ask_for.ensures.grows (name_of c.args.request.now) (message_of c.args.request.now) c.ask_for.result c.ask_for.ensures.asked
 
 pub returns-clause-on : goal.returns-clause-on
 returns-clause-on g c =
@@ -25,5 +25,5 @@ returns-clause-on g c =
       child = refl;
       task = refl;
       on = jobs_on_asked o n c.args.number s.task (g.D.Door.alone s.door.now) seen (g.D.Door.seen c.ask_for.new.door) c.requires.task c.requires.ready.book
-          s.child (message_of c.args.request.now) c.ask_for.result c.ask_for.ensures.asked c.ask_for.ensures.grows;
+          s.child (name_of c.args.request.now) (message_of c.args.request.now) c.ask_for.result c.ask_for.ensures.asked c.ask_for.ensures.grows;
     }

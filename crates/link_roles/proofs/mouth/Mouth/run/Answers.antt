@@ -1,10 +1,10 @@
-use Rattle.std.proofs.Common.{sym, ap, subst, ◌∙◌, ℕ}
-use Rattle.journal_model.specs.declared.verdict.Why.TheVariants.{Memory}
+use Rattle.std.proofs.Common.{sym, ap, subst, ◌∙◌}
+use Rattle.journal_model.specs.Halves.{MouthValue}
 use Rattle.link_roles.proofs.Roles.{moved_then, same_both, started_on}
 use Rattle.journal_model.specs.Shares.{by_mouth, is_said}
 use Rattle.journal_model.specs.Journal.{is_started, is_ended}
 use Rattle.host_core.specs.declared.event.Reply.TheVariants.{Over}
-use Rattle.link_roles.specs.Doors.{Ends}
+use Rattle.link_roles.specs.Moves.{MouthMoved}
 use Rattle.link_roles.proofs.Hearing.{says_fetch, ended_fetch}
 use Rattle.link_roles.proofs.Mouths.{mouth_ends}
 use Rattle.link_roles.proofs.mouth.Mouth.run.Goals as goal
@@ -27,13 +27,23 @@ loop-preserved g c = record {
 }
 
 pub returns-clause-moved : goal.returns-clause-moved
-returns-clause-moved g c = moved_then by_mouth is_said c.loop.invariant.door.number c.loop.invariant.door.alone c.loop.invariant.same.0 c.loop.invariant.moved (mouth_ends c.loop.self (subst (λ (k : ℕ). Ends (g.D.Door.opening c.loop.door) (g.D.Door.number c.loop.door) (g.D.Door.alone c.loop.door) (g.D.Door.seen c.loop.door) (g.D.Door.seen c.stop.new.door) k Memory) c.child-child.ensures c.stop.ensures.ends))
+returns-clause-moved g c =
+    let d = c.loop.door in
+    moved_then by_mouth is_said c.loop.invariant.door.number c.loop.invariant.door.alone c.loop.invariant.same.0 c.loop.invariant.moved
+    (subst (λ (m : MouthValue). MouthMoved (g.D.Door.number d) (g.D.Door.alone d) (g.D.Door.seen d) (g.D.Door.seen c.give_up.new.door) c.loop.self m) (sym c.give_up.ensures.same)
+    (mouth_ends c.loop.self c.give_up.ensures.ends))
+
+pub returns-clause-same : goal.returns-clause-same
+returns-clause-same g c = (
+  ap (λ (m : MouthValue). m.child) c.give_up.ensures.same ∙ c.loop.invariant.same.0,
+  ap (λ (m : MouthValue). m.number) c.give_up.ensures.same ∙ c.loop.invariant.same.1,
+)
 
 pub returns-clause-door : goal.returns-clause-door
-returns-clause-door g c = same_both c.loop.invariant.door c.stop.ensures.door
+returns-clause-door g c = same_both c.loop.invariant.door c.give_up.ensures.door
 
 pub returns-clause-over : goal.returns-clause-over
 returns-clause-over g c =
-    ended_fetch (g.D.Door.opening c.args.door.now) (g.D.Door.number c.args.door.now) c.args.self.now.child (g.D.Door.seen c.stop.new.door)
+    ended_fetch (g.D.Door.opening c.args.door.now) (g.D.Door.number c.args.door.now) c.args.self.now.child (g.D.Door.seen c.give_up.new.door)
     (started_on c.args.self.now.child (returns-clause-moved g c) c.requires.started)
-    (ap (is_ended (g.D.Door.seen c.stop.new.door)) (sym (c.child-child.ensures ∙ c.loop.invariant.same.0)) ∙ c.stop.ensures.over)
+    (ap (is_ended (g.D.Door.seen c.give_up.new.door)) (sym c.loop.invariant.same.0) ∙ c.give_up.ensures.over)

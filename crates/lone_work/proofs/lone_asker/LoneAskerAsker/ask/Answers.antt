@@ -1,9 +1,9 @@
 use Rattle.std.proofs.Common.{ℕ, sym, subst, refl}
-use Rattle.talk_serial.specs.Requests.{message_of}
+use Rattle.talk_serial.specs.Requests.{message_of, name_of}
 use Rattle.lone_work.specs.Servings.{Serves}
 use Rattle.lone_work.specs.AtTasks.{AtTask}
 use Rattle.lone_work.proofs.Knowing.{known_asked}
-use Rattle.lone_work.proofs.Serving.{may_later, serves_asked}
+use Rattle.lone_work.proofs.Serving.{may_later, named_well, serves_asked}
 use Rattle.lone_work.proofs.lone_asker.LoneAskerAsker.ask.Goals as goal
 
 pub ask_by_link-requires-clause-may : goal.ask_by_link-requires-clause-may
@@ -13,6 +13,9 @@ ask_by_link-requires-clause-may g c = λ lone.
     (subst (λ (k : ℕ). Serves (g.D.Door.opening s.door.now) (g.D.Door.number s.door.now) (g.D.Door.alone s.door.now) s.link.now.ear.child k (g.D.Door.seen s.door.now)) (sym c.requires.task) c.requires.ready)
     c.requires.turn c.requires.fields c.requires.file c.file_of-file.ensures lone)
 
+pub ask_by_link-requires-clause-named : goal.ask_by_link-requires-clause-named
+ask_by_link-requires-clause-named g c = named_well (name_of c.args.request.now) c.requires.name c.name_before-name.ensures
+
 pub returns-clause-layouts : goal.returns-clause-layouts
 returns-clause-layouts g c =
     let s = c.args.self.now in
@@ -20,7 +23,7 @@ returns-clause-layouts g c =
     let n = g.D.Door.number s.door.now in
     let seen = g.D.Door.seen s.door.now in
     known_asked o (g.D.Door.opening c.ask_by_link.new.door) n c.args.number s.task c.ask_by_link.ensures.door.opening c.requires.task
-    (subst (λ (k : ℕ). AtTask o n k seen) (sym c.requires.task) c.requires.ready.at) c.ask_by_link.ensures.moved (message_of c.args.request.now) c.ask_by_link.result c.ask_by_link.ensures.asked
+    (subst (λ (k : ℕ). AtTask o n k seen) (sym c.requires.task) c.requires.ready.at) c.ask_by_link.ensures.moved (name_of c.args.request.now) (message_of c.args.request.now) c.ask_by_link.result c.ask_by_link.ensures.asked
 
 pub returns-clause-on : goal.returns-clause-on
 returns-clause-on g c =
@@ -30,7 +33,7 @@ returns-clause-on g c =
       link = c.ask_by_link.ensures.same;
       task = refl;
       on = serves_asked (g.D.Door.opening s.door.now) (g.D.Door.number s.door.now) c.args.number s.task (g.D.Door.alone s.door.now) (g.D.Door.seen s.door.now) (g.D.Door.seen c.ask_by_link.new.door) c.requires.task
-          s.link.now.ear.child (message_of c.args.request.now) c.ask_by_link.result
+          s.link.now.ear.child (name_of c.args.request.now) (message_of c.args.request.now) c.ask_by_link.result
           (subst (λ (k : ℕ). Serves (g.D.Door.opening s.door.now) (g.D.Door.number s.door.now) (g.D.Door.alone s.door.now) s.link.now.ear.child k (g.D.Door.seen s.door.now)) (sym c.requires.task) c.requires.ready)
           c.ask_by_link.ensures.asked c.ask_by_link.ensures.turn c.ask_by_link.ensures.moved;
     }

@@ -4,7 +4,7 @@ use Rattle.talk_serial.specs.Requests.{message_of}
 use Rattle.journal_model.specs.Journal.{is_started}
 use Rattle.mirror_children.specs.Children.{child_value, ChildValue, IsServing}
 use Rattle.mirror_children.specs.Rule.{IsAsked}
-use Rattle.mirror_children.proofs.Serving.{asked_if, asked_plain, may_ask, serving_if, started}
+use Rattle.mirror_children.proofs.Serving.{asked_if, asked_plain, may_ask, mirrored_named, serving_if, started}
 use Rattle.mirror_children.proofs.child.Child.ask.Goals as goal
 
 pub ask_over-requires-clause-started : goal.ask_over-requires-clause-started
@@ -21,6 +21,9 @@ pub ask_over-requires-clause-may : goal.ask_over-requires-clause-may
 ask_over-requires-clause-may g c =
     let s : IsServing (child_value c.self.inside.number c.self.inside.core c.self.inside.link.ear c.self.inside.link.mouth) = subst IsServing (sym c.self.view_is) c.requires.serving in
     may_ask (child_value c.self.inside.number c.self.inside.core c.self.inside.link.ear c.self.inside.link.mouth) c.self.inside.link.ear.child (message_of c.args.request.now) s.linked.child s c.requires.mirrored
+
+pub ask_over-requires-clause-named : goal.ask_over-requires-clause-named
+ask_over-requires-clause-named g c = mirrored_named c.args.request.now c.requires.mirrored
 
 pub returns-clause-asked : goal.returns-clause-asked
 returns-clause-asked g c =

@@ -1,0 +1,51 @@
+// Storing content under a name.
+ghost use Rattle.std.specs.Prelude.{◌≡◌, ℕ, List, true};
+ghost use Rattle.task_text.specs.TaskLines.{IsTask};
+ghost use Rattle.task_text.specs.declared.task.Work.TheVariants as W;
+ghost use Rattle.task_run.specs.Ran.{RanGet, HasQuietCauses};
+ghost use Rattle.task_run.specs.Askers.{IsSameTask};
+ghost use Rattle.task_run.specs.declared.setup.Setup.{Setup};
+
+use ann_key::NoMemory;
+use ann_outside::Desk;
+use journal_model::Answer;
+use std::alloc::Global;
+use task_run::answers::{change_answer, is_size, refused};
+use task_run::{Asker, ask};
+use task_text::Task;
+
+/// Has the file stored as the key under the task's name, if it has the key's size.
+pub fn store_export<A: Asker, D: Desk>(
+    alloc: Global,
+    task: &Task,
+    number: u32,
+    asker: &mut A,
+    desk: &mut D,
+) -> Result<Answer, NoMemory>
+    requires task { IsTask task.now }
+    requires work { task.now.work ≡ W.XStore }
+    requires number { number ≡ A.task asker.old }
+    requires ready { A.ready asker.old }
+    ensures ran { (setup : Setup) (layouts : List (ℕ × ℕ)) → RanGet task.now number setup layouts (A.pairs asker.old) (A.pairs asker.new) (D.log desk.old) (D.log desk.new) result }
+    ensures notes { A.notes asker.new ≡ A.notes asker.old }
+    ensures same { IsSameTask (A.task asker.old) (A.task asker.new) (A.may_note asker.old) (A.may_note asker.new) (A.loans asker.old) (A.loans asker.new) }
+    ensures on { A.goes_on asker.old asker.new }
+    ensures causes { HasQuietCauses (D.counts desk.old) (D.counts desk.new) result }
+{
+    let key = task.key.view();
+    let file = task.file.view();
+    match desk.size(file) {
+        Ok(n) => {
+            if is_size(key.size(), n) {
+                let name = task.name.view();
+                match ask::transfer_named(alloc, asker, number, true, key, file, name) {
+                    Ok(verdict) => Ok(change_answer(Answer::Stored, verdict)),
+                    Err(error) => Err(error),
+                }
+            } else {
+                Ok(Answer::Size { bytes: n })
+            }
+        }
+        Err(error) => refused(error),
+    }
+}

@@ -1,0 +1,25 @@
+use Rattle.std.proofs.Common.{refl}
+use Rattle.task_run.proofs.ExportRuns.{name_in_line}
+use Rattle.task_run.proofs.PlainRuns.{task_key_sent}
+use Rattle.task_works.proofs.NameRuns.{drop_ran, drop_none, change_quiet}
+use Rattle.task_works.proofs.exports.drop_export.Goals as goal
+
+pub remove_named-requires-clause-key : goal.remove_named-requires-clause-key
+remove_named-requires-clause-key g c = rw c.view-key.ensures (task_key_sent c.args.task.now.key c.requires.task.key_class)
+
+pub remove_named-requires-clause-name : goal.remove_named-requires-clause-name
+remove_named-requires-clause-name g c =
+    let n = rw c.requires.work at c.requires.task.name_class in
+    rw c.view-name.ensures (name_in_line c.args.task.now.name n)
+
+pub returns-in-Ok-clause-ran : goal.returns-in-Ok-clause-ran
+returns-in-Ok-clause-ran g c =
+    let a = rw (c.view-key.ensures, c.view-name.ensures) at c.in-Ok.ensures.pairs in
+    let k = rw c.view-key.ensures at c.in-Ok.ensures.verdict in
+    drop_ran _ _ _ _ _ _ _ c.requires.work a k c.change_answer.ensures
+
+pub returns-in-Ok-clause-content : goal.returns-in-Ok-clause-content
+returns-in-Ok-clause-content g c = change_quiet _ _ _ refl c.change_answer.ensures
+
+pub returns-in-Err-clause-ran : goal.returns-in-Err-clause-ran
+returns-in-Err-clause-ran g c = rw c.in-Err.ensures.pairs (drop_none _ _ _ _ _ c.requires.work)

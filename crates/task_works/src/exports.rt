@@ -1,0 +1,89 @@
+// Checking, removing and renaming what is there under a name.
+ghost use Rattle.std.specs.Prelude.{◌≡◌, true, false, Ok, IfOk};
+ghost use Rattle.task_text.specs.TaskLines.{IsTask};
+ghost use Rattle.task_text.specs.declared.task.Work.TheVariants as W;
+ghost use Rattle.task_run.specs.Askers.{IsSameTask};
+ghost use Rattle.task_run.specs.Ran.{RanAsking, may_follow_refusal};
+
+use ann_key::NoMemory;
+use journal_model::Answer;
+use std::alloc::Global;
+use task_run::answers::change_answer;
+use task_run::{Asker, ask, check_answer};
+use task_text::Task;
+
+/// Whether the key is there under the task's name.
+pub fn check_export<A: Asker>(
+    alloc: Global,
+    task: &Task,
+    number: u32,
+    asker: &mut A,
+) -> Result<Answer, NoMemory>
+    requires task { IsTask task.now }
+    requires work { task.now.work ≡ W.XCheck }
+    requires number { number ≡ A.task asker.old }
+    requires ready { A.ready asker.old }
+    ensures ran { RanAsking task.now number (A.current asker.old) (A.pairs asker.old) (A.pairs asker.new) result }
+    ensures notes { A.notes asker.new ≡ A.notes asker.old }
+    ensures same { IsSameTask (A.task asker.old) (A.task asker.new) (A.may_note asker.old) (A.may_note asker.new) (A.loans asker.old) (A.loans asker.new) }
+    ensures on { A.goes_on asker.old asker.new }
+    ensures content { IfOk result (λ answer. may_follow_refusal (Ok answer) ≡ false) }
+{
+    let key = task.key.view();
+    let name = task.name.view();
+    match ask::present_named(alloc, asker, number, key, name) {
+        Ok(verdict) => Ok(check_answer(verdict)),
+        Err(error) => Err(error),
+    }
+}
+
+/// Removes what is there under the task's name.
+pub fn drop_export<A: Asker>(
+    alloc: Global,
+    task: &Task,
+    number: u32,
+    asker: &mut A,
+) -> Result<Answer, NoMemory>
+    requires task { IsTask task.now }
+    requires work { task.now.work ≡ W.XDrop }
+    requires number { number ≡ A.task asker.old }
+    requires ready { A.ready asker.old }
+    ensures ran { RanAsking task.now number (A.current asker.old) (A.pairs asker.old) (A.pairs asker.new) result }
+    ensures notes { A.notes asker.new ≡ A.notes asker.old }
+    ensures same { IsSameTask (A.task asker.old) (A.task asker.new) (A.may_note asker.old) (A.may_note asker.new) (A.loans asker.old) (A.loans asker.new) }
+    ensures on { A.goes_on asker.old asker.new }
+    ensures content { IfOk result (λ answer. may_follow_refusal (Ok answer) ≡ false) }
+{
+    let key = task.key.view();
+    let name = task.name.view();
+    match ask::remove_named(alloc, asker, number, key, name) {
+        Ok(verdict) => Ok(change_answer(Answer::Dropped, verdict)),
+        Err(error) => Err(error),
+    }
+}
+
+/// Gives what is there under the task's name the name that the task has for it.
+pub fn rename_export<A: Asker>(
+    alloc: Global,
+    task: &Task,
+    number: u32,
+    asker: &mut A,
+) -> Result<Answer, NoMemory>
+    requires task { IsTask task.now }
+    requires work { task.now.work ≡ W.XRename }
+    requires number { number ≡ A.task asker.old }
+    requires ready { A.ready asker.old }
+    ensures ran { RanAsking task.now number (A.current asker.old) (A.pairs asker.old) (A.pairs asker.new) result }
+    ensures notes { A.notes asker.new ≡ A.notes asker.old }
+    ensures same { IsSameTask (A.task asker.old) (A.task asker.new) (A.may_note asker.old) (A.may_note asker.new) (A.loans asker.old) (A.loans asker.new) }
+    ensures on { A.goes_on asker.old asker.new }
+    ensures content { IfOk result (λ answer. may_follow_refusal (Ok answer) ≡ false) }
+{
+    let key = task.key.view();
+    let name = task.name.view();
+    let onto = task.onto.view();
+    match ask::rename_named(alloc, asker, number, key, name, onto) {
+        Ok(verdict) => Ok(change_answer(Answer::Renamed, verdict)),
+        Err(error) => Err(error),
+    }
+}
