@@ -36,7 +36,12 @@ SESSION_ROWS = [
     ("from where it can be reached", "EXTENSIONS ASYNC\nJ 4 GETAVAILABILITY\n", TAGGED + "J 4 AVAILABILITY LOCAL\n", 0),
     ("where a content is", BEGINS + "J 2 WHEREIS WORM--a\n", IS_READY + "J 2 UNSUPPORTED-REQUEST\n", 0),
     ("a request that it doesn't know", BEGINS + "J 2 CLAIMURL http://a/b\n", IS_READY + "J 2 UNSUPPORTED-REQUEST\n", 0),
-    ("requests about exports", "EXTENSIONS ASYNC\nJ 2 EXPORTSUPPORTED\n", TAGGED + "J 2 UNSUPPORTED-REQUEST\n", 0),
+    ("a question about exports", "EXTENSIONS ASYNC\nJ 2 EXPORTSUPPORTED\n", TAGGED + "J 2 UNSUPPORTED-REQUEST\n", 0),
+    ("names to export to, and requests about them", BEGINS + "J 2 EXPORT a b.txt\nJ 2 TRANSFEREXPORT STORE WORM--a f\n"
+     "J 3 EXPORT c\nJ 3 CHECKPRESENTEXPORT WORM--a\nJ 3 EXPORT\nJ 3 REMOVEEXPORT WORM--a\nJ 4 EXPORT c\nJ 4 RENAMEEXPORT WORM--a d\n",
+     IS_READY + "".join(f"J {n} UNSUPPORTED-REQUEST\n" for n in (2, 3, 3, 4)), 0),
+    ("a name to export to in the place of a value", "EXTENSIONS ASYNC\nJ 1 PREPARE\nJ 1 EXPORT a\n",
+     TAGGED + "J 1 GETCONFIG directory\n" + UNEXPECTED, 1),
     ("no directory", "EXTENSIONS ASYNC\nJ 1 PREPARE\nJ 1 VALUE \n",
      TAGGED + "J 1 GETCONFIG directory\nJ 1 PREPARE-FAILURE no directory\n", 0),
     ("a value that never comes", "EXTENSIONS ASYNC\nJ 1 PREPARE\n", TAGGED + "J 1 GETCONFIG directory\n", 0),
