@@ -2,7 +2,7 @@
 
 from harness import audit, expect, require
 
-WELL = {"stored", "got", "present", "dropped"}
+WELL = {"stored", "got", "present", "dropped", "renamed"}
 
 
 def status_of(out):

@@ -238,8 +238,8 @@ KEYS = ["WORM--a", "WORM-s3--b", "WORM-s10--c", "SHA256E-s3--x.txt"]
 RUNS = int(os.environ.get("HOSTILE_RUNS") or 200)
 FIRST = int(os.environ.get("HOSTILE_SEED") or 1)
 PER_CASE = 10
-WORDS = {"stored", "got", "present", "dropped", "absent", "unsupported", "unsent", "startfault", "nochild", "filefault",
-         "nofile", "memory", "failed", "unknown", "notprepared", "ended", "size", "hash", "foul"}
+WORDS = {"stored", "got", "present", "dropped", "renamed", "absent", "unsupported", "unsent", "startfault", "nochild",
+         "filefault", "nofile", "memory", "failed", "unknown", "notprepared", "ended", "size", "hash", "foul"}
 
 
 @table([(f"seeds from {first}", first) for first in range(FIRST, FIRST + RUNS, PER_CASE)])
@@ -309,7 +309,7 @@ class Trial:
         expect([line.split(" ")[0] for line in lines], [str(n + 1) for n in range(count)], f"{self}: the numbers of the answers")
         odd = [line for line in lines if line.split(" ")[1] not in WORDS]
         expect(odd, [], f"{self}: answers")
-        well = all(line.split(" ")[1] in ("stored", "got", "present", "dropped") for line in lines)
+        well = all(line.split(" ")[1] in ("stored", "got", "present", "dropped", "renamed") for line in lines)
         expect(done.status, 0 if well else 1, f"{self}: the status")
 
     def logs(self):

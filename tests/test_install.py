@@ -106,7 +106,7 @@ def each_option_of_run_is_in_the_help_the_page_and_the_completions(room, option)
 
 
 @table([(answer, answer) for answer in (
-    "stored", "dropped", "got", "present", "absent", "failed", "size", "hash", "nofile", "filefault", "nochild", "unknown",
+    "stored", "dropped", "renamed", "got", "present", "absent", "failed", "size", "hash", "nofile", "filefault", "nochild", "unknown",
     "unsupported", "notprepared", "ended", "memory", "foul", "unsent", "startfault",
 )])
 def each_answer_is_in_the_help_and_the_manual(room, answer):

@@ -92,6 +92,7 @@ const RUN: &str = "special run --program PROGRAM --uuid UUID [OPTIONS]\n\
     Answers:\n\
     \n\
     stored, got, dropped      it is done\n\
+    renamed                   the file has its new name\n\
     present, absent           the remote has the content, or hasn't\n\
     unknown TEXT              the remote can't tell now\n\
     failed TEXT               the remote said that it failed\n\
@@ -104,7 +105,7 @@ const RUN: &str = "special run --program PROGRAM --uuid UUID [OPTIONS]\n\
     ended WHY, foul LINE      the child ended, or said LINE where it may not stand\n\
     unsent, memory            a write to the child failed, or there wasn't enough memory\n\
     \n\
-    The status is 0 where each answer is stored, got, present or dropped, and 1 where some other one is among them.\n\
+    The status is 0 where each answer is stored, got, present, dropped or renamed, and 1 where another is among them.\n\
     It is 3 where special: line N: REASON was printed, and nothing was started. REASON word: the line doesn't begin\n\
     with a task's word in lower case; key: there is no key after it; unsendable: the key holds a space or a control\n\
     character, as in lines that end with CRLF; chunkkey: it is the key of a chunk; file: a FILE is missing; many,\n\

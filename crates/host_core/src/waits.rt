@@ -100,7 +100,10 @@ fn may_be_last(what: WhatRef<'_>) -> bool {
 fn takes_over(opening: &Opening, old: u32, new: u32) -> bool {
     match (task_of(opening, old), task_of(opening, new)) {
         (Some(old), Some(new)) => {
-            old.file.view().is_empty() && old.key.view().text() == new.key.view().text()
+            let key_alone = old.file.view().is_empty()
+                && old.name.view().is_empty()
+                && old.onto.view().is_empty();
+            key_alone && old.key.view().text() == new.key.view().text()
         }
         _ => false,
     }

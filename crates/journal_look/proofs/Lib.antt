@@ -6,4 +6,5 @@ pub mod Counting
 pub mod Ending
 pub mod Holding
 pub mod InWay
+pub mod Taking
 pub mod Working

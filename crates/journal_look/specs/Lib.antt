@@ -6,3 +6,4 @@ pub mod Lives
 pub mod Opens
 pub mod Cursors
 pub mod Holds
+pub mod Taken

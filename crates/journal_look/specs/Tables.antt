@@ -8,6 +8,7 @@ use Rattle.journal_look.specs.Lives.{AreKnown}
 use Rattle.journal_look.specs.Marks.{AreClaimed}
 use Rattle.journal_look.specs.Opens.{AreJobsKnown}
 use Rattle.journal_look.specs.Cursors.{AreAt}
+use Rattle.journal_look.specs.Taken.{AreTaken}
 use Rattle.journal_look.specs.declared.tables.Tables.{Tables}
 
 pub record AreTabled (entries : List Entry) (tables : Tables) : Type 0 where
@@ -15,6 +16,7 @@ pub record AreTabled (entries : List Entry) (tables : Tables) : Type 0 where
   pub lives : AreKnown entries tables.lives
   pub holds : AreHoldsKnown entries tables.holds
   pub top : AreUnclaimed entries tables.top
+  pub taken : AreTaken entries tables.taken.items
   pub jobs : AreJobsKnown entries tables.jobs
   pub cursors : AreAt entries tables.cursors.items
   pub some : 0 < tables.claimed

@@ -8,6 +8,7 @@ use crate::held::{self, Held};
 use crate::jobs::{self, Open};
 use crate::life::{self, Life};
 use crate::tables::{self, Tables};
+use crate::taken;
 use ann_key::NoMemory;
 use journal_model::{Entry, Verdict, What};
 use std::alloc::Global;
@@ -36,9 +37,9 @@ impl Model for Journal {
 impl Journal {
     ghost use Rattle.journal_model.specs.Limits.{most_line_bytes};
     ghost use Rattle.journal_model.specs.Journal.{any, bytes_in, verdict_of};
-    ghost use Rattle.journal_model.specs.Legality.{count, is_start};
+    ghost use Rattle.journal_model.specs.Legality.{count, is_claimed, is_start};
     ghost use Rattle.journal_scan.specs.Looks.{is_no_start};
-    ghost use Rattle.journal_look.specs.Holds.{AreHeld, AreUnclaimed};
+    ghost use Rattle.journal_look.specs.Holds.{AreHeld};
     ghost use Rattle.journal_look.specs.Lives.{life_of};
     ghost use Rattle.journal_look.specs.Marks.{AreClaimed};
     ghost use Rattle.journal_look.specs.Opens.{AreOpen};
@@ -103,7 +104,7 @@ impl Journal {
         };
         let spare = room.saturating_sub(self.entries.len());
         self.entries.reserve(spare)?;
-        tables::take_room(&mut self.tables, spare)?;
+        tables::take_room(&mut self.tables, self.entries.as_slice(), spare)?;
         self.room = room;
         Ok(())
     }
@@ -166,11 +167,12 @@ impl Journal {
         held::look(&self.tables.holds)
     }
 
-    // A number from which on no task is claimed.
-    pub(crate) fn top(&self) -> u64
-        ensures { AreUnclaimed self.now.entries result }
+    // Whether the task is claimed.
+    pub(crate) fn is_taken(&self, task: u32) -> bool
+        ensures { result ≡ is_claimed self.now.entries task }
     {
-        self.tables.top
+        let taken = self.tables.taken.as_slice();
+        taken::is_taken(self.entries.as_slice(), taken, self.tables.top, task)
     }
 
     // The open jobs, where they are known without the entries.

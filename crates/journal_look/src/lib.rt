@@ -11,6 +11,7 @@ mod life;
 mod looks;
 mod marks;
 mod tables;
+mod taken;
 mod tasks;
 
 pub use entry::{EntryRef, WhatRef};

@@ -1,8 +1,11 @@
 // How far the marks of a journal go.
 ghost use Rattle.std.specs.Prelude.{◌≡◌, ◌+◌, ◌≤◌, ◌<◌, ◌++◌, ◌∷◌, [], List, length, IsTrue};
 ghost use Rattle.journal_model.specs.declared.entry.Entry.{Entry};
+ghost use Rattle.journal_look.specs.Holds.{AreUnclaimed};
 ghost use Rattle.journal_look.specs.Marks.{AreClaimed};
+ghost use Rattle.journal_look.specs.Taken.{AreTaken};
 
+use crate::taken::is_taken;
 use journal_model::Entry;
 use journal_scan::claims;
 
@@ -21,14 +24,16 @@ pub(super) fn claimed_after(mark: u32, entry: &Entry) -> u32
 
 /// A task below which each is claimed, from that one on. From top on none is.
 #[tactic(auto, using(crate::proofs::Marking::one_more_claimed))]
-pub(super) fn claimed_from(entries: &[Entry], from: u32, top: u64) -> u32
+pub(super) fn claimed_from(entries: &[Entry], taken: &[bool], from: u32, top: u64) -> u32
     requires some { 0 < from }
+    requires taken { AreTaken entries.now taken.now }
+    requires top { AreUnclaimed entries.now top }
     requires claimed { AreClaimed entries.now from }
     ensures some { 0 < result }
     ensures claimed { AreClaimed entries.now result }
 {
     let mut task = from;
-    while task < u32::MAX && u64::from(task) < top && claims::is_claimed(entries, task) {
+    while task < u32::MAX && is_taken(entries, taken, top, task) {
         task += 1;
     }
     task

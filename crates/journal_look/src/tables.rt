@@ -8,13 +8,14 @@ use crate::held::{self, Holds};
 use crate::jobs::{self, Jobs};
 use crate::life::{self, Lives};
 use crate::marks::{claimed_after, claimed_from};
+use crate::taken;
 use ann_key::NoMemory;
 use journal_model::Entry;
 use journal_scan::lines::{left_after, left_of};
 use std::alloc::Global;
 
 /// How many more bytes the lines may have, what is known of the children, of the held tasks and of the jobs, how far the lines to each
-/// child are counted, a number from which on no task is claimed and one below which each is.
+/// child are counted, which tasks are claimed, a number from which on none is and one below which each is.
 #[derive(Drop)]
 pub(super) struct Tables {
     pub left: usize,
@@ -22,12 +23,13 @@ pub(super) struct Tables {
     pub holds: Holds,
     pub jobs: Jobs,
     pub cursors: Vec<Cursor>,
+    pub taken: Vec<bool>,
     pub top: u64,
     pub claimed: u32,
 }
 
 /// The tables of these entries.
-#[tactic(auto, using(crate::proofs::Marking::none_claimed))]
+#[tactic(auto, using(crate::proofs::Marking::none_claimed, crate::proofs::Taking::none_noted))]
 pub(super) fn tables_of(alloc: Global, entries: &[Entry]) -> Tables
     ensures { AreTabled entries.now result }
 {
@@ -37,6 +39,7 @@ pub(super) fn tables_of(alloc: Global, entries: &[Entry]) -> Tables
         holds: held::none(alloc, entries),
         jobs: jobs::none(alloc, entries),
         cursors: Vec::new(alloc),
+        taken: Vec::new(alloc),
         top: held::top_of(entries),
         claimed: 1,
     }
@@ -50,17 +53,19 @@ pub(super) fn note(tables: &mut Tables, at: usize, entry: &Entry)
     jobs::note(&mut tables.jobs, &tables.lives, at, entry);
     life::note(&mut tables.lives, entry);
     held::note(&mut tables.holds, entry);
+    taken::note(&mut tables.taken, &entry.what);
     tables.top = held::top_after(tables.top, &entry.what);
     tables.claimed = claimed_after(tables.claimed, entry);
 }
 
-/// Takes room for so many more entries.
-pub(super) fn take_room(tables: &mut Tables, more: usize) -> Result<(), NoMemory>
-    ensures { (past : List Entry) → AreTabled past tables.old → AreTabled past tables.new }
+/// Takes room for so many more entries after these.
+pub(super) fn take_room(tables: &mut Tables, entries: &[Entry], more: usize) -> Result<(), NoMemory>
+    ensures { AreTabled entries.now tables.old → AreTabled entries.now tables.new }
 {
     life::take_room(&mut tables.lives, more)?;
     held::take_room(&mut tables.holds, more)?;
     jobs::take_room(&mut tables.jobs, more)?;
+    taken::take_room(&mut tables.taken, entries)?;
     tables.cursors.reserve(more.min(64))?;
     Ok(())
 }
@@ -72,6 +77,6 @@ pub(super) fn raise(tables: &mut Tables, entries: &[Entry], turn: Turn, claims: 
 {
     cursors::note(&mut tables.cursors, entries, turn);
     if claims {
-        tables.claimed = claimed_from(entries, tables.claimed, tables.top);
+        tables.claimed = claimed_from(entries, tables.taken.as_slice(), tables.claimed, tables.top);
     }
 }

@@ -12,7 +12,7 @@ use crate::jobs;
 use crate::journal::Journal;
 use journal_model::{Entry, Holder, Opening};
 use journal_scan::claims::{
-    claimed_for, has_busy, has_open, holder, is_busy, is_claimed, is_held_by, is_held_for,
+    claimed_for, has_busy, has_open, holder, is_busy, is_held_by, is_held_for,
 };
 use journal_scan::conflicts::both_conflict;
 
@@ -58,21 +58,11 @@ fn has_in_way(opening: &Opening, journal: &Journal, task: u32) -> bool
     }
 }
 
-/// Whether the task is claimed.
-fn is_taken(journal: &Journal, task: u32) -> bool
-    ensures { result ≡ is_claimed journal.now.entries task }
-{
-    if journal.top() <= u64::from(task) {
-        return false;
-    }
-    is_claimed(journal.entries(), task)
-}
-
 fn is_free(opening: &Opening, journal: &Journal, task: u32) -> bool
     requires { length opening.now.tasks ≤ most_tasks }
     ensures { result ≡ is_free opening.now journal.now.entries task }
 {
-    !is_taken(journal, task) && !has_in_way(opening, journal, task)
+    !journal.is_taken(task) && !has_in_way(opening, journal, task)
 }
 
 fn first_free(opening: &Opening, journal: &Journal, from: u32, end: u32) -> Option<u32>
@@ -85,7 +75,7 @@ fn first_free(opening: &Opening, journal: &Journal, from: u32, end: u32) -> Opti
 fn all_claimed(journal: &Journal, from: u32, end: u32) -> bool
     ensures { result ≡ list_all (is_claimed journal.now.entries) (range_with_len from (end - from)) }
 {
-    (from..end).all(|task| is_taken(journal, task))
+    (from..end).all(|task| journal.is_taken(task))
 }
 
 /// The first task that is free to be claimed. Each below from is claimed.
@@ -205,7 +195,7 @@ pub(super) fn has_busy_task(journal: &Journal, child: u32) -> bool
 fn count_unclaimed(journal: &Journal, from: u32, end: u32) -> u32
     ensures { result ≡ length (filter (λ t. not (is_claimed journal.now.entries t)) (range_with_len from (end - from))) }
 {
-    (from..end).filter(|task| !is_taken(journal, *task)).count() as u32
+    (from..end).filter(|task| !journal.is_taken(*task)).count() as u32
 }
 
 /// How many tasks are not claimed, where each below from is.

@@ -80,7 +80,7 @@ none_at p a (suc n) u h l b = by_first (a == u) refl (λ o. none_at p (a + 1) n 
         other q = let s : (a == u) ≡ true = eq-eqb a u q in absurd cc
 
 not_in_way : (o : Opening) (past : List Entry) (t u : ℕ) (s r : Task) → is_free o past t ≡ true → is_busy past u ≡ true → task_of o t ≡ Some s → task_of o u ≡ Some r → bytes_eq r.key s.key ≡ false
-not_in_way o past t u s r f b et eu = either_left (bytes_eq r.key s.key) (clashes r.file s.file || share_name r s) conflict
+not_in_way o past t u s r f b et eu = either_left (bytes_eq r.key s.key) (clashes r.file s.file) (either_left (bytes_eq r.key s.key || clashes r.file s.file) (share_name r s) conflict)
   where
     turned_off : (x : Bool) → not x ≡ true → x ≡ false
     turned_off true e = absurd cc

@@ -25,3 +25,7 @@ returns-clause-ended c = refl
 pub returns-clause-size : goal.returns-clause-size
 unfolding digits
 returns-clause-size c = refl
+
+pub returns-clause-renamed : goal.returns-clause-renamed
+unfolding digits
+returns-clause-renamed c = refl

@@ -1,5 +1,0 @@
-use Rattle.std.proofs.Common.{arith, sym}
-use Rattle.journal_look.proofs.tasks.is_taken.Goals as goal
-
-pub returns-then-top-from : goal.returns-then-top-from
-returns-then-top-from c = sym (c.top.ensures.each c.args.task (omega (arith, c.from.ensures)))
