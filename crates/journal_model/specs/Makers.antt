@@ -2,7 +2,7 @@
 use Rattle.std.specs.Prelude.{ℕ, ◌==◌, ◌&&◌, Bool, false, List, Option, filter, map}
 use Rattle.std.specs.List.{list_any}
 use Rattle.journal_model.specs.declared.entry.What.{What}
-use Rattle.journal_model.specs.declared.entry.What.TheVariants.{Claim, Ask, Lost, Answer as Answered, Note as Noted}
+use Rattle.journal_model.specs.declared.entry.What.TheVariants.{Claim, Ask, Lost, Answer as Answered, Note as Noted, Again}
 use Rattle.journal_model.specs.declared.entry.Entry.{Entry}
 use Rattle.journal_model.specs.declared.verdict.Verdict.{Verdict}
 use Rattle.journal_model.specs.Journal.{each_of, verdict_of}
@@ -12,13 +12,14 @@ use Rattle.journal_model.specs.Legality.{claims, job_for}
 abbrev pub made_by_number : ℕ → List Entry → List Entry
 made_by_number number entries = filter (λ e. e.by == number) entries
 
--- the task is claimed, asks, stands for a request that was lost, notes its chunks, or is answered
+-- the task is claimed, asks, stands for a request that was lost, notes its chunks, is answered, or is to be run again
 abbrev pub is_of_task : ℕ → What → Bool
 is_of_task t (Claim task child) = task == t
 is_of_task t (Ask child job task line) = task == t
 is_of_task t (Lost child task) = task == t
 is_of_task t (Answered task answer) = task == t
 is_of_task t (Noted task chunk count) = task == t
+is_of_task t (Again task answer) = task == t
 is_of_task t _ = false
 
 -- the number claims the task in one of the entries, and may have answered it since
