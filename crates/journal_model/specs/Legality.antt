@@ -48,15 +48,24 @@ abbrev pub renews : ℕ → What → Bool
 renews t (Again task answer) = task == t
 renews t _ = false
 
+-- the entry ends a run of the task: with its answer, or so that it is run again
+abbrev pub closes : ℕ → What → Bool
+closes t (Answered task answer) = task == t
+closes t (Again task answer) = task == t
+closes t _ = false
+
 -- what the entry makes of whether the task is claimed
 abbrev pub claimed_after : ℕ → Bool → What → Bool
 claimed_after t before (Claim task child) = before || task == t
 claimed_after t before (Again task answer) = before && not (task == t)
 claimed_after t before w = before
 
+abbrev pub claimed_on : ℕ → Bool → Entry → Bool
+claimed_on t before e = claimed_after t before e.what
+
 -- the task is claimed from a claim on, until it is to be run again
 abbrev pub is_claimed : List Entry → ℕ → Bool
-is_claimed past t = fold (λ before e. claimed_after t before e.what) false past
+is_claimed past t = fold (claimed_on t) false past
 
 -- how often the task was begun, with the run that comes next or is open: 1 plus the number of its Agains
 abbrev pub turn_of_task : List Entry → ℕ → ℕ

@@ -1,12 +1,13 @@
 -- Who made which entries, and which entries are a task's.
-use Rattle.std.specs.Prelude.{ℕ, ◌==◌, ◌&&◌, Bool, false, List, Option, filter, map}
+use Rattle.std.specs.Prelude.{ℕ, ◌==◌, ◌&&◌, ◌||◌, not, if◌then◌else◌, Bool, true, false, List, [], ◌∷◌, Option, is_none, filter, map}
 use Rattle.std.specs.List.{list_any}
 use Rattle.journal_model.specs.declared.entry.What.{What}
 use Rattle.journal_model.specs.declared.entry.What.TheVariants.{Claim, Ask, Lost, Answer as Answered, Note as Noted, Again}
 use Rattle.journal_model.specs.declared.entry.Entry.{Entry}
 use Rattle.journal_model.specs.declared.verdict.Verdict.{Verdict}
 use Rattle.journal_model.specs.Journal.{each_of, verdict_of}
-use Rattle.journal_model.specs.Legality.{claims, job_for}
+use Rattle.journal_model.specs.declared.holder.Holder.{Holder}
+use Rattle.journal_model.specs.Legality.{claims, is_held_by, job_for, turned}
 
 -- the entries that this number made
 abbrev pub made_by_number : ℕ → List Entry → List Entry
@@ -25,6 +26,15 @@ is_of_task t _ = false
 -- the number claims the task in one of the entries, and may have answered it since
 abbrev pub is_taken_by : List Entry → ℕ → ℕ → Bool
 is_taken_by entries number t = list_any (λ e. e.by == number && claims t e.what) entries
+
+-- where the task is held so, the entry is not of it, claims it where nobody holds it, or is its holder's
+abbrev pub is_by_holder : ℕ → Option Holder → Entry → Bool
+is_by_holder t held e = not (is_of_task t e.what) || (if claims t e.what then is_none held else is_held_by e.by held)
+
+-- so is each entry, where the task is held so before the first
+abbrev pub are_by_holder : ℕ → Option Holder → List Entry → Bool
+are_by_holder t held [] = true
+are_by_holder t held (e ∷ entries) = is_by_holder t held e && are_by_holder t (turned t held e) entries
 
 -- what a journal has of a task: its entries, and how its jobs were settled
 pub record TaskPart : Type 0 where
