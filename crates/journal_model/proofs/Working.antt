@@ -75,7 +75,7 @@ unclaimed_in t xs h = any-fewer (λ (e : Entry). is_of_task t e.what) (λ (e : E
 pub unclosed_in : (t : ℕ) (xs : List Entry) → any (is_of_task t) xs ≡ false → any (closes t) xs ≡ false
 unclosed_in t xs h = any-fewer (λ (e : Entry). is_of_task t e.what) (λ (e : Entry). closes t e.what) (λ e k. not_closes t e.what k) xs h
 
-unrenewed_in : (t : ℕ) (xs : List Entry) → any (is_of_task t) xs ≡ false → any (renews t) xs ≡ false
+pub unrenewed_in : (t : ℕ) (xs : List Entry) → any (is_of_task t) xs ≡ false → any (renews t) xs ≡ false
 unrenewed_in t xs h = any-fewer (λ (e : Entry). is_of_task t e.what) (λ (e : Entry). renews t e.what) (λ e k. not_renews t e.what k) xs h
 
 pub no_jobs_in : (t : ℕ) (xs : List Entry) → any (is_of_task t) xs ≡ false → each_of (job_for t) xs ≡ []
@@ -378,18 +378,18 @@ held_alone o seen more n t pos legal held none =
 
 -- ---- once
 
-count-append : (p : What → Bool) (xs ys : List Entry) → count p (xs ++ ys) ≡ count p xs + count p ys
+pub count-append : (p : What → Bool) (xs ys : List Entry) → count p (xs ++ ys) ≡ count p xs + count p ys
 count-append p xs ys = ap (λ (l : List Entry). length l) (filter-append (λ (e : Entry). p e.what) xs ys) ∙ length-append (filter (λ (e : Entry). p e.what) xs) (filter (λ (e : Entry). p e.what) ys)
 
 count_none : (p : What → Bool) (xs : List Entry) → any p xs ≡ false → count p xs ≡ 0
 count_none p [] h = refl
 count_none p (e ∷ xs) h = rw (either_left (p e.what) (any p xs) h) (count_none p xs (either_right (p e.what) (any p xs) h))
 
-abbrev one_if : Bool → ℕ
+abbrev pub one_if : Bool → ℕ
 one_if true = 1
 one_if false = 0
 
-count_one : (p : What → Bool) (e : Entry) (xs : List Entry) → any p xs ≡ false → count p (e ∷ xs) ≡ one_if (p e.what)
+pub count_one : (p : What → Bool) (e : Entry) (xs : List Entry) → any p xs ≡ false → count p (e ∷ xs) ≡ one_if (p e.what)
 count_one p e xs h = go (p e.what)
   where
     n : count p xs ≡ 0
@@ -400,18 +400,18 @@ count_one p e xs h = go (p e.what)
     go false = n
 
 -- there are as many claims of a task as Agains of it, and one more while it is claimed
-claims_counted : (o : Opening) (journal : List Entry) → Legal o journal → (t : ℕ) → 0 < t → count (claims t) journal ≡ one_if (is_claimed journal t) + count (renews t) journal
+pub claims_counted : (o : Opening) (journal : List Entry) → Near o journal → (t : ℕ) → count (claims t) journal ≡ one_if (is_claimed journal t) + count (renews t) journal
 claims_counted o journal l =
-    Legal-induction o (λ past. (t : ℕ) → 0 < t → count (claims t) past ≡ one_if (is_claimed past t) + count (renews t) past) (λ t pos. refl)
+    Near-induction o (λ past. (t : ℕ) → count (claims t) past ≡ one_if (is_claimed past t) + count (renews t) past) (λ t. refl)
     (λ past e legal before may. step past e.by e.what before may) journal l
   where
-    step : (past : List Entry) (by : ℕ) (w : What) → ((t : ℕ) → 0 < t → count (claims t) past ≡ one_if (is_claimed past t) + count (renews t) past) → may_come o past by w ≡ true
-        → (t : ℕ) → 0 < t → count (claims t) (past ++ entry by w ∷ due_after o past (entry by w))
+    step : (past : List Entry) (by : ℕ) (w : What) → ((t : ℕ) → count (claims t) past ≡ one_if (is_claimed past t) + count (renews t) past) → may_come o past by w ≡ true
+        → (t : ℕ) → count (claims t) (past ++ entry by w ∷ due_after o past (entry by w))
         ≡ one_if (is_claimed (past ++ entry by w ∷ due_after o past (entry by w)) t) + count (renews t) (past ++ entry by w ∷ due_after o past (entry by w))
-    step past by w before may t pos =
+    step past by w before may t =
         count-append (claims t) past more
         ∙ (rw (
-          before t pos,
+          before t,
           claimed_group o past by w t,
           count-append (renews t) past more,
           count_one (claims t) (entry by w) due (unclaimed_in t due (due_untasked o past by t w)),
@@ -447,8 +447,8 @@ claims_counted o journal l =
                 by_bool false = omega arith
         arithmetic w may = omega arith
 
-pub claimed_once : (o : Opening) (journal : List Entry) → Legal o journal → (t : ℕ) → 0 < t → count (claims t) journal ≤ 1 + count (renews t) journal
-claimed_once o journal l t pos = (let eq = claims_counted o journal l t pos in omega (arith, eq, at_most (is_claimed journal t)))
+pub claimed_once : (o : Opening) (journal : List Entry) → Legal o journal → (t : ℕ) → count (claims t) journal ≤ 1 + count (renews t) journal
+claimed_once o journal l t = (let eq = claims_counted o journal (inl l) t in omega (arith, eq, at_most (is_claimed journal t)))
   where
     at_most : (b : Bool) → one_if b ≤ 1
     at_most true = omega arith

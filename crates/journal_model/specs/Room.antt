@@ -24,7 +24,7 @@ room_for_all entries = sum_by (λ e. room_for e.what) entries
 
 -- a claim of each task, with its answer or Again, as often as it may be run, and what the entries so far take
 abbrev pub room_of : Opening → List Entry → ℕ
-room_of o journal = 2 * (1 + o.again) * length o.tasks + room_for_all journal
+room_of o journal = 2 * ((1 + o.again) * length o.tasks) + room_for_all journal
 
 abbrev pub is_ask : What → Bool
 is_ask (Ask child job task line) = true

@@ -9,7 +9,7 @@ ghost use Rattle.journal_model.specs.Makers.{is_of_task, are_by_holder, task_par
 /// Between two claims of a task it was to be run again. Each of its entries claims it where nobody holds it, or is its holder's.
 /// While it isn't busy, no job of it is open.
 pub fn tasks_are_their_claimers()
-    ensures once { (o : Opening) (journal : List Entry) → Legal o journal → (t : ℕ) → 0 < t → count (claims t) journal ≤ 1 + count (renews t) journal }
+    ensures once { (o : Opening) (journal : List Entry) → Legal o journal → (t : ℕ) → count (claims t) journal ≤ 1 + count (renews t) journal }
     ensures own { (o : Opening) (journal : List Entry) → Legal o journal → (t : ℕ) → 0 < t → are_by_holder t None journal ≡ true }
     ensures shut { (o : Opening) (journal : List Entry) → Legal o journal → (t : ℕ) → 0 < t → is_busy journal t ≡ false → has_open_job journal t ≡ false }
 {}
