@@ -418,7 +418,8 @@ def case_what_is_exported_is_replaced_and_renamed_over(room):
     for name, content in (("f", "hi"), ("g", "abc")):
         room.write(name, content)
     tasks = f"xstore WORM-s2--a f\tn\nxstore {ABC} g\tn\nxstore WORM-s2--a f\tm\nxrename WORM-s2--a m\tn\nxrename WORM-s2--a m\to\n"
-    done = export(room, tasks, 8)
+    # By one worker, in the order of the list: by several the last one needn't wait for the second, as the one before it does.
+    done = export(room, tasks, 1)
     expect(done, Done(1, "1 stored\n2 stored\n3 stored\n4 renamed\n5 failed \n", ""))
     expect(site(room), {"n": "hi"}, "what is exported")
 
