@@ -3,13 +3,14 @@ use Rattle.std.proofs.Common.{◌≡◌, ◌≢◌, ◌∙◌, ℕ, ◌+◌, ◌
 use Rattle.std.specs.Prelude.{◌==◌, ◌||◌, find, fold, nat_le, option_map}
 use Rattle.std.specs.Option.{option_or}
 use Rattle.std.proofs.lemmas.List.{take_more}
-use Rattle.std.proofs.lemmas.List.Folds.{find-append, list_any-append}
+use Rattle.std.proofs.lemmas.List.Folds.{find-append}
 use Rattle.std.proofs.lemmas.Bool.Decides.{nat_tests}
 use Rattle.journal_model.specs.declared.holder.Holder.{Holder}
 use Rattle.journal_model.specs.declared.entry.What.{What}
-use Rattle.journal_model.specs.declared.entry.What.TheVariants.{Claim, Start, NoStart, Lead, Ask, Put, Sent, Mute, Got, End, Verdict as Settled, Lost, Answer as Answered, Note as Noted}
+use Rattle.journal_model.specs.declared.entry.What.TheVariants.{Claim, Start, NoStart, Lead, Ask, Put, Sent, Mute, Got, End, Verdict as Settled, Lost, Answer as Answered, Note as Noted, Again}
 use Rattle.journal_model.specs.declared.entry.Entry.{Entry}
-use Rattle.journal_model.specs.Legality.{claims, holder, turned, turned_by}
+use Rattle.journal_model.proofs.Holding.{claimed_append}
+use Rattle.journal_model.specs.Legality.{claimed_after, holder, turned, turned_by}
 use Rattle.journal_model.proofs.Looks.{differ, same_number}
 use Rattle.journal_look.specs.declared.held.Held.{Held}
 use Rattle.journal_look.specs.Holds.{AreHeld, AreUnclaimed, held_by, held_of, let_go, top_after}
@@ -72,6 +73,11 @@ turns (Answered task answer) by t held = go (task == t) refl
     go : (b : Bool) → (task == t) ≡ b → cond b None (held_of held t) ≡ held_of (let_go task held) t
     go true e = sym (ap (option_map (λ (h : Held). h.by)) (subst (λ (k : ℕ). find (λ (h : Held). h.task == k) (let_go task held) ≡ None) (same_number task t e) (gone task held)))
     go false e = sym (ap (option_map (λ (h : Held). h.by)) (stays task t e held))
+turns (Again task answer) by t held = go (task == t) refl
+  where
+    go : (b : Bool) → (task == t) ≡ b → cond b None (held_of held t) ≡ held_of (let_go task held) t
+    go true e = sym (ap (option_map (λ (h : Held). h.by)) (subst (λ (k : ℕ). find (λ (h : Held). h.task == k) (let_go task held) ≡ None) (same_number task t e) (gone task held)))
+    go false e = sym (ap (option_map (λ (h : Held). h.by)) (stays task t e held))
 turns w by t held = refl
 
 held_more : (past : List Entry) (e : Entry) (held : List Held) → AreHeld past held → AreHeld (past ++ e ∷ []) (held_by e.by e.what held)
@@ -87,8 +93,7 @@ after_held past e held more are is = subst (AreHeld (past ++ e ∷ [])) (sym is)
 pub unclaimed_more : (past : List Entry) (e : Entry) (top : ℕ) → AreUnclaimed past top → AreUnclaimed (past ++ e ∷ []) (top_after e.what top)
 unclaimed_more past e top are = record {
   each = λ t high.
-      list_any-append (λ (d : Entry). claims t d.what) past (e ∷ [])
-      ∙ (let here = are.each t (lower e.what t high) in rw here (last e.what t high));
+      claimed_append past (e ∷ []) t ∙ (let here = are.each t (lower e.what t high) in rw here (last e.what t high));
 }
   where
     tops : (task : ℕ) → (b : Bool) → nat_le top task ≡ b → top ≤ cond b (task + 1) top
@@ -110,12 +115,13 @@ unclaimed_more past e top are = record {
     lower (Lost child task) t high = high
     lower (Answered task answer) t high = high
     lower (Noted task chunk count) t high = high
+    lower (Again task answer) t high = high
 
     above : (task : ℕ) → (b : Bool) → nat_le top task ≡ b → task < cond b (task + 1) top
     above task true h = omega arith
     above task false h = grind (arith, nat_tests)
 
-    last : (w : What) (t : ℕ) → top_after w top ≤ t → (claims t w || false) ≡ false
+    last : (w : What) (t : ℕ) → top_after w top ≤ t → claimed_after t false w ≡ false
     last (Claim task child) t high =
         let h = above task (nat_le top task) refl in
         let other : task ≢ t = λ (same : task ≡ t). (let no : ⊥ = omega arith in no) in

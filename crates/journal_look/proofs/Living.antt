@@ -8,7 +8,7 @@ use Rattle.std.proofs.lemmas.List.Elements.{filter-append}
 use Rattle.std.proofs.lemmas.List.Filters.{length-filter_both}
 use Rattle.std.proofs.lemmas.Grind.{common_steps}
 use Rattle.journal_model.specs.declared.entry.What.{What}
-use Rattle.journal_model.specs.declared.entry.What.TheVariants.{Claim, Start, NoStart, Lead, Ask, Put, Sent, Mute, Got, End, Verdict as Settled, Lost, Answer as Answered, Note as Noted}
+use Rattle.journal_model.specs.declared.entry.What.TheVariants.{Claim, Start, NoStart, Lead, Ask, Put, Sent, Mute, Got, End, Verdict as Settled, Lost, Answer as Answered, Note as Noted, Again}
 use Rattle.journal_model.specs.declared.entry.Entry.{Entry}
 use Rattle.journal_model.specs.Journal.{any, each_of, starts, ends, mutes, got_from, offers, sends, asks, end_why, verdict_in, first_of, why_of, verdict_of}
 use Rattle.journal_model.specs.Legality.{count, is_start, prepares}
@@ -109,6 +109,7 @@ lived_other c (NoStart slot) life other = refl
 lived_other c (Lost child task) life other = refl
 lived_other c (Answered task answer) life other = refl
 lived_other c (Noted task chunk count) life other = refl
+lived_other c (Again task answer) life other = refl
 
 still : (past : List Entry) (e : Entry) (c : ℕ) → ((b : ℕ) → about e.what ≡ Some b → b ≢ c) → life_of (past ++ e ∷ []) c ≡ life_of past c
 still past e c other = life_more past e c ∙ lived_other c e.what (life_of past c) other

@@ -1,12 +1,16 @@
 -- What the marks of a journal save.
-use Rattle.std.proofs.Common.{◌≡◌, ◌∙◌, ℕ, zero, suc, ◌+◌, ◌-◌, ◌<◌, ◌≤◌, List, [], ◌∷◌, ◌++◌, refl, sym, ap, subst, Bool, true, false, not, None, length, arith, inl, inr}
-use Rattle.std.specs.Prelude.{◌&&◌, ◌||◌, ◌⊎◌, filter, find}
+use Rattle.std.proofs.Common.{◌≡◌, ◌≢◌, ◌∙◌, cond, ℕ, zero, suc, ◌+◌, ◌-◌, ◌<◌, ◌≤◌, List, [], ◌∷◌, ◌++◌, refl, sym, ap, subst, Bool, true, false, not, None, length, arith, inl, inr}
+use Rattle.std.specs.Prelude.{◌&&◌, ◌||◌, ◌⊎◌, nat_lt, filter, find}
 use Rattle.std.specs.List.{list_all, range_with_len}
-use Rattle.std.proofs.lemmas.List.Folds.{list_any-append}
 use Rattle.journal_model.specs.declared.entry.Entry.{Entry}
 use Rattle.journal_model.specs.declared.opening.Opening.{Opening}
-use Rattle.journal_model.specs.Legality.{claims, is_claimed, is_free}
-use Rattle.journal_look.specs.Marks.{AreClaimed}
+use Rattle.journal_model.specs.Legality.{claims, claimed_after, is_claimed, is_free}
+use Rattle.journal_model.specs.declared.entry.What.{What}
+use Rattle.journal_model.specs.declared.entry.What.TheVariants.{Claim, Again}
+use Rattle.journal_model.proofs.Holding.{claimed_append}
+use Rattle.journal_model.proofs.Looks.{differ}
+use Rattle.std.proofs.lemmas.Bool.Decides.{nat_tests}
+use Rattle.journal_look.specs.Marks.{AreClaimed, lowered}
 
 -- ---- tasks
 
@@ -16,12 +20,42 @@ none_claimed entries = record { each = λ u some below. absurd (omega arith) }
 pub claimed_same : (es fs : List Entry) (t : ℕ) → fs ≡ es → AreClaimed es t → AreClaimed fs t
 claimed_same es fs t e h = subst (λ (l : List Entry). AreClaimed l t) (sym e) h
 
-pub claimed_more : (entries : List Entry) (e : Entry) (t : ℕ) → AreClaimed entries t → AreClaimed (entries ++ e ∷ []) t
-claimed_more entries e t claimed = record {
+-- a claim leaves each claimed task so
+claimed_by_claim : (t u : ℕ) (b : Bool) (w : What) → claims t w ≡ true → b ≡ true → claimed_after u b w ≡ true
+claimed_by_claim t u b (Claim task child) c h = rw h refl
+claimed_by_claim t u b w c h = absurd cc
+
+claimed_more : (entries : List Entry) (e : Entry) (t v : ℕ) → claims v e.what ≡ true → AreClaimed entries t → AreClaimed (entries ++ e ∷ []) t
+claimed_more entries e t v is claimed = record {
+  each = λ u some below. claimed_append entries (e ∷ []) u ∙ claimed_by_claim v u (is_claimed entries u) e.what is (claimed.each u some below);
+}
+
+-- and an Again all but its own
+lowered_leaves : (t u : ℕ) (b : Bool) (w : What) → 0 < u → u < lowered w t → b ≡ true → claimed_after u b w ≡ true
+lowered_leaves t u b (Claim task child) some below h = rw h refl
+lowered_leaves t u b (Again task answer) some below h =
+    let other : task ≢ u = λ (same : task ≡ u). apart same (nat_lt 0 task && nat_lt task t) refl in
+    let no = differ task u other in
+    rw (h, no) refl
+  where
+    apart : task ≡ u → (c : Bool) → (nat_lt 0 task && nat_lt task t) ≡ c → ⊥
+    apart same true e = (let here : u < task = (rw e at below) in omega (arith, here, same))
+    apart same false e = (let here : u < t = (rw e at below) in grind (arith, nat_tests, here, same, some))
+lowered_leaves t u b w some below h = h
+
+below_lowered : (t u : ℕ) (w : What) → u < lowered w t → u < t
+below_lowered t u (Again task answer) h = go (nat_lt 0 task && nat_lt task t) refl h
+  where
+    go : (c : Bool) → (nat_lt 0 task && nat_lt task t) ≡ c → u < cond c task t → u < t
+    go true e h = grind (arith, nat_tests)
+    go false e h = h
+below_lowered t u w h = h
+
+pub claimed_lowered : (past : List Entry) (e : Entry) (t : ℕ) → AreClaimed past t → AreClaimed (past ++ e ∷ []) (lowered e.what t)
+claimed_lowered past e t are = record {
   each = λ u some below.
-      let whole = list_any-append (λ (d : Entry). claims u d.what) entries (e ∷ []) in
-      let here = claimed.each u some below in
-      rw (whole, here) refl;
+      claimed_append past (e ∷ []) u
+      ∙ lowered_leaves t u (is_claimed past u) e.what some below (are.each u some (below_lowered t u e.what below));
 }
 
 pub one_more_claimed : (entries : List Entry) (t : ℕ) → AreClaimed entries t → is_claimed entries t ≡ true → AreClaimed entries (t + 1)
@@ -36,13 +70,15 @@ one_more_claimed entries t claimed here = record { each = λ u some below. go u 
 
 pub claimed_next : (past : List Entry) (e : Entry) (t : ℕ) → claims t e.what ≡ true → AreClaimed past t → AreClaimed (past ++ e ∷ []) (t + 1)
 claimed_next past e t here are =
-    one_more_claimed (past ++ e ∷ []) t (claimed_more past e t are)
-    (list_any-append (λ (d : Entry). claims t d.what) past (e ∷ []) ∙ last (is_claimed past t) (claims t e.what) here)
+    one_more_claimed (past ++ e ∷ []) t (claimed_more past e t t here are) (claimed_append past (e ∷ []) t ∙ now e.what here)
   where
-    last : (a b : Bool) → b ≡ true → (a || (b || false)) ≡ true
-    last true b h = refl
-    last false true h = refl
-    last false false h = h
+    now : (w : What) → claims t w ≡ true → claimed_after t (is_claimed past t) w ≡ true
+    now (Claim task child) h = rw h (last (is_claimed past t))
+      where
+        last : (a : Bool) → (a || true) ≡ true
+        last true = refl
+        last false = refl
+    now w h = absurd cc
 
 pub claimed_not_free : (o : Opening) (entries : List Entry) (u : ℕ) → is_claimed entries u ≡ true → is_free o entries u ≡ false
 claimed_not_free o entries u h = rw h refl

@@ -8,7 +8,7 @@ use Rattle.std.proofs.lemmas.List.Elements.{All-nil, All-head, All-tail, All-pus
 use Rattle.std.proofs.lemmas.List.Folds.{list_any-append, prefix_len-append}
 use Rattle.journal_model.specs.declared.verdict.Verdict.{Verdict}
 use Rattle.journal_model.specs.declared.entry.What.{What}
-use Rattle.journal_model.specs.declared.entry.What.TheVariants.{Claim, Start, NoStart, Lead, Ask, Put, Sent, Mute, Got, End, Verdict as Settled, Lost, Answer as Answered, Note as Noted}
+use Rattle.journal_model.specs.declared.entry.What.TheVariants.{Claim, Start, NoStart, Lead, Ask, Put, Sent, Mute, Got, End, Verdict as Settled, Lost, Answer as Answered, Note as Noted, Again}
 use Rattle.journal_model.specs.declared.entry.Entry.{Entry}
 use Rattle.journal_model.specs.Journal.{any, asks, asked_jobs, each_of, first_of, is_open, is_settled, open_jobs, settles, verdict_of}
 use Rattle.journal_model.specs.Legality.{has_open_job, job_for}
@@ -105,6 +105,7 @@ asks_next c n (Settled child job v) keeps k h = absurd cc
 asks_next c n (Lost child task) keeps k h = absurd cc
 asks_next c n (Answered task answer) keeps k h = absurd cc
 asks_next c n (Noted task chunk count) keeps k h = absurd cc
+asks_next c n (Again task answer) keeps k h = absurd cc
 
 -- the entry is about a job that was asked, or that it asks
 touches_known : (c j : ℕ) (w : What) (xs : List ℕ) → keeps_numbers (length xs) w ≡ true → touches c j w ≡ true → j < length (xs ++ cons_option (asks c w) [])
@@ -152,6 +153,7 @@ touches_known c j (End child why) xs keeps h = absurd cc
 touches_known c j (Lost child task) xs keeps h = absurd cc
 touches_known c j (Answered task answer) xs keeps h = absurd cc
 touches_known c j (Noted task chunk count) xs keeps h = absurd cc
+touches_known c j (Again task answer) xs keeps h = absurd cc
 
 -- the entry keeps to the numbers of its child
 abbrev Keeps : List Entry → What → Type 0
@@ -195,6 +197,7 @@ numbers_more past e keeps are = record {
         go (Lost child task) h = absurd cc
         go (Answered task answer) h = absurd cc
         go (Noted task chunk count) h = absurd cc
+        go (Again task answer) h = absurd cc
 
     here : (c j : ℕ) → (any (touches c j) past ≡ true) ⊎ ((touches c j e.what || false) ≡ true) → j < length (asked_jobs (past ++ e ∷ []) c)
     here c j (inl h) = let low = are.touched c j h in let long = asked_longer past e c in omega arith

@@ -1,13 +1,13 @@
 -- The table of claimed tasks, after one more entry.
-use Rattle.std.proofs.Common.{◌≡◌, ◌≢◌, ◌∙◌, ℕ, zero, suc, ◌+◌, ◌<◌, List, [], ◌∷◌, ◌++◌, refl, sym, ap, subst, Bool, true, false, length, get_or, set, take, arith, get_or-set_other, get_or-set_same}
-use Rattle.std.specs.Prelude.{◌==◌, ◌||◌}
+use Rattle.std.proofs.Common.{◌≡◌, ◌∙◌, ℕ, zero, suc, ◌+◌, ◌<◌, List, [], ◌∷◌, ◌++◌, refl, sym, ap, subst, Bool, true, false, not, cond, length, get_or, set, take, arith, get_or-set_other, get_or-set_same}
+use Rattle.std.specs.Prelude.{◌==◌, ◌||◌, ◌&&◌}
 use Rattle.std.proofs.lemmas.Bool.{eqb-true, eqb-false}
 use Rattle.std.proofs.lemmas.List.{take_more}
-use Rattle.std.proofs.lemmas.List.Folds.{list_any-append}
 use Rattle.journal_model.specs.declared.entry.What.{What}
-use Rattle.journal_model.specs.declared.entry.What.TheVariants.{Claim}
+use Rattle.journal_model.specs.declared.entry.What.TheVariants.{Claim, Again}
 use Rattle.journal_model.specs.declared.entry.Entry.{Entry}
-use Rattle.journal_model.specs.Legality.{claims, is_claimed}
+use Rattle.journal_model.specs.Legality.{claimed_after, is_claimed}
+use Rattle.journal_model.proofs.Holding.{claimed_append}
 use Rattle.journal_look.specs.Taken.{AreTaken, taken_after}
 
 pub none_noted : (past : List Entry) → AreTaken past []
@@ -20,39 +20,39 @@ length_set (x ∷ xs) (suc n) b = ap (λ (k : ℕ). suc k) (length_set xs n b)
 
 length_after : (w : What) (taken : List Bool) → length (taken_after w taken) ≡ length taken
 length_after (Claim task child) taken = length_set taken task true
+length_after (Again task answer) taken = length_set taken task false
 length_after w taken = refl
 
-or_nothing : (b : Bool) → (b || false) ≡ b
-or_nothing true = refl
-or_nothing false = refl
-
-or_true : (b : Bool) → (b || true) ≡ true
-or_true true = refl
-or_true false = refl
-
-at_claim : (task t : ℕ) (taken : List Bool) (was : Bool) → t < length taken → get_or taken t false ≡ was
-    → get_or (set taken task true) t false ≡ (was || ((task == t) || false))
-at_claim task t taken was within is = go (task == t) refl
+set_at : (task t : ℕ) (b : Bool) (taken : List Bool) → t < length taken → get_or (set taken task b) t false ≡ cond (task == t) b (get_or taken t false)
+set_at task t b taken within = go (task == t) refl
   where
-    go : (b : Bool) → (task == t) ≡ b → get_or (set taken task true) t false ≡ (was || (b || false))
-    go true e =
-        let same : task ≡ t = eqb-true task t e in
-        subst (λ (n : ℕ). get_or (set taken n true) t false ≡ true) (sym same) (get_or-set_same taken t true false within) ∙ sym (or_true was)
-    go false e =
-        let apart : t ≢ task = λ (same : t ≡ task). eqb-false task t e (sym same) in
-        get_or-set_other taken task t true false apart ∙ is ∙ sym (or_nothing was)
+    go : (c : Bool) → (task == t) ≡ c → get_or (set taken task b) t false ≡ cond c b (get_or taken t false)
+    go true e = subst (λ (n : ℕ). get_or (set taken n b) t false ≡ b) (sym (eqb-true task t e)) (get_or-set_same taken t b false within)
+    go false e = get_or-set_other taken task t b false (λ (same : t ≡ task). eqb-false task t e (sym same))
 
-after : (w : What) (t : ℕ) (taken : List Bool) (was : Bool) → t < length taken → get_or taken t false ≡ was
-    → get_or (taken_after w taken) t false ≡ (was || (claims t w || false))
-after (Claim task child) t taken was within is = at_claim task t taken was within is
-after w t taken was within is = is ∙ sym (or_nothing was)
+after : (w : What) (t : ℕ) (taken : List Bool) (was : Bool) → t < length taken → get_or taken t false ≡ was → get_or (taken_after w taken) t false ≡ claimed_after t was w
+after (Claim task child) t taken was within is = set_at task t true taken within ∙ ap (cond (task == t) true) is ∙ go (task == t) was
+  where
+    go : (c was : Bool) → cond c true was ≡ (was || c)
+    go true true = refl
+    go true false = refl
+    go false true = refl
+    go false false = refl
+after (Again task answer) t taken was within is = set_at task t false taken within ∙ ap (cond (task == t) false) is ∙ go (task == t) was
+  where
+    go : (c was : Bool) → cond c false was ≡ (was && not c)
+    go true true = refl
+    go true false = refl
+    go false true = refl
+    go false false = refl
+after w t taken was within is = is
 
 pub taken_more : (past : List Entry) (e : Entry) (taken : List Bool) → AreTaken past taken → AreTaken (past ++ e ∷ []) (taken_after e.what taken)
 taken_more past e taken are = record {
   each = λ t within.
       let long : length (taken_after e.what taken) ≡ length taken = length_after e.what taken in
       let was = are.each t (omega arith) in
-      after e.what t taken (is_claimed past t) (omega arith) was ∙ sym (list_any-append (λ (d : Entry). claims t d.what) past (e ∷ []));
+      after e.what t taken (is_claimed past t) (omega arith) was ∙ sym (claimed_append past (e ∷ []) t);
 }
 
 pub taken_next : (entries : List Entry) (n : ℕ) (e : Entry) (old new : List Bool) → n < length entries → e ≡ get_or entries n e → new ≡ taken_after e.what old → AreTaken (take n entries) old

@@ -2,7 +2,7 @@
 use Rattle.std.specs.Prelude.{ℕ, ◌≡◌, ◌+◌, ◌≤◌, ◌==◌, not, nat_le, false, if◌then◌else◌, List, [], ◌∷◌, ◌++◌, Option, filter, find, option_map, IsTrue}
 use Rattle.journal_model.specs.declared.holder.Holder.{Holder}
 use Rattle.journal_model.specs.declared.entry.What.{What}
-use Rattle.journal_model.specs.declared.entry.What.TheVariants.{Claim, Answer as Answered}
+use Rattle.journal_model.specs.declared.entry.What.TheVariants.{Claim, Answer as Answered, Again}
 use Rattle.journal_model.specs.declared.entry.Entry.{Entry}
 use Rattle.journal_model.specs.Legality.{holder, is_claimed}
 use Rattle.journal_look.specs.declared.held.Held.{Held}
@@ -19,6 +19,7 @@ let_go t held = filter (λ h. not (h.task == t)) held
 abbrev pub held_by : ℕ → What → List Held → List Held
 held_by by (Claim task child) held = let_go task held ++ record { task = task; by = record { by = by; child = child } } ∷ []
 held_by by (Answered task answer) held = let_go task held
+held_by by (Again task answer) held = let_go task held
 held_by by w held = held
 
 -- a number from which on no task is claimed

@@ -1,9 +1,9 @@
 -- What a lent entry says.
 use Rattle.journal_model.specs.declared.entry.What.{What}
-use Rattle.journal_model.specs.declared.entry.What.TheVariants.{Claim, Start, NoStart, Lead, Ask, Put, Sent, Mute, Got, End, Verdict, Lost, Answer, Note}
+use Rattle.journal_model.specs.declared.entry.What.TheVariants.{Claim, Start, NoStart, Lead, Ask, Put, Sent, Mute, Got, End, Verdict, Lost, Answer, Note, Again}
 use Rattle.journal_model.specs.declared.entry.Entry.{Entry}
 use Rattle.journal_look.specs.declared.entry.WhatRef.{WhatRef}
-use Rattle.journal_look.specs.declared.entry.WhatRef.TheVariants.{Claim as ClaimRef, Start as StartRef, NoStart as NoStartRef, Lead as LeadRef, Ask as AskRef, Put as PutRef, Sent as SentRef, Mute as MuteRef, Got as GotRef, End as EndRef, Verdict as VerdictRef, Lost as LostRef, Answer as AnswerRef, Note as NoteRef}
+use Rattle.journal_look.specs.declared.entry.WhatRef.TheVariants.{Claim as ClaimRef, Start as StartRef, NoStart as NoStartRef, Lead as LeadRef, Ask as AskRef, Put as PutRef, Sent as SentRef, Mute as MuteRef, Got as GotRef, End as EndRef, Verdict as VerdictRef, Lost as LostRef, Answer as AnswerRef, Note as NoteRef, Again as AgainRef}
 use Rattle.journal_look.specs.declared.entry.EntryRef.{EntryRef}
 
 abbrev pub what_shown : WhatRef → What
@@ -20,6 +20,7 @@ what_shown (EndRef child why) = End child why
 what_shown (VerdictRef child job verdict) = Verdict child job verdict
 what_shown (LostRef child task) = Lost child task
 what_shown (AnswerRef task answer) = Answer task answer
+what_shown (AgainRef task answer) = Again task answer
 what_shown (NoteRef task chunk count) = Note task chunk count
 
 abbrev pub entry_shown : EntryRef → Entry

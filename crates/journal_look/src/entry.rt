@@ -67,6 +67,10 @@ pub enum WhatRef<'a> {
         chunk: u64,
         count: u64,
     },
+    Again {
+        task: u32,
+        answer: Answer,
+    },
 }
 
 /// An entry, and the number of the pass that made it, as in `Entry`, where a line is lent.
@@ -142,6 +146,10 @@ fn what_of(what: &What) -> WhatRef<'_>
             task: *task,
             chunk: *chunk,
             count: *count,
+        },
+        What::Again { task, answer } => WhatRef::Again {
+            task: *task,
+            answer: *answer,
         },
     }
 }

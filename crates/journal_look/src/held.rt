@@ -65,7 +65,7 @@ fn note_known(held: &mut Vec<Held>, entry: &Entry) -> bool
             };
             put(held, Held { task: *task, by })
         }
-        What::Answer { task, .. } => {
+        What::Answer { task, .. } | What::Again { task, .. } => {
             let_go(held, *task);
             true
         }

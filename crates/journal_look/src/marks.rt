@@ -2,15 +2,26 @@
 ghost use Rattle.std.specs.Prelude.{◌≡◌, ◌+◌, ◌≤◌, ◌<◌, ◌++◌, ◌∷◌, [], List, length, IsTrue};
 ghost use Rattle.journal_model.specs.declared.entry.Entry.{Entry};
 ghost use Rattle.journal_look.specs.Holds.{AreUnclaimed};
-ghost use Rattle.journal_look.specs.Marks.{AreClaimed};
+ghost use Rattle.journal_look.specs.Marks.{AreClaimed, lowered};
 ghost use Rattle.journal_look.specs.Taken.{AreTaken};
 
 use crate::taken::is_taken;
-use journal_model::Entry;
+use journal_model::{Entry, What};
 use journal_scan::claims;
 
+/// The mark after an entry that frees a task below it.
+fn lowered(mark: u32, what: &What) -> u32
+    ensures mark { result ≡ lowered what.now mark }
+    ensures some { 0 < mark → 0 < result }
+{
+    match what {
+        What::Again { task, .. } if 0 < *task && *task < mark => *task,
+        _ => mark,
+    }
+}
+
 /// The mark below which each task is claimed, after one more entry.
-#[tactic(auto, using(crate::proofs::Marking::claimed_next, crate::proofs::Marking::claimed_more))]
+#[tactic(auto, using(crate::proofs::Marking::claimed_next, crate::proofs::Marking::claimed_lowered))]
 pub(super) fn claimed_after(mark: u32, entry: &Entry) -> u32
     ensures some { 0 < mark → 0 < result }
     ensures claimed { (past : List Entry) → AreClaimed past mark → AreClaimed (past ++ entry.now ∷ []) result }
@@ -18,7 +29,7 @@ pub(super) fn claimed_after(mark: u32, entry: &Entry) -> u32
     if claims::claims(&entry.what, mark) && mark < u32::MAX {
         mark + 1
     } else {
-        mark
+        lowered(mark, &entry.what)
     }
 }
 

@@ -13,12 +13,12 @@ use std::alloc::{AllocError, Global};
 /// How long the table is: a place for each number that a task may have, and for 0.
 const NUMBERS: usize = 65_537;
 
-fn mark(taken: &mut Vec<bool>, task: u32)
-    ensures { taken.new.items ≡ slice_set taken.old.items task true }
+fn mark(taken: &mut Vec<bool>, task: u32, claimed: bool)
+    ensures { taken.new.items ≡ slice_set taken.old.items task claimed }
 {
     let at = task as usize;
     if at < taken.len() {
-        taken[at] = true;
+        taken[at] = claimed;
     }
 }
 
@@ -26,8 +26,10 @@ fn mark(taken: &mut Vec<bool>, task: u32)
 pub(super) fn note(taken: &mut Vec<bool>, what: &What)
     ensures { taken.new.items ≡ taken_after what.now taken.old.items }
 {
-    if let What::Claim { task, .. } = what {
-        mark(taken, *task);
+    match what {
+        What::Claim { task, .. } => mark(taken, *task, true),
+        What::Again { task, .. } => mark(taken, *task, false),
+        _ => {}
     }
 }
 

@@ -11,7 +11,7 @@ use Rattle.journal_model.specs.declared.verdict.Verdict.{Verdict}
 use Rattle.journal_model.specs.declared.verdict.Verdict.TheVariants.{Ended, Unsent}
 use Rattle.journal_model.specs.declared.opening.Opening.{Opening}
 use Rattle.journal_model.specs.declared.entry.What.{What}
-use Rattle.journal_model.specs.declared.entry.What.TheVariants.{Claim, Start, NoStart, Lead, Ask, Put, Sent, Mute, Got, End, Verdict as Settled, Lost, Answer as Answered, Note as Noted}
+use Rattle.journal_model.specs.declared.entry.What.TheVariants.{Claim, Start, NoStart, Lead, Ask, Put, Sent, Mute, Got, End, Verdict as Settled, Lost, Answer as Answered, Note as Noted, Again}
 use Rattle.journal_model.specs.declared.entry.Entry.{Entry}
 use Rattle.journal_model.specs.Journal.{is_live, is_open, is_unsent, open_jobs, on_wire, addressed}
 use Rattle.journal_model.specs.Due.{due_after, due_by_got, made_by, verdict_at, replying, replies_at, replies_to, replies_said}
@@ -169,6 +169,7 @@ group_put o past by (Sent child) may i by' c j line h = absurd (alone (Sent chil
 group_put o past by (Settled child job verdict) may i by' c j line h = absurd cc
 group_put o past by (Lost child task) may i by' c j line h = absurd (alone (Lost child task) by i by' c j line h (λ e. cc))
 group_put o past by (Answered task answer) may i by' c j line h = absurd (alone (Answered task answer) by i by' c j line h (λ e. cc))
+group_put o past by (Again task answer) may i by' c j line h = absurd (alone (Again task answer) by i by' c j line h (λ e. cc))
 group_put o past by (Noted task chunk count) may i by' c j line h = absurd (alone (Noted task chunk count) by i by' c j line h (λ e. cc))
 
 -- ---- each legal journal

@@ -1,21 +1,21 @@
 -- Nothing is left undone where each claimer has answered: no task is busy, and no job is open.
-use Rattle.std.proofs.Common.{◌≡◌, zero, suc, ℕ, ◌+◌, ◌<◌, List, [], ◌∷◌, ◌++◌, refl, sym, ap, subst, ◌∙◌, Bool, true, false, not, ◌==◌, cond, Some, None, Option, length, arith, inl}
+use Rattle.std.proofs.Common.{◌≡◌, zero, suc, ℕ, ◌+◌, ◌<◌, List, [], ◌∷◌, ◌++◌, refl, sym, ap, subst, ◌∙◌, Bool, true, false, not, ◌==◌, cond, Some, None, Option, length, arith, ◌⊎◌, inl, inr}
 use Rattle.std.specs.Prelude.{◌&&◌, ◌||◌, find}
 use Rattle.std.specs.List.{list_any, list_all, cons_option, range_with_len}
 use Rattle.std.proofs.lemmas.List.Folds.{list_any-append}
 use Rattle.journal_model.specs.declared.entry.What.{What}
-use Rattle.journal_model.specs.declared.entry.What.TheVariants.{Claim, Ask}
+use Rattle.journal_model.specs.declared.entry.What.TheVariants.{Claim, Ask, Again}
 use Rattle.journal_model.specs.declared.entry.Entry.{Entry}
 use Rattle.journal_model.specs.declared.opening.Opening.{Opening}
 use Rattle.journal_model.specs.Journal.{any, each_of, asks, asked_jobs, is_open, is_live, is_mute}
 use Rattle.journal_model.specs.Due.{due_after}
-use Rattle.journal_model.specs.Legality.{Legal, may_come, answers, claims, is_claimed, is_busy, is_claimed_by, job_for, has_open_job, may_work, is_busy_with, is_number, is_free, least_free, is_prepared}
+use Rattle.journal_model.specs.Legality.{Legal, may_come, answers, claims, claimed_after, holder, is_claimed, is_busy, is_claimed_by, job_for, has_open_job, may_work, is_busy_with, is_number, is_free, least_free, is_prepared}
 use Rattle.journal_model.proofs.Growing.{Near, Near-induction, Legal-induction}
 use Rattle.journal_model.proofs.Looks.{entry, is_asked, both, same, same_number, differ, either_left, either_right, true_not_false, any-append, each_of-append, unasked_closed}
 use Rattle.journal_model.specs.Makers.{is_of_task, is_taken_by}
-use Rattle.journal_model.proofs.Holding.{held_unanswered}
+use Rattle.journal_model.proofs.Holding.{claimed_group, claimed_split, held_busy, held_claimed, held_unanswered}
 use Rattle.journal_model.proofs.Testing.{or_left, or_right, neither, by_either, all-join, all-split, any-more, out}
-use Rattle.journal_model.proofs.Working.{idle_shut, stays_closed, due_untasked, unclaimed_in, taken_claimed, held_taken, ask_work}
+use Rattle.journal_model.proofs.Working.{idle_shut, stays_closed, due_untasked, ask_work}
 
 -- ---- no task has the number 0
 
@@ -33,9 +33,7 @@ zero_near o journal l =
   where
     step : (past : List Entry) (by : ℕ) (w : What) → is_claimed past 0 ≡ false → may_come o past by w ≡ true → is_claimed (past ++ entry by w ∷ due_after o past (entry by w)) 0 ≡ false
     step past by w before may =
-        any-append (claims 0) past (entry by w ∷ due_after o past (entry by w))
-        ∙ neither (is_claimed past 0) (is_claimed (entry by w ∷ due_after o past (entry by w)) 0) before
-        (neither (claims 0 w) (is_claimed (due_after o past (entry by w)) 0) (first w may) (unclaimed_in 0 (due_after o past (entry by w)) (due_untasked o past by 0 w)))
+        claimed_group o past by w 0 ∙ first w may
       where
         number : (task : ℕ) (f : Option ℕ) → least_free o past ≡ f → is_number task f ≡ true → (task == 0) ≡ false
         number task None e h = absurd cc
@@ -43,11 +41,13 @@ zero_near o journal l =
             let pos : 0 < k = found_past (is_free o past) 1 (length o.tasks) k (omega arith) e in
             differ task 0 (λ z. omega (arith, pos, same_number k task h, z))
 
-        first : (v : What) → may_come o past by v ≡ true → claims 0 v ≡ false
+        first : (v : What) → may_come o past by v ≡ true → claimed_after 0 (is_claimed past 0) v ≡ false
         first (Claim task child) m =
-            number task (least_free o past) refl
-            (both (is_number task (least_free o past)) ((child == 0 && by == 0) || (is_prepared past child && is_live past child && not (is_mute past child))) m).0
-        first v m = refl
+            neither (is_claimed past 0) (task == 0) before
+            (number task (least_free o past) refl
+            (both (is_number task (least_free o past)) ((child == 0 && by == 0) || (is_prepared past child && is_live past child && not (is_mute past child))) m).0)
+        first (Again task answer) m = rw before refl
+        first v m = before
 
 pub zero_unclaimed : (o : Opening) (journal : List Entry) → Legal o journal → is_claimed journal 0 ≡ false
 zero_unclaimed o journal l = zero_near o journal (inl l)
@@ -82,7 +82,7 @@ unclaimed_work past by t c free h = go (t == 0) (by == 0) (is_claimed_by past by
     go : (a b l : Bool) → is_claimed_by past by t ≡ l → ((a && b) || (l && is_busy_with past c t && not (has_open_job past t))) ≡ true → b ≡ true
     go true true l e h = refl
     go false true l e h = refl
-    go a false true e h = true_not_false (is_claimed past t) (taken_claimed past by t (held_taken past by t e)) free
+    go a false true e h = true_not_false (is_claimed past t) (held_claimed past t (held_busy by (holder past t) e)) free
     go true false false e h = absurd cc
     go false false false e h = absurd cc
 
@@ -133,11 +133,11 @@ pub record Taken (entries : List Entry) (t : ℕ) : Type 0 where
   pub takes : is_taken_by entries by t ≡ true
   pub there : list_any (λ e. e.by == by) entries ≡ true
 
-pub taken_by_some : (entries : List Entry) (t : ℕ) → is_claimed entries t ≡ true → Taken entries t
+pub taken_by_some : (entries : List Entry) (t : ℕ) → any (claims t) entries ≡ true → Taken entries t
 taken_by_some [] t h = absurd cc
 taken_by_some (e ∷ entries) t h = go (claims t e.what) refl h (taken_by_some entries t)
   where
-    go : (b : Bool) → claims t e.what ≡ b → (b || is_claimed entries t) ≡ true → (is_claimed entries t ≡ true → Taken entries t) → Taken (e ∷ entries) t
+    go : (b : Bool) → claims t e.what ≡ b → (b || any (claims t) entries) ≡ true → (any (claims t) entries ≡ true → Taken entries t) → Taken (e ∷ entries) t
     go true k h rec = record {
       by = e.by;
       takes = or_left (e.by == e.by && claims t e.what) (is_taken_by entries e.by t) (rw (same e.by, k) refl);
@@ -154,18 +154,14 @@ taken_by_some (e ∷ entries) t h = go (claims t e.what) refl h (taken_by_some e
 -- where the start is idle, and each task claimed since is answered, no task is busy
 pub all_idle : (o : Opening) (start rest : List Entry) → Legal o start → Legal o (start ++ rest) → ((t : ℕ) → is_busy start t ≡ false)
     → ((t : ℕ) → is_claimed rest t ≡ true → any (answers t) (start ++ rest) ≡ true) → (t : ℕ) → is_busy (start ++ rest) t ≡ false
-all_idle o start rest first whole idle answered t = by_either (is_claimed rest t) (λ c. not_busy o (start ++ rest) whole t (answered t c)) none
+all_idle o start rest first whole idle answered t = by_either (is_claimed (start ++ rest) t) (λ c. in_either (claimed_split start rest t c)) none
   where
-    none : is_claimed rest t ≡ false → is_busy (start ++ rest) t ≡ false
-    none f = by_either (is_claimed start t) old new
-      where
-        old : is_claimed start t ≡ true → is_busy (start ++ rest) t ≡ false
-        old c = not_busy o (start ++ rest) whole t (answered_more start rest t (done_where_idle o start first t c (idle t)))
+    none : is_claimed (start ++ rest) t ≡ false → is_busy (start ++ rest) t ≡ false
+    none f = held_unanswered o (start ++ rest) whole t ∙ (rw f refl)
 
-        new : is_claimed start t ≡ false → is_busy (start ++ rest) t ≡ false
-        new g =
-            let n : is_claimed (start ++ rest) t ≡ false = any-append (claims t) start rest ∙ neither (is_claimed start t) (is_claimed rest t) g f in
-            held_unanswered o (start ++ rest) whole t ∙ (rw n refl)
+    in_either : (is_claimed start t ≡ true) ⊎ (is_claimed rest t ≡ true) → is_busy (start ++ rest) t ≡ false
+    in_either (inl c) = not_busy o (start ++ rest) whole t (answered_more start rest t (done_where_idle o start first t c (idle t)))
+    in_either (inr c) = not_busy o (start ++ rest) whole t (answered t c)
 
 -- ---- no job is open
 

@@ -11,7 +11,7 @@ use Rattle.journal_model.specs.declared.verdict.Verdict.{Verdict}
 use Rattle.journal_model.specs.declared.verdict.Verdict.TheVariants.{Done as DoneAt, Failed, Absent, Unknown, Unsupported, Ended, Unsent}
 use Rattle.journal_model.specs.declared.opening.Opening.{Opening}
 use Rattle.journal_model.specs.declared.entry.What.{What}
-use Rattle.journal_model.specs.declared.entry.What.TheVariants.{Claim, Start, NoStart, Lead, Ask, Put, Sent, Mute, Got, End, Verdict as Settled, Lost, Answer as Answered, Note as Noted}
+use Rattle.journal_model.specs.declared.entry.What.TheVariants.{Claim, Start, NoStart, Lead, Ask, Put, Sent, Mute, Got, End, Verdict as Settled, Lost, Answer as Answered, Note as Noted, Again}
 use Rattle.journal_model.specs.declared.entry.Entry.{Entry}
 use Rattle.journal_model.specs.Journal.{any, each_of, first_of, offers, got_line, line_at, accepts_async, is_tagged, starts, ends, mutes, settles, asks, verdict_in, line_from, asked_jobs, open_jobs, is_open, is_settled, is_started, is_ended, is_mute, is_live, got_lines, verdict_of, addressed, by_tag, on_wire}
 use Rattle.journal_model.specs.Legality.{may_come, may_ask, may_work, is_greeted, is_prepared, said_version, prepares, is_claimed_by, is_held_by, is_held_for, is_busy_with, has_open_job, job_for, holder, turned, turned_by, claimed_for, is_empty, asks_in_turn, is_in_turn, suits_child, is_done}
@@ -64,6 +64,11 @@ claimed_in (e ∷ past) c t o h = go e.what (claimed_in past c t (turned t o e) 
         claim true same h = inr (rw h (rw same refl))
         claim false same h = inl h
     go (Answered task answer) (inl h) = answer' (task == t) h
+      where
+        answer' : (b : Bool) → is_held_for c (cond b None o) ≡ true → (is_held_for c o ≡ true) ⊎ (list_any (λ (u : ℕ). u == t) (each_of (claimed_for c) past) ≡ true)
+        answer' true h = absurd cc
+        answer' false h = inl h
+    go (Again task answer) (inl h) = answer' (task == t) h
       where
         answer' : (b : Bool) → is_held_for c (cond b None o) ≡ true → (is_held_for c o ≡ true) ⊎ (list_any (λ (u : ℕ). u == t) (each_of (claimed_for c) past) ≡ true)
         answer' true h = absurd cc

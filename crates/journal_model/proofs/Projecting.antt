@@ -16,7 +16,7 @@ use Rattle.annex_model.proofs.Fronts.{front_of}
 use Rattle.annex_model.proofs.Leads.{asked_more}
 use Rattle.journal_model.specs.declared.opening.Opening.{Opening}
 use Rattle.journal_model.specs.declared.entry.What.{What}
-use Rattle.journal_model.specs.declared.entry.What.TheVariants.{Claim, Start, NoStart, Lead, Ask, Put, Sent, Mute, Got, End, Verdict as Settled, Lost, Answer as Answered, Note as Noted}
+use Rattle.journal_model.specs.declared.entry.What.TheVariants.{Claim, Start, NoStart, Lead, Ask, Put, Sent, Mute, Got, End, Verdict as Settled, Lost, Answer as Answered, Note as Noted, Again}
 use Rattle.journal_model.specs.declared.entry.Entry.{Entry}
 use Rattle.journal_model.specs.Journal.{asks, asked_jobs, first_of, verdict_of, has_spoken, got_from, is_open, is_live, addressed}
 use Rattle.journal_model.specs.Parts.{part, part_from, is_for, ends_at}
@@ -430,6 +430,7 @@ step_inv o past by (End child why) inv may plain = end_inv o past by child why i
 step_inv o past by (Settled child job verdict) inv may plain = absurd cc
 step_inv o past by (Lost child task) inv may plain = plain_inv o past by (Lost child task) inv may (λ c. refl) (λ c j. refl) (λ c j. refl)
 step_inv o past by (Answered task answer) inv may plain = plain_inv o past by (Answered task answer) inv may (λ c. refl) (λ c j. refl) (λ c j. refl)
+step_inv o past by (Again task answer) inv may plain = plain_inv o past by (Again task answer) inv may (λ c. refl) (λ c j. refl) (λ c j. refl)
 step_inv o past by (Noted task chunk count) inv may plain = plain_inv o past by (Noted task chunk count) inv may (λ c. refl) (λ c j. refl) (λ c j. refl)
 
 pub invariant : (o : Opening) (journal : List Entry) → Legal o journal → Inv o journal

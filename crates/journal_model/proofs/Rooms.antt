@@ -1,6 +1,6 @@
 -- A legal journal is no longer than its room.
-use Rattle.std.proofs.Common.{◌≡◌, ℕ, suc, List, [], ◌∷◌, ◌++◌, ◌+◌, ◌*◌, ◌≤◌, refl, sym, ap, subst, ◌∙◌, Bool, true, false, length, not, ◌==◌, cond, Some, None, Option, arith, inl, inr, length-drop}
-use Rattle.std.specs.Prelude.{◌&&◌, ◌||◌, map, filter, find}
+use Rattle.std.proofs.Common.{◌≡◌, ℕ, zero, suc, List, [], ◌∷◌, ◌++◌, ◌+◌, ◌*◌, ◌≤◌, refl, sym, ap, subst, ◌∙◌, Bool, true, false, length, not, ◌==◌, cond, Some, None, Option, arith, inl, inr, length-append, length-drop, suc-mul, zero-mul, ◌<◌}
+use Rattle.std.specs.Prelude.{◌&&◌, ◌||◌, nat_lt, map, filter, find}
 use Rattle.std.specs.List.{list_any, cons_option, sum_by}
 use Rattle.std.proofs.lemmas.List.{append-nil}
 use Rattle.std.proofs.lemmas.List.FromFn.{length-range_with_len}
@@ -9,16 +9,18 @@ use Rattle.journal_model.specs.declared.verdict.Verdict.{Verdict}
 use Rattle.journal_model.specs.declared.verdict.Verdict.TheVariants.{Ended, Unsent}
 use Rattle.journal_model.specs.declared.opening.Opening.{Opening}
 use Rattle.journal_model.specs.declared.entry.What.{What}
-use Rattle.journal_model.specs.declared.entry.What.TheVariants.{Claim, Start, NoStart, Lead, Ask, Put, Sent, Mute, Got, End, Verdict as Settled, Lost, Answer as Answered, Note as Noted}
+use Rattle.journal_model.specs.declared.entry.What.TheVariants.{Claim, Start, NoStart, Lead, Ask, Put, Sent, Mute, Got, End, Verdict as Settled, Lost, Answer as Answered, Note as Noted, Again}
 use Rattle.journal_model.specs.declared.entry.Entry.{Entry}
-use Rattle.journal_model.specs.Journal.{each_of, on_wire, asks, asked_jobs, writes, sends, unsent, settles, starts, ends, mutes, is_settled, is_started, is_ended, is_mute, is_live, is_open, is_unsent, open_jobs}
+use Rattle.journal_model.specs.Journal.{any, each_of, on_wire, asks, asked_jobs, writes, sends, unsent, settles, starts, ends, mutes, is_settled, is_started, is_ended, is_mute, is_live, is_open, is_unsent, open_jobs}
 use Rattle.journal_model.specs.Due.{due_after, due_by_got, made_by, replying}
-use Rattle.journal_model.specs.Legality.{Legal, may_come, may_stop, is_number, is_free, numbers_of, claims, answers, is_claimed, is_answered, holder, is_empty, count, Follows}
+use Rattle.journal_model.specs.Legality.{Legal, may_come, may_stop, is_number, is_free, numbers_of, claims, renews, closes, answers, is_claimed, is_claimed_by, is_answered, is_run_again, is_of_lost_child, is_held_over_child, has_open_job, holder, is_empty, count, Follows}
 use Rattle.journal_model.specs.Registers.{is_got}
 use Rattle.journal_model.specs.Room.{room_for, room_for_all, room_of, is_put, is_ask}
 use Rattle.journal_model.proofs.Growing.{Near, Legal-induction, none_asks, due_none_asks, one_ask}
-use Rattle.journal_model.proofs.Looks.{entry, same_number, both, each_of-append, settled_all}
-use Rattle.journal_model.proofs.Holding.{claimed, answered, GotDue, got_due, verdicts_name, replies_name, due_names, not_true, held_busy, held_near}
+use Rattle.journal_model.proofs.Looks.{entry, same_number, both, either_left, either_right, each_of-append, settled_all}
+use Rattle.journal_model.proofs.Working.{claims_counted, count-append, count_one, due_untasked, one_if, unrenewed_in}
+use Rattle.std.proofs.lemmas.Bool.Decides.{nat_tests}
+use Rattle.journal_model.proofs.Holding.{claimed, closed, closing_claims, GotDue, got_due, verdicts_name, replies_name, due_names, not_true, held_busy, held_near}
 use Rattle.journal_model.proofs.Counting.{IsSame, same_nat, nat_is_same, same_pair, pair_is_same, Pair, one, many, many-cons, many-append, AtMost, AtMost-length, more_none, more_one, holds, named_none, named_some, named_count, named_length, is_there, filter_at_most, filter_drops}
 
 -- ---- whom an entry names
@@ -70,15 +72,46 @@ grow_one eq is f g past group x single none some h =
     let gs = each_of-append g past group in
     rw (fs, gs) (more_one eq is (each_of f past) (each_of g past) (each_of g group) x h (omega (arith, none, some)))
 
--- ---- claims and answers
+grow_some : {X : Type 0} (eq : X → X → Bool) → IsSame eq → (f g : What → Option X) (past group : List Entry) (x : X) → each_of f group ≡ x ∷ []
+    → many eq x (each_of f past) + 1 ≤ many eq x (each_of g past)
+    → AtMost eq (each_of f past) (each_of g past) → AtMost eq (each_of f (past ++ group)) (each_of g (past ++ group))
+grow_some eq is f g past group x single room h =
+    let fs = each_of-append f past group ∙ ap (λ (xs : List _). each_of f past ++ xs) single in
+    let gs = each_of-append g past group in
+    rw (fs, gs) (more_one eq is (each_of f past) (each_of g past) (each_of g group) x h room)
+
+-- ---- claims, and what ends runs
 
 claims_is : (t : ℕ) (w : What) → claims t w ≡ holds same_nat t (claimed w)
 claims_is t (Claim task child) = refl
 claims_is t w = refl
 
-answers_is : (t : ℕ) (w : What) → answers t w ≡ holds same_nat t (answered w)
-answers_is t (Answered task answer) = refl
-answers_is t w = refl
+closes_is : (t : ℕ) (w : What) → closes t w ≡ holds same_nat t (closed w)
+closes_is t (Answered task answer) = refl
+closes_is t (Again task answer) = refl
+closes_is t w = refl
+
+-- as often as a count says
+counted : (f : What → Option ℕ) (p : What → Bool) (t : ℕ) → ((w : What) → p w ≡ holds same_nat t (f w)) → (past : List Entry) → count p past ≡ many same_nat t (each_of f past)
+counted f p t is past = length-filter (λ (e : Entry). p e.what) past ∙ named_count same_nat f p t is past
+
+-- a list so many times
+abbrev copies : ℕ → List ℕ → List ℕ
+copies zero xs = []
+copies (suc n) xs = xs ++ copies n xs
+
+copies_many : (t n : ℕ) (xs : List ℕ) → 1 ≤ many same_nat t xs → n ≤ many same_nat t (copies n xs)
+copies_many t zero xs h = omega arith
+copies_many t (suc n) xs h =
+    let all = many-append same_nat t xs (copies n xs) in
+    let r : n ≤ many same_nat t (copies n xs) = copies_many t n xs h in
+    omega (arith, all, r, h)
+
+copies_long : (n : ℕ) (xs : List ℕ) → length (copies n xs) ≡ n * length xs
+copies_long zero xs = sym (zero-mul (length xs))
+copies_long (suc n) xs =
+    let all : length (xs ++ copies n xs) ≡ length xs + length (copies n xs) = length-append xs (copies n xs) in
+    omega (arith, all, copies_long n xs, suc-mul n (length xs))
 
 found : (p : ℕ → Bool) (t : ℕ) (xs : List ℕ) → is_number t (find p xs) ≡ true → (p t ≡ true) × (1 ≤ many same_nat t xs)
 found p t [] h = absurd cc
@@ -96,37 +129,95 @@ found p t (x ∷ xs) h = go (p x) refl h (found p t xs)
         let s : 1 ≤ many same_nat t xs = (r h).1 in
         ((r h).0, omega (arith, all, s))
 
+-- a task is to be run again at most as often as the opening says
+record Renewed (o : Opening) (past : List Entry) : Type 0 where
+  few : (t : ℕ) → count (renews t) past ≤ o.again
+
+renewed_step : (o : Opening) (past : List Entry) (by : ℕ) (w : What) → Renewed o past → may_come o past by w ≡ true → Renewed o (past ++ entry by w ∷ due_after o past (entry by w))
+renewed_step o past by w h may = record { few = few }
+  where
+    due : List Entry
+    due = due_after o past (entry by w)
+
+    few : (t : ℕ) → count (renews t) (past ++ entry by w ∷ due) ≤ o.again
+    few t =
+        let all = count-append (renews t) past (entry by w ∷ due) in
+        let first = count_one (renews t) (entry by w) due (unrenewed_in t due (due_untasked o past by t w)) in
+        omega (arith, all, first, one_more w may)
+      where
+        one_more : (w : What) → may_come o past by w ≡ true → count (renews t) past + one_if (renews t w) ≤ o.again
+        one_more (Again task answer) may = go (task == t) refl
+          where
+            go : (b : Bool) → (task == t) ≡ b → count (renews t) past + one_if b ≤ o.again
+            go true e =
+                let again : is_run_again o past task answer ≡ true = (both (is_claimed_by past by task && not (has_open_job past task)) (is_run_again o past task answer) may).1 in
+                let room : nat_lt (count (renews task) past) o.again ≡ true = (both (is_of_lost_child answer && is_held_over_child (holder past task)) (nat_lt (count (renews task) past) o.again) again).1 in
+                let here : count (renews t) past < o.again = subst (λ (x : ℕ). count (renews x) past < o.again) (same_number task t e) (grind (arith, nat_tests, room)) in
+                omega (arith, here)
+            go false e = (let before = h.few t in omega (arith, before))
+        one_more w may = (let before = h.few t in omega (arith, before))
+
 abbrev Claims : Opening → List Entry → Type 0
-Claims o past = AtMost same_nat (each_of claimed past) (numbers_of o)
+Claims o past = AtMost same_nat (each_of claimed past) (copies (1 + o.again) (numbers_of o))
 
 claims_kept : (o : Opening) (past group : List Entry) → each_of claimed group ≡ [] → Claims o past → Claims o (past ++ group)
 claims_kept o past group none h = rw (each_of-append claimed past group, none, append-nil (each_of claimed past)) h
 
-claims_step : (o : Opening) (past : List Entry) (by : ℕ) (w : What) → Claims o past → may_come o past by w ≡ true
+claims_step : (o : Opening) (past : List Entry) (by : ℕ) (w : What) → Near o past → Renewed o past → Claims o past → may_come o past by w ≡ true
     → Claims o (past ++ entry by w ∷ due_after o past (entry by w))
-claims_step o past by (Claim task child) h may =
+claims_step o past by (Claim task child) near renewed h may =
     let group = entry by (Claim task child) ∷ [] in
+    let times = copies (1 + o.again) (numbers_of o) in
     let free = found (is_free o past) task (numbers_of o) (both _ _ may).0 in
     let fresh : is_claimed past task ≡ false = not_true (is_claimed past task) (both _ _ free.0).0 in
-    let none = named_none same_nat claimed (claims task) task (claims_is task) past fresh in
-    let some : 1 ≤ many same_nat task (numbers_of o) = free.1 in
-    let a = more_one same_nat nat_is_same (each_of claimed past) (numbers_of o) [] task h (omega (arith, none, some)) in
-    let b : AtMost same_nat (each_of claimed past ++ task ∷ []) (numbers_of o) =
-    subst (λ (xs : List ℕ). AtMost same_nat (each_of claimed past ++ task ∷ []) xs) (append-nil (numbers_of o)) a in
+    let so_many = counted claimed (claims task) task (claims_is task) past in
+    let equal : count (claims task) past ≡ count (renews task) past = claims_counted o past near task ∙ (rw fresh (omega arith)) in
+    let few = renewed.few task in
+    let some : 1 + o.again ≤ many same_nat task times = copies_many task (1 + o.again) (numbers_of o) free.1 in
+    let a = more_one same_nat nat_is_same (each_of claimed past) times [] task h (omega (arith, so_many, equal, few, some)) in
+    let b : AtMost same_nat (each_of claimed past ++ task ∷ []) times =
+    subst (λ (xs : List ℕ). AtMost same_nat (each_of claimed past ++ task ∷ []) xs) (append-nil times) a in
     rw (each_of-append claimed past group) b
-claims_step o past by w h may =
+claims_step o past by w near renewed h may =
     claims_kept o past (entry by w ∷ due_after o past (entry by w)) (due_names claimed (λ c j v. refl) (λ c why. refl) (λ c j l. refl) o past by w) h
 
-answers_step : (o : Opening) (past : List Entry) (by : ℕ) (w : What) → Near o past → AtMost same_nat (each_of answered past) (each_of claimed past) → may_come o past by w ≡ true
-    → AtMost same_nat (each_of answered (past ++ entry by w ∷ due_after o past (entry by w))) (each_of claimed (past ++ entry by w ∷ due_after o past (entry by w)))
-answers_step o past by (Answered task answer) legal h may =
-    let held = held_busy by (holder past task) (both _ _ may).0 in
-    let busy = both (is_claimed past task) (not (is_answered past task)) (sym (held_near o past legal task) ∙ held) in
-    let none = named_none same_nat answered (answers task) task (answers_is task) past (not_true _ busy.1) in
-    let some = named_some same_nat claimed (claims task) task (claims_is task) past busy.0 in
-    grow_one same_nat nat_is_same answered claimed past (entry by (Answered task answer) ∷ []) task refl none some h
-answers_step o past by w legal h may =
-    grow_none same_nat answered claimed past (entry by w ∷ due_after o past (entry by w)) (due_names answered (λ c j v. refl) (λ c why. refl) (λ c j l. refl) o past by w) h
+-- while a task isn't answered its runs were ended by Agains alone
+ends_counted : (t : ℕ) (past : List Entry) → is_answered past t ≡ false → count (closes t) past ≡ count (renews t) past
+ends_counted t [] h = refl
+ends_counted t (e ∷ past) h = go e.what (either_left (answers t e.what) (any (answers t) past) h) (ends_counted t past (either_right (answers t e.what) (any (answers t) past) h))
+  where
+    go : (w : What) → answers t w ≡ false → count (closes t) past ≡ count (renews t) past → count (closes t) (entry e.by w ∷ past) ≡ count (renews t) (entry e.by w ∷ past)
+    go (Answered task answer) a r = rw a r
+    go (Again task answer) a r = by_number (task == t) r
+      where
+        by_number : (b : Bool) → count (closes t) past ≡ count (renews t) past
+            → length (cond b (entry e.by (Again task answer) ∷ filter (λ (x : Entry). closes t x.what) past) (filter (λ (x : Entry). closes t x.what) past))
+            ≡ length (cond b (entry e.by (Again task answer) ∷ filter (λ (x : Entry). renews t x.what) past) (filter (λ (x : Entry). renews t x.what) past))
+        by_number true r = omega (arith, r)
+        by_number false r = r
+    go w a r = r
+
+-- each run that was ended was begun
+closes_one : (o : Opening) (past : List Entry) (by task : ℕ) → Near o past → is_claimed_by past by task ≡ true → many same_nat task (each_of closed past) + 1 ≤ many same_nat task (each_of claimed past)
+closes_one o past by task near mine =
+    let held = held_busy by (holder past task) mine in
+    let busy = both (is_claimed past task) (not (is_answered past task)) (sym (held_near o past near task) ∙ held) in
+    let ended = ends_counted task past (not_true (is_answered past task) busy.1) in
+    let begun : count (claims task) past ≡ 1 + count (renews task) past = claims_counted o past near task ∙ (rw busy.0 refl) in
+    let cs = counted closed (closes task) task (closes_is task) past in
+    let ks = counted claimed (claims task) task (claims_is task) past in
+    omega (arith, ended, begun, cs, ks)
+
+closes_step : (o : Opening) (past : List Entry) (by : ℕ) (w : What) → Near o past → AtMost same_nat (each_of closed past) (each_of claimed past) → may_come o past by w ≡ true
+    → AtMost same_nat (each_of closed (past ++ entry by w ∷ due_after o past (entry by w))) (each_of claimed (past ++ entry by w ∷ due_after o past (entry by w)))
+closes_step o past by (Answered task answer) near h may =
+    grow_some same_nat nat_is_same closed claimed past (entry by (Answered task answer) ∷ []) task refl
+    (closes_one o past by task near (closing_claims past by task (not (is_run_again o past task answer)) may)) h
+closes_step o past by (Again task answer) near h may =
+    grow_some same_nat nat_is_same closed claimed past (entry by (Again task answer) ∷ []) task refl
+    (closes_one o past by task near (closing_claims past by task (is_run_again o past task answer) may)) h
+closes_step o past by w near h may =
+    grow_none same_nat closed claimed past (entry by w ∷ due_after o past (entry by w)) (due_names closed (λ c j v. refl) (λ c why. refl) (λ c j l. refl) o past by w) h
 
 -- ---- starts, mutes and ends
 
@@ -392,7 +483,7 @@ size f journal = length (each_of f journal)
 
 -- each entry is counted by its kind
 balance : (journal : List Entry) → length journal + 2 * size started journal + size asked journal + size written journal
-    ≡ sum_by (λ e. room_for e.what) journal + size claimed journal + size answered journal + size ended journal + size muted journal + size sent journal + size settled journal
+    ≡ sum_by (λ e. room_for e.what) journal + size claimed journal + size closed journal + size ended journal + size muted journal + size sent journal + size settled journal
 balance [] = refl
 balance (e ∷ past) = step e.what (sum_by-cons (λ (d : Entry). room_for d.what) e past) (balance past)
   where
@@ -401,9 +492,9 @@ balance (e ∷ past) = step e.what (sum_by-cons (λ (d : Entry). room_for d.what
 
     step : (w : What) → total ≡ room_for w + sum_by (λ d. room_for d.what) past
         → length past + 2 * size started past + size asked past + size written past
-        ≡ sum_by (λ d. room_for d.what) past + size claimed past + size answered past + size ended past + size muted past + size sent past + size settled past
+        ≡ sum_by (λ d. room_for d.what) past + size claimed past + size closed past + size ended past + size muted past + size sent past + size settled past
         → suc (length past) + 2 * length (cons_option (started w) (each_of started past)) + length (cons_option (asked w) (each_of asked past)) + length (cons_option (written w) (each_of written past))
-        ≡ total + length (cons_option (claimed w) (each_of claimed past)) + length (cons_option (answered w) (each_of answered past)) + length (cons_option (ended w) (each_of ended past))
+        ≡ total + length (cons_option (claimed w) (each_of claimed past)) + length (cons_option (closed w) (each_of closed past)) + length (cons_option (ended w) (each_of ended past))
         + length (cons_option (muted w) (each_of muted past)) + length (cons_option (sent w) (each_of sent past)) + length (cons_option (settled w) (each_of settled past))
     step (Claim task child) s r = omega (arith, s, r)
     step (Start child slot offer) s r = omega (arith, s, r)
@@ -418,11 +509,13 @@ balance (e ∷ past) = step e.what (sum_by-cons (λ (d : Entry). room_for d.what
     step (Settled child job verdict) s r = omega (arith, s, r)
     step (Lost child task) s r = omega (arith, s, r)
     step (Answered task answer) s r = omega (arith, s, r)
-    step (Noted task chunk count) s r = omega (arith, s, r)
+    step (Noted task chunk number) s r = omega (arith, s, r)
+    step (Again task answer) s r = omega (arith, s, r)
 
 record Inv (o : Opening) (past : List Entry) : Type 0 where
+  renewed : Renewed o past
   claims : Claims o past
-  answers : AtMost same_nat (each_of answered past) (each_of claimed past)
+  closings : AtMost same_nat (each_of closed past) (each_of claimed past)
   ends : Ends past
   mutes : AtMost same_nat (each_of muted past) (each_of started past)
   sents : AtMost same_nat (each_of sent past) (each_of written past)
@@ -431,10 +524,11 @@ record Inv (o : Opening) (past : List Entry) : Type 0 where
 invariant : (o : Opening) (journal : List Entry) → Legal o journal → Inv o journal
 invariant o journal legal =
     Legal-induction o (Inv o)
-    (record { claims = λ k. omega arith; answers = λ k. omega arith; ends = λ k. omega arith; mutes = λ k. omega arith; sents = λ k. omega arith; verdicts = λ k. omega arith })
+    (record { renewed = record { few = λ t. omega arith }; claims = λ k. omega arith; closings = λ k. omega arith; ends = λ k. omega arith; mutes = λ k. omega arith; sents = λ k. omega arith; verdicts = λ k. omega arith })
     (λ p e l inv may. record {
-      claims = claims_step o p e.by e.what inv.claims may;
-      answers = answers_step o p e.by e.what l inv.answers may;
+      renewed = renewed_step o p e.by e.what inv.renewed may;
+      claims = claims_step o p e.by e.what l inv.renewed inv.claims may;
+      closings = closes_step o p e.by e.what l inv.closings may;
       ends = ends_step o p e.by e.what inv.ends may;
       mutes = mutes_step o p e.by e.what inv.mutes may;
       sents = sents_step o p e.by e.what inv.sents may;
@@ -445,14 +539,15 @@ pub room_suffices : (o : Opening) (journal : List Entry) → Legal o journal →
 room_suffices o journal legal =
     let inv = invariant o journal legal in
     let tasks = length-range_with_len 1 (length o.tasks) in
-    let claims = AtMost-length same_nat nat_is_same (each_of claimed journal) (numbers_of o) inv.claims in
-    let answers = AtMost-length same_nat nat_is_same (each_of answered journal) (each_of claimed journal) inv.answers in
+    let claims = AtMost-length same_nat nat_is_same (each_of claimed journal) (copies (1 + o.again) (numbers_of o)) inv.claims in
+    let times : length (copies (1 + o.again) (numbers_of o)) ≡ (1 + o.again) * length o.tasks = copies_long (1 + o.again) (numbers_of o) ∙ ap (λ (n : ℕ). (1 + o.again) * n) tasks in
+    let closings = AtMost-length same_nat nat_is_same (each_of closed journal) (each_of claimed journal) inv.closings in
     let ends = AtMost-length same_nat nat_is_same (each_of ended journal) (each_of started journal) inv.ends in
     let mutes = AtMost-length same_nat nat_is_same (each_of muted journal) (each_of started journal) inv.mutes in
     let sents = AtMost-length same_nat nat_is_same (each_of sent journal) (each_of written journal) inv.sents in
     let verdicts = AtMost-length same_pair pair_is_same (each_of settled journal) (each_of asked journal) inv.verdicts in
     let all = balance journal in
-    omega (arith, tasks, claims, answers, ends, mutes, sents, verdicts, all)
+    omega (arith, times, claims, closings, ends, mutes, sents, verdicts, all)
 
 -- ---- what a group adds to the room
 

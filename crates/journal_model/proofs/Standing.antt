@@ -9,13 +9,14 @@ use Rattle.journal_model.specs.declared.entry.Entry.{Entry}
 use Rattle.journal_model.specs.declared.opening.Opening.{Opening}
 use Rattle.journal_model.specs.Journal.{any}
 use Rattle.journal_model.specs.Due.{due_after}
-use Rattle.journal_model.specs.Legality.{Legal, StandsFrom, owed_from, may_come, needs_lead, claims, is_claimed, is_busy}
+use Rattle.journal_model.specs.Legality.{Legal, StandsFrom, owed_from, may_come, needs_lead, holder, is_claimed, is_busy}
 use Rattle.journal_model.specs.declared.entry.What.TheVariants.{Lead, Ask}
 use Rattle.journal_model.proofs.Growing.{groups_from, StandsFrom-split, owed_from-append}
 use Rattle.journal_model.proofs.Looks.{entry, both, any-append, true_not_false, either_left, either_right}
 use Rattle.journal_model.specs.Makers.{is_of_task}
 use Rattle.journal_model.proofs.Testing.{or_left, by_either, neither}
-use Rattle.journal_model.proofs.Working.{takes, Takes, due_untasked, holder_apart}
+use Rattle.journal_model.proofs.Working.{takes, Takes, claimed_apart, due_untasked, holder_apart}
+use Rattle.journal_model.proofs.Holding.{held_busy}
 
 -- what holds of a legal journal, and is kept by each group, holds of each legal one that begins with it
 pub Legal-from : (o : Opening) (P : List Entry → Type 0) (start rest : List Entry) → Legal o start → Legal o (start ++ rest) → P start
@@ -63,7 +64,7 @@ task_stands o start rest first whole t pos claimed idle =
   where
     step : (past : List Entry) (by : ℕ) (w : What) → Stands t start past → may_come o past by w ≡ true → Stands t start (past ++ entry by w ∷ due_after o past (entry by w))
     step past by w s may = record {
-      claimed = any-append (claims t) past more ∙ or_left (is_claimed past t) (is_claimed more t) s.claimed;
+      claimed = claimed_apart past more t untasked ∙ s.claimed;
       idle = ap is_some (holder_apart past more t untasked) ∙ s.idle;
       same = filter-append (λ (e : Entry). is_of_task t e.what) past more ∙ ap (λ (x : List Entry). of_task t past ++ x) (filter_untasked t more untasked) ∙ append-nil (of_task t past) ∙ s.same;
     }
@@ -73,7 +74,7 @@ task_stands o start rest first whole t pos claimed idle =
 
         never : Takes past by t w → is_of_task t w ≡ false
         never (inl free) = true_not_false (is_claimed past t) s.claimed free.0
-        never (inr work) = true_not_false (is_busy past t) work.1 s.idle
+        never (inr work) = true_not_false (is_busy past t) (held_busy by (holder past t) work.0) s.idle
 
         untasked : any (is_of_task t) more ≡ false
         untasked = neither (is_of_task t w) (any (is_of_task t) (due_after o past (entry by w)))

@@ -1,6 +1,6 @@
 -- In a legal journal a task is claimed once, its entries are its claimer's, and it has no open job where it isn't busy.
 use Rattle.std.proofs.Common.{◌≡◌, ℕ, ◌+◌, ◌≤◌, ◌<◌, List, [], ◌∷◌, ◌++◌, refl, sym, ap, subst, ◌∙◌, Bool, true, false, not, ◌==◌, cond, Some, None, Option, ◌⊎◌, inl, inr, length, append-nil, arith, length-append}
-use Rattle.std.specs.Prelude.{◌&&◌, ◌||◌, nat_lt, map, filter, find, fold, is_some}
+use Rattle.std.specs.Prelude.{◌&&◌, ◌||◌, if◌then◌else◌, nat_lt, map, filter, find, fold, is_none, is_some}
 use Rattle.std.specs.List.{list_any, list_all, cons_option}
 use Rattle.std.specs.Option.{option_or}
 use Rattle.std.proofs.lemmas.List.Elements.{filter-append}
@@ -10,16 +10,16 @@ use Rattle.journal_model.specs.declared.verdict.Verdict.{Verdict}
 use Rattle.journal_model.specs.declared.verdict.Verdict.TheVariants.{Ended}
 use Rattle.journal_model.specs.declared.holder.Holder.{Holder}
 use Rattle.journal_model.specs.declared.entry.What.{What}
-use Rattle.journal_model.specs.declared.entry.What.TheVariants.{Claim, Start, NoStart, Lead, Ask, Put, Sent, Mute, Got, End, Verdict as Settled, Lost, Answer as Answered, Note as Noted}
+use Rattle.journal_model.specs.declared.entry.What.TheVariants.{Claim, Start, NoStart, Lead, Ask, Put, Sent, Mute, Got, End, Verdict as Settled, Lost, Answer as Answered, Note as Noted, Again}
 use Rattle.journal_model.specs.declared.entry.Entry.{Entry}
 use Rattle.journal_model.specs.declared.opening.Opening.{Opening}
 use Rattle.journal_model.specs.Journal.{any, each_of, asks, asked_jobs, addressed, is_open, open_jobs, is_settled, settles, is_live, is_started, is_ended, is_mute, is_tagged, verdict_of}
 use Rattle.journal_model.specs.Due.{due_by, due_after, made_by}
-use Rattle.journal_model.specs.Legality.{Legal, may_come, count, claims, answers, is_claimed, is_busy, is_busy_with, is_claimed_by, is_held_by, holder, turned, turned_by, is_number, is_free, least_free, numbers_of, job_for, has_open_job, may_work, may_ask, may_note, is_greeted, asks_in_turn, is_prepared, is_empty, both_conflict, task_of}
-use Rattle.journal_model.specs.Makers.{is_of_task, is_taken_by, task_part}
+use Rattle.journal_model.specs.Legality.{Legal, may_come, count, claims, claimed_after, claimed_on, renews, closes, answers, is_claimed, is_busy, is_run_again, is_busy_with, is_claimed_by, is_held_by, holder, turned, turned_by, is_number, is_free, least_free, numbers_of, job_for, has_open_job, may_work, may_ask, may_note, is_greeted, asks_in_turn, is_prepared, is_empty, both_conflict, task_of}
+use Rattle.journal_model.specs.Makers.{is_of_task, is_taken_by, is_by_holder, are_by_holder, task_part}
 use Rattle.journal_model.specs.Shares.{are_own}
 use Rattle.journal_model.proofs.Growing.{Near, Near-induction, Legal-induction}
-use Rattle.journal_model.proofs.Holding.{holder_append, held_busy, not_true}
+use Rattle.journal_model.proofs.Holding.{holder_append, held_busy, held_claimed, claimed_append, claimed_group, closing_claims, closing_shut, not_true}
 use Rattle.journal_model.proofs.Looks.{entry, is_asked, both, same, same_number, differ, either_left, either_right, true_not_false, any-append, each_of-append, verdict_of-append, open_unsettled, unsettled}
 use Rattle.journal_model.proofs.Soft.{is_soft, soft_got, soft_mute, soft_verdicts}
 use Rattle.journal_model.proofs.Testing.{or_left, or_right, or_true, or_false, neither, by_either, all-join, any-fewer, any-more, own_if_none, out}
@@ -56,9 +56,14 @@ not_claims : (t : ℕ) (w : What) → is_of_task t w ≡ false → claims t w �
 not_claims t (Claim task child) h = h
 not_claims t w h = refl
 
-not_answers : (t : ℕ) (w : What) → is_of_task t w ≡ false → answers t w ≡ false
-not_answers t (Answered task answer) h = h
-not_answers t w h = refl
+not_closes : (t : ℕ) (w : What) → is_of_task t w ≡ false → closes t w ≡ false
+not_closes t (Answered task answer) h = h
+not_closes t (Again task answer) h = h
+not_closes t w h = refl
+
+not_renews : (t : ℕ) (w : What) → is_of_task t w ≡ false → renews t w ≡ false
+not_renews t (Again task answer) h = h
+not_renews t w h = refl
 
 no_job_for : (t : ℕ) (w : What) → is_of_task t w ≡ false → job_for t w ≡ None
 no_job_for t (Ask child job task line) h = rw h refl
@@ -67,8 +72,11 @@ no_job_for t w h = refl
 pub unclaimed_in : (t : ℕ) (xs : List Entry) → any (is_of_task t) xs ≡ false → any (claims t) xs ≡ false
 unclaimed_in t xs h = any-fewer (λ (e : Entry). is_of_task t e.what) (λ (e : Entry). claims t e.what) (λ e k. not_claims t e.what k) xs h
 
-pub unanswered_in : (t : ℕ) (xs : List Entry) → any (is_of_task t) xs ≡ false → any (answers t) xs ≡ false
-unanswered_in t xs h = any-fewer (λ (e : Entry). is_of_task t e.what) (λ (e : Entry). answers t e.what) (λ e k. not_answers t e.what k) xs h
+pub unclosed_in : (t : ℕ) (xs : List Entry) → any (is_of_task t) xs ≡ false → any (closes t) xs ≡ false
+unclosed_in t xs h = any-fewer (λ (e : Entry). is_of_task t e.what) (λ (e : Entry). closes t e.what) (λ e k. not_closes t e.what k) xs h
+
+pub unrenewed_in : (t : ℕ) (xs : List Entry) → any (is_of_task t) xs ≡ false → any (renews t) xs ≡ false
+unrenewed_in t xs h = any-fewer (λ (e : Entry). is_of_task t e.what) (λ (e : Entry). renews t e.what) (λ e k. not_renews t e.what k) xs h
 
 pub no_jobs_in : (t : ℕ) (xs : List Entry) → any (is_of_task t) xs ≡ false → each_of (job_for t) xs ≡ []
 no_jobs_in t [] h = refl
@@ -77,11 +85,11 @@ no_jobs_in t (e ∷ xs) h =
     (no_jobs_in t xs (either_right (is_of_task t e.what) (any (is_of_task t) xs) h))
 
 -- who takes a task claims it
-pub taken_claimed : (xs : List Entry) (n t : ℕ) → is_taken_by xs n t ≡ true → is_claimed xs t ≡ true
-taken_claimed xs n t h = any-more (λ (e : Entry). e.by == n && claims t e.what) (λ (e : Entry). claims t e.what) (λ e k. (both (e.by == n) (claims t e.what) k).1) xs h
+pub taken_some : (xs : List Entry) (n t : ℕ) → is_taken_by xs n t ≡ true → any (claims t) xs ≡ true
+taken_some xs n t h = any-more (λ (e : Entry). e.by == n && claims t e.what) (λ (e : Entry). claims t e.what) (λ e k. (both (e.by == n) (claims t e.what) k).1) xs h
 
-pub untaken_by : (xs : List Entry) (n t : ℕ) → is_claimed xs t ≡ false → is_taken_by xs n t ≡ false
-untaken_by xs n t h = by_either (is_taken_by xs n t) (λ k. true_not_false (is_claimed xs t) (taken_claimed xs n t k) h) (λ k. k)
+pub untaken_by : (xs : List Entry) (n t : ℕ) → any (claims t) xs ≡ false → is_taken_by xs n t ≡ false
+untaken_by xs n t h = by_either (is_taken_by xs n t) (λ k. true_not_false (any (claims t) xs) (taken_some xs n t k) h) (λ k. k)
 
 pub taken_by-append : (xs ys : List Entry) (n t : ℕ) → is_taken_by (xs ++ ys) n t ≡ (is_taken_by xs n t || is_taken_by ys n t)
 taken_by-append xs ys n t = list_any-append (λ (e : Entry). e.by == n && claims t e.what) xs ys
@@ -96,6 +104,11 @@ turns t n by h (Claim task child) held = go (task == t) refl held
     go true e k = inr (rw (k, e) refl)
     go false e k = inl k
 turns t n by h (Answered task answer) held = go (task == t) held
+  where
+    go : (b : Bool) → is_held_by n (cond b None h) ≡ true → (is_held_by n h ≡ true) ⊎ ((by == n && false) ≡ true)
+    go true k = absurd cc
+    go false k = inl k
+turns t n by h (Again task answer) held = go (task == t) held
   where
     go : (b : Bool) → is_held_by n (cond b None h) ≡ true → (is_held_by n h ≡ true) ⊎ ((by == n && false) ≡ true)
     go true k = absurd cc
@@ -121,29 +134,31 @@ held_taken past n t h = go (held_taken_from t n None past h)
     go (inl bad) = absurd cc
     go (inr k) = k
 
--- a holder stays where nothing answers the task
-keeps : (t by : ℕ) (h : Option Holder) (w : What) → answers t w ≡ false → is_some h ≡ true → is_some (turned_by t h by w) ≡ true
+-- a holder stays where nothing ends the task's run
+keeps : (t by : ℕ) (h : Option Holder) (w : What) → closes t w ≡ false → is_some h ≡ true → is_some (turned_by t h by w) ≡ true
 keeps t by h (Claim task child) a k = go (task == t)
   where
     go : (b : Bool) → is_some (cond b (Some (record { by = by; child = child })) h) ≡ true
     go true = refl
     go false = k
 keeps t by h (Answered task answer) a k = rw a k
+keeps t by h (Again task answer) a k = rw a k
 keeps t by h w a k = k
 
-still_held : (t : ℕ) (h : Option Holder) (xs : List Entry) → any (answers t) xs ≡ false → is_some h ≡ true → is_some (fold (turned t) h xs) ≡ true
+still_held : (t : ℕ) (h : Option Holder) (xs : List Entry) → any (closes t) xs ≡ false → is_some h ≡ true → is_some (fold (turned t) h xs) ≡ true
 still_held t h [] a k = k
 still_held t h (e ∷ xs) a k =
-    still_held t (turned_by t h e.by e.what) xs (either_right (answers t e.what) (any (answers t) xs) a)
-    (keeps t e.by h e.what (either_left (answers t e.what) (any (answers t) xs) a) k)
+    still_held t (turned_by t h e.by e.what) xs (either_right (closes t e.what) (any (closes t) xs) a)
+    (keeps t e.by h e.what (either_left (closes t e.what) (any (closes t) xs) a) k)
 
-pub busy_stays : (past more : List Entry) (t : ℕ) → is_busy past t ≡ true → any (answers t) more ≡ false → is_busy (past ++ more) t ≡ true
+pub busy_stays : (past more : List Entry) (t : ℕ) → is_busy past t ≡ true → any (closes t) more ≡ false → is_busy (past ++ more) t ≡ true
 busy_stays past more t b n = ap is_some (holder_append past more t) ∙ still_held t (holder past t) more n b
 
 -- entries of no task leave the holder of each
 apart_turned : (t by : ℕ) (h : Option Holder) (w : What) → is_of_task t w ≡ false → turned_by t h by w ≡ h
 apart_turned t by h (Claim task child) a = rw a refl
 apart_turned t by h (Answered task answer) a = rw a refl
+apart_turned t by h (Again task answer) a = rw a refl
 apart_turned t by h w a = refl
 
 apart_held : (t : ℕ) (h : Option Holder) (xs : List Entry) → any (is_of_task t) xs ≡ false → fold (turned t) h xs ≡ h
@@ -155,12 +170,31 @@ apart_held t h (e ∷ xs) a =
 pub holder_apart : (past more : List Entry) (t : ℕ) → any (is_of_task t) more ≡ false → holder (past ++ more) t ≡ holder past t
 holder_apart past more t a = holder_append past more t ∙ apart_held t (holder past t) more a
 
+-- and whether it is claimed
+apart_claimed : (t : ℕ) (b : Bool) (w : What) → is_of_task t w ≡ false → claimed_after t b w ≡ b
+apart_claimed t b (Claim task child) a = rw a (or_false b)
+apart_claimed t b (Again task answer) a = go b a
+  where
+    go : (b : Bool) → (task == t) ≡ false → (b && not (task == t)) ≡ b
+    go true a = rw a refl
+    go false a = refl
+apart_claimed t b w a = refl
+
+apart_on : (t : ℕ) (b : Bool) (xs : List Entry) → any (is_of_task t) xs ≡ false → fold (claimed_on t) b xs ≡ b
+apart_on t b [] a = refl
+apart_on t b (e ∷ xs) a =
+    ap (λ (c : Bool). fold (claimed_on t) c xs) (apart_claimed t b e.what (either_left (is_of_task t e.what) (any (is_of_task t) xs) a))
+    ∙ apart_on t b xs (either_right (is_of_task t e.what) (any (is_of_task t) xs) a)
+
+pub claimed_apart : (past more : List Entry) (t : ℕ) → any (is_of_task t) more ≡ false → is_claimed (past ++ more) t ≡ is_claimed past t
+claimed_apart past more t a = claimed_append past more t ∙ apart_on t (is_claimed past t) more a
+
 -- a claim makes a task busy, and what follows leaves it so
 claim_holds : (t by : ℕ) (h : Option Holder) (w : What) → claims t w ≡ true → is_some (turned_by t h by w) ≡ true
 claim_holds t by h (Claim task child) k = rw k refl
 claim_holds t by h w k = absurd cc
 
-pub claim_busy : (past : List Entry) (by t : ℕ) (w : What) (due : List Entry) → claims t w ≡ true → any (answers t) due ≡ false → is_busy (past ++ entry by w ∷ due) t ≡ true
+pub claim_busy : (past : List Entry) (by t : ℕ) (w : What) (due : List Entry) → claims t w ≡ true → any (closes t) due ≡ false → is_busy (past ++ entry by w ∷ due) t ≡ true
 claim_busy past by t w due k n =
     ap is_some (holder_append past (entry by w ∷ due) t) ∙ still_held t (turned_by t (holder past t) by w) due n (claim_holds t by (holder past t) w k)
 
@@ -181,14 +215,13 @@ claimed_free o past t (Some k) e h =
     subst (λ (x : ℕ). is_claimed past x ≡ false) (same_number k t h)
     (not_true (is_claimed past k) (both (not (is_claimed past k)) (not (list_any (λ u. is_busy past u && both_conflict (task_of o u) (task_of o k)) (numbers_of o))) free).0)
 
--- who may work on a task has taken it, and it is busy
-pub worker : (past : List Entry) (by t c : ℕ) → 0 < t → may_work past by t c ≡ true → (is_taken_by past by t ≡ true) × (is_busy past t ≡ true)
+-- who may work on a task holds it
+pub worker : (past : List Entry) (by t c : ℕ) → 0 < t → may_work past by t c ≡ true → is_claimed_by past by t ≡ true
 worker past by t c pos h =
     let zero_not : (t == 0) ≡ false = differ t 0 (λ e. omega (arith, pos, e)) in
     let g : (is_claimed_by past by t && is_busy_with past c t && not (has_open_job past t)) ≡ true = (rw zero_not at h) in
     let s = both (is_claimed_by past by t && is_busy_with past c t) (not (has_open_job past t)) g in
-    let u = both (is_claimed_by past by t) (is_busy_with past c t) s.0 in
-    (held_taken past by t u.0, held_busy by (holder past t) u.0)
+    (both (is_claimed_by past by t) (is_busy_with past c t) s.0).0
 
 -- the work that a request needs
 may_ask_work : (past : List Entry) (by t c : ℕ) → may_ask past by t c ≡ true → may_work past by t c ≡ true
@@ -213,9 +246,9 @@ lost_work : (o : Opening) (past : List Entry) (by child task : ℕ) → may_come
 lost_work o past by child task may =
     may_ask_work past by task child (both (is_started past child && (is_ended past child || is_mute past child)) (may_ask past by task child) may).1
 
--- what may come of a task: its first claim, or work of its claimer while it is busy
+-- what may come of a task: a claim where it isn't claimed, or work of its holder
 abbrev pub Takes : List Entry → ℕ → ℕ → What → Type 0
-Takes past by t w = ((is_claimed past t ≡ false) × (claims t w ≡ true)) ⊎ ((is_taken_by past by t ≡ true) × (is_busy past t ≡ true) × (claims t w ≡ false))
+Takes past by t w = ((is_claimed past t ≡ false) × (claims t w ≡ true)) ⊎ ((is_claimed_by past by t ≡ true) × (claims t w ≡ false))
 
 pub takes : (o : Opening) (past : List Entry) (by t : ℕ) (w : What) → 0 < t → may_come o past by w ≡ true → is_of_task t w ≡ true → Takes past by t w
 takes o past by t (Claim task child) pos may of =
@@ -223,22 +256,19 @@ takes o past by t (Claim task child) pos may of =
     inl (subst (λ (x : ℕ). is_claimed past x ≡ false) (same_number task t of) (claimed_free o past task (least_free o past) refl s.0), of)
 takes o past by t (Ask child job task line) pos may of =
     let work : may_work past by t child ≡ true = subst (λ (x : ℕ). may_work past by x child ≡ true) (same_number task t of) (ask_work o past by child job task line may) in
-    let w = worker past by t child pos work in
-    inr (w.0, w.1, refl)
+    inr (worker past by t child pos work, refl)
 takes o past by t (Lost child task) pos may of =
     let work : may_work past by t child ≡ true = subst (λ (x : ℕ). may_work past by x child ≡ true) (same_number task t of) (lost_work o past by child task may) in
-    let w = worker past by t child pos work in
-    inr (w.0, w.1, refl)
+    inr (worker past by t child pos work, refl)
 takes o past by t (Answered task answer) pos may of =
-    let s = both (is_claimed_by past by task) (not (has_open_job past task)) may in
-    let at = same_number task t of in
-    inr (subst (λ (x : ℕ). is_taken_by past by x ≡ true) at (held_taken past by task s.0), subst (λ (x : ℕ). is_busy past x ≡ true) at (held_busy by (holder past task) s.0), refl)
+    inr (subst (λ (x : ℕ). is_claimed_by past by x ≡ true) (same_number task t of) (closing_claims past by task (not (is_run_again o past task answer)) may), refl)
+takes o past by t (Again task answer) pos may of =
+    inr (subst (λ (x : ℕ). is_claimed_by past by x ≡ true) (same_number task t of) (closing_claims past by task (is_run_again o past task answer) may), refl)
 takes o past by t (Noted task chunk count) pos may of =
     let a = both (is_claimed_by past by task && may_note (task_of o task) && not (has_open_job past task)) (nat_lt 0 chunk) may in
     let b = both (is_claimed_by past by task && may_note (task_of o task)) (not (has_open_job past task)) a.0 in
     let s = both (is_claimed_by past by task) (may_note (task_of o task)) b.0 in
-    let at = same_number task t of in
-    inr (subst (λ (x : ℕ). is_taken_by past by x ≡ true) at (held_taken past by task s.0), subst (λ (x : ℕ). is_busy past x ≡ true) at (held_busy by (holder past task) s.0), refl)
+    inr (subst (λ (x : ℕ). is_claimed_by past by x ≡ true) (same_number task t of) s.0, refl)
 takes o past by t (Start child slot offer) pos may of = absurd cc
 takes o past by t (NoStart slot) pos may of = absurd cc
 takes o past by t (Lead child job line) pos may of = absurd cc
@@ -249,25 +279,27 @@ takes o past by t (Got child line) pos may of = absurd cc
 takes o past by t (End child why) pos may of = absurd cc
 takes o past by t (Settled child job verdict) pos may of = absurd cc
 
--- ---- a claimed task's entries are its claimer's
+-- ---- an entry of a task claims it, or is its holder's
 
--- the claimer of a task whose entries are n's is n
-pub claimer : (xs : List Entry) (n m t : ℕ) → are_own (is_of_task t) n xs ≡ true → is_taken_by xs m t ≡ true → m ≡ n
-claimer [] n m t o h = absurd cc
-claimer (e ∷ xs) n m t o h = go (e.by == m && claims t e.what) refl h (claimer xs n m t s.1)
+are_by_holder-append : (t : ℕ) (h : Option Holder) (xs ys : List Entry) → are_by_holder t h (xs ++ ys) ≡ (are_by_holder t h xs && are_by_holder t (fold (turned t) h xs) ys)
+are_by_holder-append t h [] ys = refl
+are_by_holder-append t h (e ∷ xs) ys =
+    ap (λ (b : Bool). is_by_holder t h e && b) (are_by_holder-append t (turned t h e) xs ys)
+    ∙ and_assoc (is_by_holder t h e) (are_by_holder t (turned t h e) xs) (are_by_holder t (fold (turned t) (turned t h e) xs) ys)
   where
-    s : ((not (is_of_task t e.what) || e.by == n) ≡ true) × (are_own (is_of_task t) n xs ≡ true)
-    s = both (not (is_of_task t e.what) || e.by == n) (are_own (is_of_task t) n xs) o
+    and_assoc : (a b c : Bool) → (a && (b && c)) ≡ (a && b && c)
+    and_assoc true b c = refl
+    and_assoc false b c = refl
 
-    go : (b : Bool) → (e.by == m && claims t e.what) ≡ b → (b || is_taken_by xs m t) ≡ true → (is_taken_by xs m t ≡ true → m ≡ n) → m ≡ n
-    go true k h r =
-        let u = both (e.by == m) (claims t e.what) k in
-        sym (same_number e.by m u.0) ∙ same_number e.by n (out (is_of_task t e.what) (e.by == n) s.0 (claims_of t e.what u.1))
-    go false k h r = r h
+-- entries of no task are by whom they will
+untasked_by : (t : ℕ) (h : Option Holder) (xs : List Entry) → any (is_of_task t) xs ≡ false → are_by_holder t h xs ≡ true
+untasked_by t h [] a = refl
+untasked_by t h (e ∷ xs) a =
+    rw (either_left (is_of_task t e.what) (any (is_of_task t) xs) a, untasked_by t (turned t h e) xs (either_right (is_of_task t e.what) (any (is_of_task t) xs) a)) refl
 
 pub record Kept (past : List Entry) : Type 0 where
-  pub own : (t n : ℕ) → 0 < t → is_taken_by past n t ≡ true → are_own (is_of_task t) n past ≡ true
-  pub none : (t : ℕ) → 0 < t → is_claimed past t ≡ false → any (is_of_task t) past ≡ false
+  pub own : (t : ℕ) → 0 < t → are_by_holder t None past ≡ true
+  pub none : (t : ℕ) → 0 < t → any (claims t) past ≡ false → any (is_of_task t) past ≡ false
 
 kept_step : (o : Opening) (past : List Entry) (by : ℕ) (w : What) → Kept past → may_come o past by w ≡ true → Kept (past ++ entry by w ∷ due_after o past (entry by w))
 kept_step o past by w kept may = record { own = own; none = none }
@@ -278,106 +310,113 @@ kept_step o past by w kept may = record { own = own; none = none }
     more : List Entry
     more = entry by w ∷ due
 
-    untasked : (t : ℕ) → is_of_task t w ≡ false → any (is_of_task t) more ≡ false
-    untasked t h = rw (h, due_untasked o past by t w) refl
-
-    claimed_more : (t n : ℕ) → is_taken_by more n t ≡ (by == n && claims t w)
-    claimed_more t n = ap (λ (b : Bool). (by == n && claims t w) || b) (untaken_by due n t (unclaimed_in t due (due_untasked o past by t w))) ∙ or_false (by == n && claims t w)
-
-    own_more : (t n : ℕ) → (by == n) ≡ true → are_own (is_of_task t) n more ≡ true
-    own_more t n e = rw (e, own_if_none (is_of_task t) n due (due_untasked o past by t w), or_true (not (is_of_task t w))) refl
-
-    join : (t n : ℕ) → are_own (is_of_task t) n past ≡ true → are_own (is_of_task t) n more ≡ true → are_own (is_of_task t) n (past ++ more) ≡ true
-    join t n a b = all-join (λ (e : Entry). not (is_of_task t e.what) || e.by == n) past more a b
-
-    own : (t n : ℕ) → 0 < t → is_taken_by (past ++ more) n t ≡ true → are_own (is_of_task t) n (past ++ more) ≡ true
-    own t n pos h = by_either (is_of_task t w) taken untaken
+    own : (t : ℕ) → 0 < t → are_by_holder t None (past ++ more) ≡ true
+    own t pos =
+        are_by_holder-append t None past more
+        ∙ (rw (kept.own t pos, first, untasked_by t (turned t (holder past t) (entry by w)) due (due_untasked o past by t w)) refl)
       where
-        split : (is_taken_by past n t || (by == n && claims t w)) ≡ true
-        split = ap (λ (b : Bool). is_taken_by past n t || b) (sym (claimed_more t n)) ∙ (sym (taken_by-append past more n t) ∙ h)
-
-        untaken : is_of_task t w ≡ false → are_own (is_of_task t) n (past ++ more) ≡ true
-        untaken f =
-            let before : is_taken_by past n t ≡ true = left (is_taken_by past n t) (by == n) (claims t w) (not_claims t w f) split in
-            join t n (kept.own t n pos before) (own_if_none (is_of_task t) n more (untasked t f))
+        by_takes : Takes past by t w → (if claims t w then is_none (holder past t) else is_held_by by (holder past t)) ≡ true
+        by_takes (inl free) = rw free.1 (unheld (holder past t) (by_either (is_busy past t) (λ b. true_not_false (is_claimed past t) (held_claimed past t b) free.0) (λ b. b)))
           where
-            left : (a b c : Bool) → c ≡ false → (a || (b && c)) ≡ true → a ≡ true
-            left true b c e h = refl
-            left false true c e h = true_not_false c h e
-            left false false c e h = absurd cc
+            unheld : (h : Option Holder) → is_some h ≡ false → is_none h ≡ true
+            unheld None k = refl
+            unheld (Some x) k = absurd cc
+        by_takes (inr work) = rw (work.1, work.0) refl
 
-        taken : is_of_task t w ≡ true → are_own (is_of_task t) n (past ++ more) ≡ true
-        taken is = go (takes o past by t w pos may is)
-          where
-            go : Takes past by t w → are_own (is_of_task t) n (past ++ more) ≡ true
-            go (inl first) =
-                let mine : (by == n) ≡ true = right (is_taken_by past n t) (by == n) (claims t w) (untaken_by past n t first.0) split in
-                join t n (own_if_none (is_of_task t) n past (kept.none t pos first.0)) (own_more t n mine)
-              where
-                right : (a b c : Bool) → a ≡ false → (a || (b && c)) ≡ true → b ≡ true
-                right true b c e h = absurd cc
-                right false true c e h = refl
-                right false false c e h = absurd cc
-            go (inr later) =
-                let before : is_taken_by past n t ≡ true = left (is_taken_by past n t) (by == n) (claims t w) later.2 split in
-                let old = kept.own t n pos before in
-                let me : by ≡ n = claimer past n by t old later.0 in
-                join t n old (own_more t n (subst (λ (x : ℕ). (by == x) ≡ true) me (same by)))
-              where
-                left : (a b c : Bool) → c ≡ false → (a || (b && c)) ≡ true → a ≡ true
-                left true b c e h = refl
-                left false true c e h = true_not_false c h e
-                left false false c e h = absurd cc
+        first : is_by_holder t (holder past t) (entry by w) ≡ true
+        first = by_either (is_of_task t w)
+            (λ is. rw (is, by_takes (takes o past by t w pos may is)) refl)
+            (λ off. rw off refl)
 
-    none : (t : ℕ) → 0 < t → is_claimed (past ++ more) t ≡ false → any (is_of_task t) (past ++ more) ≡ false
-    none t pos h = any-append (is_of_task t) past more ∙ neither (any (is_of_task t) past) (any (is_of_task t) more) (kept.none t pos old) (by_either (is_of_task t w) taken (untasked t))
+    none : (t : ℕ) → 0 < t → any (claims t) (past ++ more) ≡ false → any (is_of_task t) (past ++ more) ≡ false
+    none t pos h =
+        any-append (is_of_task t) past more
+        ∙ neither (any (is_of_task t) past) (any (is_of_task t) more) (kept.none t pos old)
+        (neither (is_of_task t w) (any (is_of_task t) due) (by_either (is_of_task t w) (λ is. bad (takes o past by t w pos may is)) (λ off. off)) (due_untasked o past by t w))
       where
-        split : (is_claimed past t || is_claimed more t) ≡ false
+        split : (any (claims t) past || any (claims t) more) ≡ false
         split = sym (any-append (claims t) past more) ∙ h
 
-        old : is_claimed past t ≡ false
-        old = either_left (is_claimed past t) (is_claimed more t) split
+        old : any (claims t) past ≡ false
+        old = either_left (any (claims t) past) (any (claims t) more) split
 
-        taken : is_of_task t w ≡ true → any (is_of_task t) more ≡ false
-        taken is = go (takes o past by t w pos may is)
-          where
-            go : Takes past by t w → any (is_of_task t) more ≡ false
-            go (inl first) = true_not_false (claims t w) first.1 (either_left (claims t w) (is_claimed due t) (either_right (is_claimed past t) (is_claimed more t) split))
-            go (inr later) = true_not_false (is_claimed past t) (taken_claimed past by t later.0) old
+        bad : Takes past by t w → is_of_task t w ≡ false
+        bad (inl first) = true_not_false (claims t w) first.1 (either_left (claims t w) (any (claims t) due) (either_right (any (claims t) past) (any (claims t) more) split))
+        bad (inr work) = true_not_false (any (claims t) past) (taken_some past by t (held_taken past by t work.0)) old
 
 tasks_near : (o : Opening) (journal : List Entry) → Near o journal → Kept journal
 tasks_near o journal near =
-    Near-induction o Kept (record { own = λ t n pos h. refl; none = λ t pos h. refl }) (λ past e legal before may. kept_step o past e.by e.what before may) journal near
+    Near-induction o Kept (record { own = λ t pos. refl; none = λ t pos h. refl }) (λ past e legal before may. kept_step o past e.by e.what before may) journal near
 
 pub tasks_kept : (o : Opening) (journal : List Entry) → Legal o journal → Kept journal
 tasks_kept o journal l = tasks_near o journal (inl l)
 
+-- where a number holds a task and makes no more of it, nobody does
+held_alone_from : (t n : ℕ) (h : Option Holder) (more : List Entry) → is_held_by n h ≡ true → are_by_holder t h more ≡ true
+    → list_all (λ e. not (is_of_task t e.what && e.by == n)) more ≡ true → any (is_of_task t) more ≡ false
+held_alone_from t n h [] held own none = refl
+held_alone_from t n h (e ∷ more) held own none =
+    let o = both (is_by_holder t h e) (are_by_holder t (turned t h e) more) own in
+    let s = both (not (is_of_task t e.what && e.by == n)) (list_all (λ x. not (is_of_task t x.what && x.by == n)) more) none in
+    let off : is_of_task t e.what ≡ false = by_either (is_of_task t e.what) (λ is. never is o.0 s.0) (λ k. k) in
+    neither (is_of_task t e.what) (any (is_of_task t) more) off
+    (held_alone_from t n h more held (subst (λ (x : Option Holder). are_by_holder t x more ≡ true) (apart_turned t e.by h e.what off) o.1) s.1)
+  where
+    never : is_of_task t e.what ≡ true → is_by_holder t h e ≡ true → not (is_of_task t e.what && e.by == n) ≡ true → is_of_task t e.what ≡ false
+    never is own none = go h held (claims t e.what) (rw is at own) (rw is at none)
+      where
+        go : (h : Option Holder) → is_held_by n h ≡ true → (c : Bool) → (if c then is_none h else is_held_by e.by h) ≡ true → not (e.by == n) ≡ true → is_of_task t e.what ≡ false
+        go None k c own none = absurd cc
+        go (Some x) k true own none = absurd cc
+        go (Some x) k false own none = true_not_false (e.by == n) (subst (λ (m : ℕ). (e.by == m) ≡ true) (sym (same_number x.by e.by own) ∙ same_number x.by n k) (same e.by)) (not_true (e.by == n) none)
+
+pub held_alone : (o : Opening) (seen more : List Entry) (n t : ℕ) → 0 < t → Legal o (seen ++ more) → is_claimed_by seen n t ≡ true
+    → list_all (λ e. not (is_of_task t e.what && e.by == n)) more ≡ true → any (is_of_task t) more ≡ false
+held_alone o seen more n t pos legal held none =
+    held_alone_from t n (holder seen t) more held
+    (both (are_by_holder t None seen) (are_by_holder t (holder seen t) more) (sym (are_by_holder-append t None seen more) ∙ (tasks_kept o (seen ++ more) legal).own t pos)).1 none
+
 -- ---- once
 
-count-append : (p : What → Bool) (xs ys : List Entry) → count p (xs ++ ys) ≡ count p xs + count p ys
+pub count-append : (p : What → Bool) (xs ys : List Entry) → count p (xs ++ ys) ≡ count p xs + count p ys
 count-append p xs ys = ap (λ (l : List Entry). length l) (filter-append (λ (e : Entry). p e.what) xs ys) ∙ length-append (filter (λ (e : Entry). p e.what) xs) (filter (λ (e : Entry). p e.what) ys)
 
 count_none : (p : What → Bool) (xs : List Entry) → any p xs ≡ false → count p xs ≡ 0
 count_none p [] h = refl
 count_none p (e ∷ xs) h = rw (either_left (p e.what) (any p xs) h) (count_none p xs (either_right (p e.what) (any p xs) h))
 
-count_first : (p : What → Bool) (e : Entry) (xs : List Entry) → any p xs ≡ false → count p (e ∷ xs) ≤ 1
-count_first p e xs h = go (p e.what)
+abbrev pub one_if : Bool → ℕ
+one_if true = 1
+one_if false = 0
+
+pub count_one : (p : What → Bool) (e : Entry) (xs : List Entry) → any p xs ≡ false → count p (e ∷ xs) ≡ one_if (p e.what)
+count_one p e xs h = go (p e.what)
   where
     n : count p xs ≡ 0
     n = count_none p xs h
 
-    go : (b : Bool) → length (cond b (e ∷ filter (λ (x : Entry). p x.what) xs) (filter (λ (x : Entry). p x.what) xs)) ≤ 1
+    go : (b : Bool) → length (cond b (e ∷ filter (λ (x : Entry). p x.what) xs) (filter (λ (x : Entry). p x.what) xs)) ≡ one_if b
     go true = omega (arith, n)
-    go false = omega (arith, n)
+    go false = n
 
-pub claimed_once : (o : Opening) (journal : List Entry) → Legal o journal → (t : ℕ) → count (claims t) journal ≤ 1
-claimed_once o journal l =
-    Legal-induction o (λ past. (t : ℕ) → count (claims t) past ≤ 1) (λ t. omega arith) (λ past e legal before may. step past e.by e.what before may) journal l
+-- there are as many claims of a task as Agains of it, and one more while it is claimed
+pub claims_counted : (o : Opening) (journal : List Entry) → Near o journal → (t : ℕ) → count (claims t) journal ≡ one_if (is_claimed journal t) + count (renews t) journal
+claims_counted o journal l =
+    Near-induction o (λ past. (t : ℕ) → count (claims t) past ≡ one_if (is_claimed past t) + count (renews t) past) (λ t. refl)
+    (λ past e legal before may. step past e.by e.what before may) journal l
   where
-    step : (past : List Entry) (by : ℕ) (w : What) → ((t : ℕ) → count (claims t) past ≤ 1) → may_come o past by w ≡ true
-        → (t : ℕ) → count (claims t) (past ++ entry by w ∷ due_after o past (entry by w)) ≤ 1
-    step past by w before may t = by_either (claims t w) taken untaken
+    step : (past : List Entry) (by : ℕ) (w : What) → ((t : ℕ) → count (claims t) past ≡ one_if (is_claimed past t) + count (renews t) past) → may_come o past by w ≡ true
+        → (t : ℕ) → count (claims t) (past ++ entry by w ∷ due_after o past (entry by w))
+        ≡ one_if (is_claimed (past ++ entry by w ∷ due_after o past (entry by w)) t) + count (renews t) (past ++ entry by w ∷ due_after o past (entry by w))
+    step past by w before may t =
+        count-append (claims t) past more
+        ∙ (rw (
+          before t,
+          claimed_group o past by w t,
+          count-append (renews t) past more,
+          count_one (claims t) (entry by w) due (unclaimed_in t due (due_untasked o past by t w)),
+          count_one (renews t) (entry by w) due (unrenewed_in t due (due_untasked o past by t w)),
+        ) (arithmetic w may))
       where
         due : List Entry
         due = due_after o past (entry by w)
@@ -385,24 +424,35 @@ claimed_once o journal l =
         more : List Entry
         more = entry by w ∷ due
 
-        none : any (claims t) due ≡ false
-        none = unclaimed_in t due (due_untasked o past by t w)
+        arithmetic : (w : What) → may_come o past by w ≡ true
+            → one_if (is_claimed past t) + count (renews t) past + one_if (claims t w) ≡ one_if (claimed_after t (is_claimed past t) w) + (count (renews t) past + one_if (renews t w))
+        arithmetic (Claim task child) may = go (task == t) refl
+          where
+            go : (b : Bool) → (task == t) ≡ b → one_if (is_claimed past t) + count (renews t) past + one_if b ≡ one_if (is_claimed past t || b) + (count (renews t) past + 0)
+            go true e =
+                let s = both (is_number task (least_free o past)) ((child == 0 && by == 0) || (is_prepared past child && is_live past child && not (is_mute past child))) may in
+                let free : is_claimed past t ≡ false = subst (λ (x : ℕ). is_claimed past x ≡ false) (same_number task t e) (claimed_free o past task (least_free o past) refl s.0) in
+                rw free (omega arith)
+            go false e = rw (or_false (is_claimed past t)) (omega arith)
+        arithmetic (Again task answer) may = go (task == t) refl
+          where
+            go : (b : Bool) → (task == t) ≡ b → one_if (is_claimed past t) + count (renews t) past + 0 ≡ one_if (is_claimed past t && not b) + (count (renews t) past + one_if b)
+            go true e =
+                let held : is_busy past t ≡ true = subst (λ (x : ℕ). is_busy past x ≡ true) (same_number task t e) (held_busy by (holder past task) (closing_claims past by task (is_run_again o past task answer) may)) in
+                rw (held_claimed past t held) (omega arith)
+            go false e = by_bool (is_claimed past t)
+              where
+                by_bool : (c : Bool) → one_if c + count (renews t) past + 0 ≡ one_if (c && true) + (count (renews t) past + 0)
+                by_bool true = omega arith
+                by_bool false = omega arith
+        arithmetic w may = omega arith
 
-        untaken : claims t w ≡ false → count (claims t) (past ++ more) ≤ 1
-        untaken f =
-            let zero : count (claims t) more ≡ 0 = count_none (claims t) more (rw (f, none) refl) in
-            omega (arith, count-append (claims t) past more, zero, before t)
-
-        free : (v : What) → claims t v ≡ true → may_come o past by v ≡ true → is_claimed past t ≡ false
-        free (Claim task child) is m =
-            let s = both (is_number task (least_free o past)) ((child == 0 && by == 0) || (is_prepared past child && is_live past child && not (is_mute past child))) m in
-            subst (λ (x : ℕ). is_claimed past x ≡ false) (same_number task t is) (claimed_free o past task (least_free o past) refl s.0)
-        free v is m = absurd cc
-
-        taken : claims t w ≡ true → count (claims t) (past ++ more) ≤ 1
-        taken is =
-            let zero : count (claims t) past ≡ 0 = count_none (claims t) past (free w is may) in
-            omega (arith, count-append (claims t) past more, zero, count_first (claims t) (entry by w) due none)
+pub claimed_once : (o : Opening) (journal : List Entry) → Legal o journal → (t : ℕ) → count (claims t) journal ≤ 1 + count (renews t) journal
+claimed_once o journal l t = (let eq = claims_counted o journal (inl l) t in omega (arith, eq, at_most (is_claimed journal t)))
+  where
+    at_most : (b : Bool) → one_if b ≤ 1
+    at_most true = omega arith
+    at_most false = omega arith
 
 -- ---- open jobs
 
@@ -507,31 +557,34 @@ idle_shut o journal l =
             none = rw (f, untasked) refl
 
             idle : is_busy past t ≡ false
-            idle = by_either (is_busy past t) (λ b. true_not_false (is_busy (past ++ more) t) (busy_stays past more t b (unanswered_in t more none)) h) (λ b. b)
+            idle = by_either (is_busy past t) (λ b. true_not_false (is_busy (past ++ more) t) (busy_stays past more t b (unclosed_in t more none)) h) (λ b. b)
 
-        -- work that isn't the answer leaves the task busy
-        still : answers t w ≡ false → is_busy past t ≡ true → has_open_job (past ++ more) t ≡ false
-        still a b = true_not_false (is_busy (past ++ more) t) (busy_stays past more t b (rw (a, unanswered_in t due untasked) refl)) h
+        -- work that doesn't end the run leaves the task busy
+        still : closes t w ≡ false → is_busy past t ≡ true → has_open_job (past ++ more) t ≡ false
+        still a b = true_not_false (is_busy (past ++ more) t) (busy_stays past more t b (rw (a, unclosed_in t due untasked) refl)) h
 
         -- the first claim makes it busy
         begun : claims t w ≡ true → has_open_job (past ++ more) t ≡ false
         begun is =
-            true_not_false (is_busy (past ++ more) t) (claim_busy past by t w due is (unanswered_in t due untasked)) h
+            true_not_false (is_busy (past ++ more) t) (claim_busy past by t w due is (unclosed_in t due untasked)) h
 
-        by_kind : (v : What) → w ≡ v → may_come o past by v ≡ true → is_of_task t v ≡ true → answers t v ≡ true → has_open_job (past ++ more) t ≡ false
+        by_kind : (v : What) → w ≡ v → may_come o past by v ≡ true → is_of_task t v ≡ true → closes t v ≡ true → has_open_job (past ++ more) t ≡ false
         by_kind (Answered task answer) e m is a =
-            let none : has_open_job past task ≡ false = not_true (has_open_job past task) (both (is_claimed_by past by task) (not (has_open_job past task)) m).1 in
             jobs_stay_closed past more t
             (ap (λ (x : What). cons_option (job_for t x) (each_of (job_for t) due)) e ∙ no_jobs_in t due untasked)
-            (subst (λ (x : ℕ). has_open_job past x ≡ false) (same_number task t is) none)
+            (subst (λ (x : ℕ). has_open_job past x ≡ false) (same_number task t is) (closing_shut past by task (not (is_run_again o past task answer)) m))
+        by_kind (Again task answer) e m is a =
+            jobs_stay_closed past more t
+            (ap (λ (x : What). cons_option (job_for t x) (each_of (job_for t) due)) e ∙ no_jobs_in t due untasked)
+            (subst (λ (x : ℕ). has_open_job past x ≡ false) (same_number task t is) (closing_shut past by task (is_run_again o past task answer) m))
         by_kind v e m is a = absurd cc
 
         taken : is_of_task t w ≡ true → has_open_job (past ++ more) t ≡ false
-        taken is = by_either (answers t w) (λ a. by_kind w refl may is a) (λ a. go (takes o past by t w pos may is) a)
+        taken is = by_either (closes t w) (λ a. by_kind w refl may is a) (λ a. go (takes o past by t w pos may is) a)
           where
-            go : Takes past by t w → answers t w ≡ false → has_open_job (past ++ more) t ≡ false
+            go : Takes past by t w → closes t w ≡ false → has_open_job (past ++ more) t ≡ false
             go (inl first) a = begun first.1
-            go (inr later) a = still a later.1
+            go (inr work) a = still a (held_busy by (holder past t) work.0)
 
 -- ---- what a journal has of a task stays
 

@@ -6,6 +6,8 @@ use Rattle.task_text.specs.declared.task.Task.{Task}
 use Rattle.task_text.specs.declared.task.Work.{Work}
 use Rattle.task_text.specs.declared.task.Work.TheVariants.{Store, Drop}
 use Rattle.annex_model.specs.Extensions.{names_of}
+use Rattle.journal_model.specs.declared.answer.Answer.{Answer}
+use Rattle.journal_model.specs.declared.answer.Answer.TheVariants.{Ended as EndedAnswer, Unsent as UnsentAnswer}
 use Rattle.journal_model.specs.declared.verdict.Why.{Why}
 use Rattle.journal_model.specs.declared.verdict.Why.TheVariants.{Eof, ReadFault, LongLine, Full, Memory, Closed}
 use Rattle.journal_model.specs.declared.verdict.Verdict.{Verdict}
@@ -18,7 +20,7 @@ use Rattle.annex_model.specs.declared.turn.Turn.TheVariants.{Later}
 use Rattle.annex_model.specs.Turns.{turn_of, is_at}
 use Rattle.journal_model.specs.declared.holder.Holder.{Holder}
 use Rattle.journal_model.specs.declared.entry.What.{What}
-use Rattle.journal_model.specs.declared.entry.What.TheVariants.{Claim, Start, NoStart, Lead, Ask, Put, Sent, Mute, Got, End, Verdict as Settled, Lost, Answer as Answered, Note as Noted}
+use Rattle.journal_model.specs.declared.entry.What.TheVariants.{Claim, Start, NoStart, Lead, Ask, Put, Sent, Mute, Got, End, Verdict as Settled, Lost, Answer as Answered, Note as Noted, Again}
 use Rattle.journal_model.specs.declared.entry.Entry.{Entry}
 use Rattle.journal_model.specs.declared.opening.Opening.{Opening}
 use Rattle.journal_model.specs.Journal.{any, each_of, first_of, offers, got_lines, open_jobs, is_open, is_started, is_ended, is_mute, is_live, is_settled, asked_jobs, verdict_of, unsent, is_full, is_tagged, on_wire, addressed}
@@ -41,19 +43,45 @@ abbrev pub answers : ℕ → What → Bool
 answers t (Answered task answer) = task == t
 answers t _ = false
 
-abbrev pub is_claimed : List Entry → ℕ → Bool
-is_claimed past t = any (claims t) past
+-- the entry says that the task is to be run again
+abbrev pub renews : ℕ → What → Bool
+renews t (Again task answer) = task == t
+renews t _ = false
 
--- what the entry makes of the task's holder: a claim gives it one, and an answer takes it
+-- the entry ends a run of the task: with its answer, or so that it is run again
+abbrev pub closes : ℕ → What → Bool
+closes t (Answered task answer) = task == t
+closes t (Again task answer) = task == t
+closes t _ = false
+
+-- what the entry makes of whether the task is claimed
+abbrev pub claimed_after : ℕ → Bool → What → Bool
+claimed_after t before (Claim task child) = before || task == t
+claimed_after t before (Again task answer) = before && not (task == t)
+claimed_after t before w = before
+
+abbrev pub claimed_on : ℕ → Bool → Entry → Bool
+claimed_on t before e = claimed_after t before e.what
+
+-- the task is claimed from a claim on, until it is to be run again
+abbrev pub is_claimed : List Entry → ℕ → Bool
+is_claimed past t = fold (claimed_on t) false past
+
+-- how often the task was begun, with the run that comes next or is open: 1 plus the number of its Agains
+abbrev pub turn_of_task : List Entry → ℕ → ℕ
+turn_of_task past t = 1 + count (renews t) past
+
+-- what the entry makes of the task's holder: a claim gives it one, and an answer or an Again takes it
 abbrev pub turned_by : ℕ → Option Holder → ℕ → What → Option Holder
 turned_by t held by (Claim task child) = if task == t then Some (record { by = by; child = child }) else held
 turned_by t held by (Answered task answer) = if task == t then None else held
+turned_by t held by (Again task answer) = if task == t then None else held
 turned_by t held by _ = held
 
 abbrev pub turned : ℕ → Option Holder → Entry → Option Holder
 turned t held e = turned_by t held e.by e.what
 
--- who holds the task: the number and the child of its last claim, where no answer stands behind it
+-- who holds the task: the number and the child of its last claim, where no answer and no Again stands after it
 abbrev pub holder : List Entry → ℕ → Option Holder
 holder past t = fold (turned t) None past
 
@@ -233,6 +261,22 @@ abbrev pub needs_lead : List Entry → What → Bool
 needs_lead past (Ask child job task line) = is_led (host_reading (addressed past child line).1)
 needs_lead past w = false
 
+-- ---- a task that is run again
+
+-- the answer says that the child was lost: it ended, or couldn't be written to
+abbrev pub is_of_lost_child : Answer → Bool
+is_of_lost_child (EndedAnswer why) = true
+is_of_lost_child UnsentAnswer = true
+is_of_lost_child _ = false
+
+abbrev pub is_held_over_child : Option Holder → Bool
+is_held_over_child None = false
+is_held_over_child (Some h) = not (h.child == 0)
+
+-- in place of this answer the task, which was held for a child, is run again
+abbrev pub is_run_again : Opening → List Entry → ℕ → Answer → Bool
+is_run_again o past t answer = is_of_lost_child answer && is_held_over_child (holder past t) && nat_lt (count (renews t) past) o.again
+
 -- ---- what an event may append first
 
 abbrev pub is_start : What → Bool
@@ -280,9 +324,12 @@ may_come o past by (Got child line) = is_live past child && not (has_newline lin
 may_come o past by (End child why) = is_live past child && may_stop past child why
 may_come o past by (Settled child job verdict) = false
 may_come o past by (Lost child task) = is_started past child && (is_ended past child || is_mute past child) && may_ask past by task child
-may_come o past by (Answered task answer) = is_claimed_by past by task && not (has_open_job past task)
+may_come o past by (Answered task answer) =
+    is_claimed_by past by task && not (has_open_job past task) && not (is_run_again o past task answer)
 may_come o past by (Noted task chunk count) =
     is_claimed_by past by task && may_note (task_of o task) && not (has_open_job past task) && nat_lt 0 chunk
+may_come o past by (Again task answer) =
+    is_claimed_by past by task && not (has_open_job past task) && is_run_again o past task answer
 
 -- ---- legal
 
@@ -357,6 +404,7 @@ kind_of (Lost child task) = 11
 kind_of (Answered task answer) = 12
 kind_of (Noted task chunk count) = 13
 kind_of (Lead child job line) = 14
+kind_of (Again task answer) = 15
 
 -- ---- the same by places
 

@@ -16,6 +16,7 @@ pub mod Replies
 pub mod ReplyRows
 pub mod Room
 pub mod Rows
+pub mod AgainRows
 pub mod Wires
 pub mod Halves
 pub mod Shares

@@ -31,6 +31,7 @@ known_since micros work = record {
   notes = record { key = content; line = line_of micros 100 2 } ∷ [];
   identity = (to_do work).identity;
   stamp = (to_do work).stamp;
+  again = (to_do work).again;
 }
 
 abbrev pub claimed : List Entry

@@ -19,4 +19,5 @@ begun_as uuid name = record {
   notes = [];
   identity = record { uuid = uuid; name = name; gitdir = codes ".git" };
   stamp = 0;
+  again = 0;
 }

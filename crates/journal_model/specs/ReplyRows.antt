@@ -11,7 +11,7 @@ use Rattle.journal_model.specs.RegisterRows.{before, says, saying, with_second}
 
 -- config a is 1, and the key has a URL
 abbrev pub with_settings : Opening
-with_settings = record { tasks = one_check.tasks; registers = before; notes = []; identity = one_check.identity; stamp = one_check.stamp }
+with_settings = record { tasks = one_check.tasks; registers = before; notes = []; identity = one_check.identity; stamp = one_check.stamp; again = 0 }
 
 -- what child 1 is told in its open job
 abbrev pub told : List ℕ → Entry

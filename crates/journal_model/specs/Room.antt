@@ -22,9 +22,9 @@ room_for _ = 0
 abbrev pub room_for_all : List Entry → ℕ
 room_for_all entries = sum_by (λ e. room_for e.what) entries
 
--- a claim and an answer for each task, and what the entries so far take
+-- a claim of each task, with its answer or Again, as often as it may be run, and what the entries so far take
 abbrev pub room_of : Opening → List Entry → ℕ
-room_of o journal = 2 * length o.tasks + room_for_all journal
+room_of o journal = 2 * ((1 + o.again) * length o.tasks) + room_for_all journal
 
 abbrev pub is_ask : What → Bool
 is_ask (Ask child job task line) = true

@@ -20,7 +20,7 @@ abbrev pub check_of : List ℕ → Task
 check_of key = record { work = Check; key = key; file = []; name = []; onto = [] }
 
 abbrev pub opening_of : List Task → Opening
-opening_of tasks = record { tasks = tasks; registers = nothing_set; notes = []; identity = record { uuid = codes "00000000-0000-0000-0000-000000000000"; name = codes "remote"; gitdir = codes ".git" }; stamp = 1700000000000000 }
+opening_of tasks = record { tasks = tasks; registers = nothing_set; notes = []; identity = record { uuid = codes "00000000-0000-0000-0000-000000000000"; name = codes "remote"; gitdir = codes ".git" }; stamp = 1700000000000000; again = 0 }
 
 abbrev pub one_check : Opening
 one_check = opening_of (check_of sample_key ∷ [])

@@ -80,6 +80,11 @@ pub enum What {
         chunk: u64,
         count: u64,
     },
+    /// The child was lost under the task, as this answer says. The task may be claimed once more.
+    Again {
+        task: u32,
+        answer: Answer,
+    },
 }
 
 /// An entry of the journal, and the number of the pass that made it; 0 is the main thread between rounds.

@@ -3,6 +3,7 @@
 
 mod answer;
 mod entry;
+pub mod again_laws;
 pub mod half_laws;
 mod holder;
 pub mod laws;

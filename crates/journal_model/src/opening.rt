@@ -23,6 +23,8 @@ pub struct Opening {
     pub notes: NoteBook,
     pub identity: Identity,
     pub stamp: u64,
+    /// How often a task may be run again whose child was lost; at most 8.
+    pub again: u32,
 }
 
 impl Identity {
@@ -53,6 +55,7 @@ impl Opening {
             notes,
             identity,
             stamp: self.stamp,
+            again: self.again,
         })
     }
 }

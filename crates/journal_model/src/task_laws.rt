@@ -1,17 +1,16 @@
 // Laws on tasks in a legal journal, each the contract of a function with nothing to do.
-ghost use Rattle.std.specs.Prelude.{ℕ, ◌≡◌, ◌≤◌, ◌<◌, ◌++◌, true, false, List};
+ghost use Rattle.std.specs.Prelude.{ℕ, ◌≡◌, ◌≤◌, ◌<◌, ◌+◌, ◌++◌, true, false, List, None};
 ghost use Rattle.journal_model.specs.declared.entry.Entry.{Entry};
 ghost use Rattle.journal_model.specs.declared.opening.Opening.{Opening};
 ghost use Rattle.journal_model.specs.Journal.{any};
-ghost use Rattle.journal_model.specs.Legality.{Legal, count, claims, is_claimed, is_busy, has_open_job};
-ghost use Rattle.journal_model.specs.Makers.{is_of_task, is_taken_by, task_part};
-ghost use Rattle.journal_model.specs.Shares.{are_own};
+ghost use Rattle.journal_model.specs.Legality.{Legal, count, claims, renews, is_claimed, is_busy, has_open_job};
+ghost use Rattle.journal_model.specs.Makers.{is_of_task, are_by_holder, task_part};
 
-/// A task is claimed once at most, and each of its entries has the number of its claim. While it isn't busy, no job of it is
-/// open.
+/// Between two claims of a task it was to be run again. Each of its entries claims it where nobody holds it, or is its holder's.
+/// While it isn't busy, no job of it is open.
 pub fn tasks_are_their_claimers()
-    ensures once { (o : Opening) (journal : List Entry) → Legal o journal → (t : ℕ) → count (claims t) journal ≤ 1 }
-    ensures own { (o : Opening) (journal : List Entry) → Legal o journal → (t n : ℕ) → 0 < t → is_taken_by journal n t ≡ true → are_own (is_of_task t) n journal ≡ true }
+    ensures once { (o : Opening) (journal : List Entry) → Legal o journal → (t : ℕ) → count (claims t) journal ≤ 1 + count (renews t) journal }
+    ensures own { (o : Opening) (journal : List Entry) → Legal o journal → (t : ℕ) → 0 < t → are_by_holder t None journal ≡ true }
     ensures shut { (o : Opening) (journal : List Entry) → Legal o journal → (t : ℕ) → 0 < t → is_busy journal t ≡ false → has_open_job journal t ≡ false }
 {}
 

@@ -1,6 +1,6 @@
 // What the entries say of who holds a task, and of its jobs.
 ghost use Rattle.std.specs.Prelude.{◌≡◌};
-ghost use Rattle.journal_model.specs.Legality.{claims, is_claimed, turned, holder, is_busy, is_held_by, is_held_for, is_busy_with, job_for, has_open_job, claimed_for, has_busy_task};
+ghost use Rattle.journal_model.specs.Legality.{claims, claimed_on, renews, count, is_claimed, turned, holder, is_busy, is_held_by, is_held_for, is_busy_with, job_for, has_open_job, claimed_for, has_busy_task};
 
 use crate::children;
 use journal_model::{Entry, Holder, What};
@@ -15,11 +15,39 @@ pub fn claims(what: &What, t: u32) -> bool
     }
 }
 
-/// Whether the task was claimed.
+/// What the entry makes of whether the task is claimed.
+fn claimed_on(before: bool, entry: &Entry, t: u32) -> bool
+    ensures { result ≡ claimed_on t before entry.now }
+{
+    match &entry.what {
+        What::Claim { task, .. } => before || *task == t,
+        What::Again { task, .. } => before && *task != t,
+        _ => before,
+    }
+}
+
+/// Whether the task is claimed.
 pub fn is_claimed(entries: &[Entry], task: u32) -> bool
     ensures { result ≡ is_claimed entries.now task }
 {
-    entries.iter().any(|e| claims(&e.what, task))
+    entries.iter().fold(false, |before, e| claimed_on(before, e, task))
+}
+
+/// Whether the entry says that the task is to be run again.
+pub fn renews(what: &What, t: u32) -> bool
+    ensures { result ≡ renews t what.now }
+{
+    match what {
+        What::Again { task, .. } => *task == t,
+        _ => false,
+    }
+}
+
+/// How often the task was to be run again.
+pub fn renewed(entries: &[Entry], task: u32) -> usize
+    ensures { result ≡ count (renews task) entries.now }
+{
+    entries.iter().filter(|e| renews(&e.what, task)).count()
 }
 
 /// What the entry makes of the task's holder.
@@ -31,7 +59,7 @@ fn turned(held: Option<Holder>, entry: &Entry, t: u32) -> Option<Holder>
             by: entry.by,
             child: *child,
         }),
-        What::Answer { task, .. } if *task == t => None,
+        What::Answer { task, .. } | What::Again { task, .. } if *task == t => None,
         _ => held,
     }
 }
