@@ -4,21 +4,18 @@ use Rattle.journal_model.specs.declared.opening.Opening.{Opening}
 use Rattle.ann_outside.specs.declared.file_desk.Call.{Call}
 use Rattle.task_run.specs.declared.setup.Setup.{Setup}
 use Rattle.gathering.specs.Tasks.{Lasts}
-use Rattle.gathering.specs.Laws.{TaggedRound, PoolRound, AloneRound, EarlierStays}
+use Rattle.gathering.specs.Laws.{TaggedRound, PoolRound, AloneRound}
 use Rattle.gathering.specs.JournalRuns.{HasJournalRun}
 
--- a run stays while nothing is made of its task and no job of it is open
+-- a run stays, whatever comes later
 abbrev pub RunsLast : Type 0
-RunsLast = (o : Opening) (setup : Setup) (calls : ℕ → ℕ → List Call) → Lasts (HasJournalRun o setup calls)
+RunsLast = (o : Opening) (setup : Setup) (calls : ℕ → ℕ → ℕ → List Call) → Lasts (HasJournalRun o setup calls)
 
 abbrev pub TaggedRuns : Type 0
-TaggedRuns = (o : Opening) (setup : Setup) (calls : ℕ → ℕ → List Call) → TaggedRound (HasJournalRun o setup calls)
+TaggedRuns = (o : Opening) (setup : Setup) (calls : ℕ → ℕ → ℕ → List Call) → TaggedRound (HasJournalRun o setup calls)
 
 abbrev pub PoolRuns : Type 0
-PoolRuns = (o : Opening) (setup : Setup) (calls : ℕ → ℕ → List Call) → PoolRound (HasJournalRun o setup calls)
+PoolRuns = (o : Opening) (setup : Setup) (calls : ℕ → ℕ → ℕ → List Call) → PoolRound (HasJournalRun o setup calls)
 
 abbrev pub AloneRuns : Type 0
-AloneRuns = (o : Opening) (setup : Setup) (calls : ℕ → ℕ → List Call) → AloneRound (HasJournalRun o setup calls)
-
-abbrev pub EarlierRunsStay : Type 0
-EarlierRunsStay = (o : Opening) (setup : Setup) (calls : ℕ → ℕ → List Call) → EarlierStays (HasJournalRun o setup calls)
+AloneRuns = (o : Opening) (setup : Setup) (calls : ℕ → ℕ → ℕ → List Call) → AloneRound (HasJournalRun o setup calls)

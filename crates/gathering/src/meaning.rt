@@ -2,12 +2,12 @@
 ghost use Rattle.std.specs.Prelude.{ℕ, List};
 ghost use Rattle.journal_model.specs.declared.entry.Entry.{Entry};
 
-/// A meaning of `the number ran the task`, said of a journal. It stays while nothing is made of the task and no job of it is
-/// open. A value of the type may hold what else it speaks of, as the calls of a worker's desk.
+/// A meaning of `the number ran this turn of the task`, said of a journal. It stays, whatever comes later. A value of the type may hold
+/// what else it speaks of, as the calls of a worker's desk.
 pub trait Meaning {
     ghost use Rattle.gathering.specs.Tasks.{Lasts};
 
-    ghost ran: { Self → ℕ → ℕ → List Entry → Type 0 };
+    ghost ran: { Self → ℕ → ℕ → ℕ → List Entry → Type 0 };
 
     ghost lasts: { (m : Self) → Lasts (ran m) };
 }
