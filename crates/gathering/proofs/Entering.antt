@@ -5,28 +5,27 @@ use Rattle.std.specs.List.{list_any}
 use Rattle.hall.specs.Log.{flat}
 use Rattle.hall.specs.Passes.{HallValue, PassValue, seen_of, HasEntered}
 use Rattle.journal_model.specs.declared.answer.Answer.{Answer}
-use Rattle.journal_model.specs.declared.entry.What.TheVariants.{Claim, Answer as Answered}
+use Rattle.journal_model.specs.declared.entry.What.TheVariants.{Claim}
 use Rattle.journal_model.specs.declared.entry.Entry.{Entry}
 use Rattle.journal_model.specs.declared.opening.Opening.{Opening}
-use Rattle.journal_model.specs.Journal.{any, is_started}
-use Rattle.journal_model.specs.Legality.{Legal, claims, least_free, is_free, is_answered, is_claimed, is_claimed_by, is_busy, is_prepared, numbers_of, has_open_job, both_conflict, task_of}
+use Rattle.journal_model.specs.Journal.{is_started}
+use Rattle.journal_model.specs.Legality.{Legal, least_free, is_free, is_claimed, is_claimed_by, is_busy, is_prepared, is_run_again, numbers_of, has_open_job, both_conflict, task_of, turn_of_task}
 use Rattle.journal_model.specs.Shares.{are_others}
-use Rattle.journal_model.proofs.Holding.{not_true}
-use Rattle.journal_model.proofs.Looks.{entry, both, same, differ, any-append}
+use Rattle.journal_model.proofs.Holding.{held_claimed, not_true}
+use Rattle.journal_model.proofs.Looks.{entry, both, differ, true_not_false}
+use Rattle.journal_model.proofs.Testing.{by_either}
 use Rattle.host_core.specs.declared.event.Event.TheVariants.{Claim as ClaimEvent, Answer as AnswerEvent}
 use Rattle.host_core.specs.declared.event.Event.{Event}
 use Rattle.host_core.specs.declared.event.Reply.{Reply}
 use Rattle.host_core.specs.declared.event.Reply.TheVariants.{Wait, NoTask, Done}
 use Rattle.host_core.specs.Mays.{MayStep, IsMadeBy}
-use Rattle.host_core.specs.Steps.{Step, step_of, claim, only, append, gone, is_gone, are_all_claimed}
-use Rattle.journal_model.specs.Makers.{is_of_task, is_taken_by}
+use Rattle.host_core.specs.Steps.{Step, step_of, claim, only, append, gone, is_gone, are_all_claimed, closing as what_closes}
+use Rattle.task_run.specs.Askings.{closing}
 use Rattle.gathering.specs.Tasks.{Lasts}
 use Rattle.gathering.specs.Workers.{Free, Busy, WorkBegun, Entered, ClaimGives}
-use Rattle.journal_model.proofs.Testing.{or_right}
 use Rattle.gathering.proofs.Halls.{legal_log, signed_log, others_log}
-use Rattle.journal_model.proofs.Working.{find_holds, tasks_kept, jobs_stay_closed, no_jobs_in}
-use Rattle.journal_model.proofs.Idling.{claimed_positive}
-use Rattle.gathering.proofs.Laboring.{work_others, busy_others, claim_begins, answer_frees, taken_seen, taken_held, others_untasked}
+use Rattle.journal_model.proofs.Working.{find_holds, jobs_stay_closed, no_jobs_in}
+use Rattle.gathering.proofs.Laboring.{work_others, busy_others, busy_apart, claim_begins, answer_frees}
 
 pub entered : (h : HallValue Entry Opening) (before after : PassValue Entry Opening) (event : Event) (reply : Reply)
     → HasEntered IsMadeBy MayStep h before after event reply → Entered h.fixed before.number (seen_of before) (seen_of after) event reply
@@ -49,7 +48,20 @@ claim_step o past n c pos s p = rw (differ n 0 (λ e. omega (arith, pos, e)), s,
     go true = refl
     go false = refl
 
-module _ (o : Opening) (means : ℕ → ℕ → List Entry → Type 0) (stays : Lasts means) (n c : ℕ) (start : List Entry) where
+-- what an answer appends, as a run has it
+pub closes_so : (o : Opening) (past : List Entry) (t : ℕ) (answer : Answer) → what_closes o past t answer ≡ closing (is_run_again o past t answer) t answer
+closes_so o past t answer = go (is_run_again o past t answer)
+  where
+    go : (b : Bool) → cond b (closing true t answer) (closing false t answer) ≡ closing b t answer
+    go true = refl
+    go false = refl
+
+-- and no more
+closes_alone : (o : Opening) (past : List Entry) (n : ℕ) (again : Bool) (t : ℕ) (answer : Answer) → (append o past n (closing again t answer) Done).group ≡ entry n (closing again t answer) ∷ []
+closes_alone o past n true t answer = refl
+closes_alone o past n false t answer = refl
+
+module _ (o : Opening) (means : ℕ → ℕ → ℕ → List Entry → Type 0) (stays : Lasts means) (n c : ℕ) (start : List Entry) where
   abbrev Gone : List Entry → (List Entry → Type 0) → Type 0
   Gone new P = (more : List Entry) × (new ≡ start ++ more) × P more
 
@@ -72,7 +84,7 @@ module _ (o : Opening) (means : ℕ → ℕ → List Entry → Type 0) (stays : 
       legal = e.between w.legal
 
       free : Free o means n c start now
-      free = work_others o means stays n c start (λ t. ⊥) more e.others legal e.apart w
+      free = work_others o means stays n c start (λ t k. ⊥) more e.others legal e.apart w
 
       step : step_of o seen n (ClaimEvent c) ≡ cond (is_gone seen c) (only (gone seen c)) (claim o seen n c (least_free o seen))
       step = claim_step o seen n c pos (subst (λ (x : List Entry). is_started x c ≡ true) (sym same_seen) free.started) (subst (λ (x : List Entry). is_prepared x c ≡ true) (sym same_seen) free.ready)
@@ -111,19 +123,19 @@ module _ (o : Opening) (means : ℕ → ℕ → List Entry → Type 0) (stays : 
           longer : Legal o ((start ++ now) ++ one)
           longer = subst (λ (x : List Entry). Legal o (x ++ one)) same_seen (subst (λ (g : List Entry). Legal o (seen ++ g)) grown e.step.legal)
 
-          fresh : is_claimed (start ++ now) t ≡ false
-          fresh = subst (λ (x : List Entry). is_claimed x t ≡ false) same_seen unclaimed
+          fresh : is_busy (start ++ now) t ≡ false
+          fresh = subst (λ (x : List Entry). is_busy x t ≡ false) same_seen
+              (by_either (is_busy seen t) (λ h. true_not_false (is_claimed seen t) (held_claimed seen t h) unclaimed) (λ f. f))
 
-          positive : 0 < t
-          positive = claimed_positive o ((start ++ now) ++ one) longer t
-              (any-append (claims t) (start ++ now) one ∙ or_right (is_claimed (start ++ now) t) (is_claimed one t) (rw (same t) refl))
+          turn : turn_of_task seen t ≡ turn_of_task (start ++ now) t
+          turn = ap (λ (x : List Entry). turn_of_task x t) same_seen
 
-          begun : WorkBegun o means n c t start (now ++ one)
+          begun : WorkBegun o means n c t (turn_of_task seen t) start (now ++ one)
           begun = record {
-            busy = claim_begins o means stays n c start t now longer fresh free;
+            busy = subst (λ (k : ℕ). Busy o means n c t k start (now ++ one)) (sym turn) (claim_begins o means stays n c start t now longer free);
             past = start ++ now;
             claim = sym (append_assoc start now one);
-            first = (tasks_kept o (start ++ now) free.legal).none t positive fresh;
+            unheld = fresh;
           }
       by_task None least is = by_all (are_all_claimed o seen) refl
         where
@@ -135,20 +147,21 @@ module _ (o : Opening) (means : ℕ → ℕ → List Entry → Type 0) (stays : 
       by_gone true g = quiet (gone seen c) (step ∙ (rw g refl)) (free, inr (subst (λ (x : List Entry). is_gone x c ≡ true) same_seen g))
       by_gone false g = by_task (least_free o seen) refl (step ∙ (rw g refl))
 
-  -- ---- an answer
+  -- ---- what closes a run
 
   -- a worker answers its task, with no job open, where the answer is what the run means whatever others make before it
-  pub answer_gives : (t : ℕ) (more new : List Entry) (answer : Answer) (reply : Reply) → Entered o n (start ++ more) new (AnswerEvent t answer) reply
+  pub answer_gives : (t k : ℕ) (more new : List Entry) (answer : Answer) (reply : Reply) → Entered o n (start ++ more) new (AnswerEvent t answer) reply
       → has_open_job (start ++ more) t ≡ false
-      → ((others : List Entry) → are_others n others ≡ true → Legal o ((start ++ more) ++ others) → means n t (((start ++ more) ++ others) ++ entry n (Answered t answer) ∷ []))
-      → Busy o means n c t start more → (reply ≡ Done) × Gone new (Free o means n c start)
-  answer_gives t more new answer reply e shut run b = (
+      → ((others : List Entry) (again : Bool) → are_others n others ≡ true → Legal o ((start ++ more) ++ others)
+      → means n t k (((start ++ more) ++ others) ++ entry n (closing again t answer) ∷ []))
+      → Busy o means n c t k start more → (reply ≡ Done) × Gone new (Free o means n c start)
+  answer_gives t k more new answer reply e shut run b = (
     e.step.reply_is ∙ ap (λ (x : Step). x.reply) step,
     (
       now ++ one,
       e.is ∙ ap (λ (g : List Entry). seen ++ g) grown ∙ ap (λ (x : List Entry). x ++ one) same_seen ∙ append_assoc start now one,
-      answer_frees o means stays n c start t now answer (subst (λ (x : List Entry). Legal o (x ++ one)) same_seen longer)
-          (subst (λ (x : List Entry). means n t (x ++ one)) same_seen (run e.others e.apart legal)) busy,
+      answer_frees o means stays n c start t k now again answer (subst (λ (x : List Entry). Legal o (x ++ one)) same_seen longer)
+          (subst (λ (x : List Entry). means n t k (x ++ one)) same_seen (run e.others again e.apart legal)) busy,
     ),
   )
     where
@@ -158,8 +171,11 @@ module _ (o : Opening) (means : ℕ → ℕ → List Entry → Type 0) (stays : 
       now : List Entry
       now = more ++ e.others
 
+      again : Bool
+      again = is_run_again o seen t answer
+
       one : List Entry
-      one = entry n (Answered t answer) ∷ []
+      one = entry n (closing again t answer) ∷ []
 
       same_seen : seen ≡ start ++ now
       same_seen = append_assoc start more e.others
@@ -167,24 +183,21 @@ module _ (o : Opening) (means : ℕ → ℕ → List Entry → Type 0) (stays : 
       legal : Legal o seen
       legal = e.between b.work.legal
 
-      busy : Busy o means n c t start now
-      busy = busy_others o means stays n c start t more e.others legal e.apart b
-
-      untasked : any (is_of_task t) e.others ≡ false
-      untasked = others_untasked o n t (start ++ more) e.others legal e.apart (taken_seen o means stays n c start more t b.taken)
+      busy : Busy o means n c t k start now
+      busy = busy_others o means stays n c start t k more e.others legal e.apart b
 
       closed : has_open_job seen t ≡ false
-      closed = jobs_stay_closed (start ++ more) e.others t (no_jobs_in t e.others untasked) shut
+      closed = jobs_stay_closed (start ++ more) e.others t (no_jobs_in t e.others (busy_apart o means stays n c start t k more e.others legal e.apart b)) shut
 
       mine : is_claimed_by seen n t ≡ true
-      mine = taken_held o seen n t legal (subst (λ (x : List Entry). is_taken_by x n t ≡ true) (sym same_seen) (taken_seen o means stays n c start now t busy.taken))
-          (subst (λ (x : List Entry). is_answered x t ≡ false) (sym same_seen) busy.unanswered)
+      mine = subst (λ (x : List Entry). is_claimed_by x n t ≡ true) (sym same_seen) busy.held
 
-      step : step_of o seen n (AnswerEvent t answer) ≡ append o seen n (Answered t answer) Done
-      step = rw (mine, closed) refl
+      step : step_of o seen n (AnswerEvent t answer) ≡ append o seen n (closing again t answer) Done
+      step = (let s : step_of o seen n (AnswerEvent t answer) ≡ append o seen n (what_closes o seen t answer) Done = rw (mine, closed) refl in s)
+          ∙ ap (λ w. append o seen n w Done) (closes_so o seen t answer)
 
       grown : e.group ≡ one
-      grown = e.step.group_is ∙ ap (λ (x : Step). x.group) step
+      grown = e.step.group_is ∙ ap (λ (x : Step). x.group) step ∙ closes_alone o seen n again t answer
 
       longer : Legal o (seen ++ one)
       longer = subst (λ (g : List Entry). Legal o (seen ++ g)) grown e.step.legal

@@ -69,6 +69,7 @@ not_by n (k ∷ ks) h = go (k.by == n) refl h (not_by n ks)
 -- after what the pass has seen stand entries of others alone
 pub record Saw (o : Opening) (start rest : List Entry) (p : CorePass) : Type 0 where
   pub later : List Entry
+  pub begins : p.start ≡ start
   pub legal : Legal o (seen_of p)
   pub sees : seen_of p ≡ start ++ since p
   pub behind : rest ≡ since p ++ later
@@ -81,6 +82,7 @@ drop_start (x ∷ xs) ys = drop_start xs ys
 pub saw : (o : Opening) (start : List Entry) (log : Log) (p : CorePass) → Steps o start log → Legal o start → p.start ≡ start → HasAllOf log p → Saw o start (flat log) p
 saw o start log p grown legal begins all = record {
   later = flat ks;
+  begins = begins;
   legal = subst (λ (x : List Entry). Legal o (x ++ flat p.links)) (sym begins)
       (legal_log o start p.links (legal-before (Allowed IsMadeBy MayStep) o start p.links ks (subst (Steps o start) (sym whole) grown)) legal);
   sees = ap (λ (x : List Entry). x ++ flat p.links) begins ∙ ap (λ (x : List Entry). start ++ x) (sym new);

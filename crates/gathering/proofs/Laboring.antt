@@ -1,29 +1,31 @@
--- A worker goes on: while others make their entries, by a claim, a request and an answer.
-use Rattle.std.proofs.Common.{◌≡◌, ℕ, ◌<◌, List, [], ◌∷◌, ◌++◌, refl, sym, ap, subst, ◌∙◌, Bool, true, false, not, ◌==◌, Some, None, Option, length, drop, append_assoc}
-use Rattle.std.specs.Prelude.{◌&&◌, ◌||◌, is_some}
+-- A worker goes on: while others make their entries, by a claim, and by what closes its run.
+use Rattle.std.proofs.Common.{◌≡◌, ℕ, ◌<◌, List, [], ◌∷◌, ◌++◌, refl, sym, ap, subst, ◌∙◌, Bool, true, false, not, ◌==◌, cond, Some, None, Option, length, drop, append_assoc}
+use Rattle.std.specs.Prelude.{◌&&◌, ◌||◌}
 use Rattle.std.specs.Option.{option_or}
 use Rattle.hall.specs.Passes.{seen_of}
 use Rattle.journal_model.specs.declared.verdict.Verdict.{Verdict}
 use Rattle.journal_model.specs.declared.holder.Holder.{Holder}
 use Rattle.journal_model.specs.declared.answer.Answer.{Answer}
 use Rattle.journal_model.specs.declared.entry.What.{What}
-use Rattle.journal_model.specs.declared.entry.What.TheVariants.{Claim, Answer as Answered}
+use Rattle.journal_model.specs.declared.entry.What.TheVariants.{Claim, Answer as Answered, Again}
 use Rattle.journal_model.specs.declared.entry.Entry.{Entry}
 use Rattle.journal_model.specs.declared.opening.Opening.{Opening}
 use Rattle.journal_model.specs.Journal.{any, starts, is_started, verdict_of}
-use Rattle.journal_model.specs.Legality.{Legal, answers, claims, is_answered, is_claimed, is_claimed_by, is_held_by, holder, is_done, is_prepared, prepares, has_open_job}
+use Rattle.journal_model.specs.Legality.{Legal, is_claimed_by, is_held_by, holder, turned_by, is_done, is_prepared, prepares, renews, turn_of_task}
+use Rattle.journal_model.specs.Makers.{is_of_task}
 use Rattle.journal_model.specs.Shares.{are_others, makes_only}
-use Rattle.journal_model.proofs.Holding.{held_unanswered}
-use Rattle.journal_model.proofs.Looks.{entry, both, same, same_number, differ, any-append, true_not_false, verdict_of-append}
-use Rattle.journal_model.specs.Makers.{is_of_task, is_taken_by}
+use Rattle.journal_model.proofs.Holders.{others_unheld, others_apart, turn_apart}
+use Rattle.journal_model.proofs.Holding.{holder_append}
+use Rattle.journal_model.proofs.Looks.{entry, both, same, same_number, any-append, true_not_false, verdict_of-append}
+use Rattle.journal_model.proofs.Testing.{or_left, or_false, by_either, all-join, only_others}
+use Rattle.journal_model.proofs.Working.{holder_apart, unrenewed_in}
+use Rattle.task_run.specs.Askings.{closing}
 use Rattle.gathering.specs.Posts.{Post, makes, works}
-use Rattle.gathering.specs.Tasks.{Lasts}
+use Rattle.gathering.specs.Tasks.{Lasts, IsThroughAfterAgain, takes_turn, turns_by}
 use Rattle.gathering.specs.Rounds.{CorePass, since, WorkerEnds}
 use Rattle.gathering.specs.Workers.{AtWork, Free, Busy}
-use Rattle.journal_model.proofs.Testing.{or_left, or_right, or_false, neither, by_either, all-join, all-split, none_picked, none-each, only_others, differ_by}
-use Rattle.journal_model.proofs.Working.{tasks_kept, claimer, held_taken, taken_by-append, taken_claimed, idle_shut, unanswered_in}
-use Rattle.journal_model.proofs.Idling.{claimed_positive, not_busy}
 use Rattle.gathering.proofs.Halls.{drop_start}
+use Rattle.gathering.proofs.Turning.{is_turn, others_turns, takes_turn-append, turn_before}
 
 -- ---- what lasts
 
@@ -46,211 +48,193 @@ prepared_lasts past more c h = rw (done, asked) refl
 pub started_lasts : (past more : List Entry) (c : ℕ) → is_started past c ≡ true → is_started (past ++ more) c ≡ true
 started_lasts past more c h = any-append (starts c) past more ∙ or_left (is_started past c) (is_started more c) h
 
-pub answered_lasts : (past more : List Entry) (t : ℕ) → is_answered past t ≡ true → is_answered (past ++ more) t ≡ true
-answered_lasts past more t h = any-append (answers t) past more ∙ or_left (is_answered past t) (is_answered more t) h
+-- ---- what closes a run
 
-pub taken_lasts : (past more : List Entry) (n t : ℕ) → is_taken_by past n t ≡ true → is_taken_by (past ++ more) n t ≡ true
-taken_lasts past more n t h = taken_by-append past more n t ∙ or_left (is_taken_by past n t) (is_taken_by more n t) h
+-- what holds of both
+by_closing : (P : What → Type 0) (again : Bool) (t : ℕ) (answer : Answer) → P (Again t answer) → P (Answered t answer) → P (closing again t answer)
+by_closing P true t answer x y = x
+by_closing P false t answer x y = y
 
--- others take nothing by a number
-pub others_untaken : (n t : ℕ) (xs : List Entry) → are_others n xs ≡ true → is_taken_by xs n t ≡ false
-others_untaken n t xs h = none-each (λ (x : Entry). x.by == n && claims t x.what) (λ (x : Entry). not (x.by == n)) (λ x d. differ_by (x.by == n) (claims t x.what) d) xs h
+module _ (again : Bool) (t : ℕ) (answer : Answer) where
+  closing_works : (c : ℕ) → works c (closing again t answer) ≡ true
+  closing_works c = by_closing (λ w. works c w ≡ true) again t answer refl refl
 
--- others make nothing of a task that a number took
-pub others_untasked : (o : Opening) (n t : ℕ) (seen others : List Entry) → Legal o (seen ++ others) → are_others n others ≡ true → is_taken_by seen n t ≡ true
-    → any (is_of_task t) others ≡ false
-others_untasked o n t seen others l apart h =
-    let c = taken_lasts seen others n t h in
-    let pos = claimed_positive o (seen ++ others) l t (taken_claimed (seen ++ others) n t c) in
-    let own = (tasks_kept o (seen ++ others) l).own t n pos c in
-    none_picked (is_of_task t) n others (all-split (λ (e : Entry). not (is_of_task t e.what) || e.by == n) seen others own).1 apart
+  closing_other : (u : ℕ) → (t == u) ≡ false → is_of_task u (closing again t answer) ≡ false
+  closing_other u d = by_closing (λ w. is_of_task u w ≡ false) again t answer d d
 
--- who took a task that isn't answered holds it
-pub taken_held : (o : Opening) (seen : List Entry) (n t : ℕ) → Legal o seen → is_taken_by seen n t ≡ true → is_answered seen t ≡ false → is_claimed_by seen n t ≡ true
-taken_held o seen n t l taken free = go (holder seen t) refl busy
+  -- nobody holds the task then
+  closing_frees : (by : ℕ) (h : Option Holder) → turned_by t h by (closing again t answer) ≡ None
+  closing_frees by h = by_closing (λ w. turned_by t h by w ≡ None) again t answer (rw (same t) refl) (rw (same t) refl)
+
+  pub closing_turns : (n : ℕ) (past : List Entry) → turns_by n past (entry n (closing again t answer) ∷ []) ≡ []
+  closing_turns n past = by_closing (λ w. turns_by n past (entry n w ∷ []) ≡ []) again t answer (rw (same n) refl) (rw (same n) refl)
+
+-- ---- a worker
+
+-- the number holds nothing more after these entries, and what it holds is in the same turn
+abbrev Keeps : ℕ → List Entry → List Entry → Type 0
+Keeps n seen extra = (t : ℕ) → is_claimed_by (seen ++ extra) n t ≡ true → (is_claimed_by seen n t ≡ true) × (turn_of_task (seen ++ extra) t ≡ turn_of_task seen t)
+
+others_keep : (o : Opening) (n : ℕ) (seen others : List Entry) → Legal o seen → Legal o (seen ++ others) → are_others n others ≡ true → Keeps n seen others
+others_keep o n seen others first whole apart t held = (mine, turn_apart seen others t (unrenewed_in t others (others_apart o seen others n t first whole apart mine)))
   where
-    claimed : is_claimed seen t ≡ true
-    claimed = taken_claimed seen n t taken
+    mine : is_claimed_by seen n t ≡ true
+    mine = by_either (is_claimed_by seen n t) (λ k. k) (λ f. true_not_false (is_claimed_by (seen ++ others) n t) held (others_unheld seen others n t apart f))
 
-    busy : is_some (holder seen t) ≡ true
-    busy = held_unanswered o seen l t ∙ (rw (claimed, free) refl)
+module _ (o : Opening) (means : ℕ → ℕ → ℕ → List Entry → Type 0) (stays : Lasts means) (n c : ℕ) (start : List Entry) where
+  over : (more extra : List Entry) (P : List Entry → Type 0) → P ((start ++ more) ++ extra) → P (start ++ (more ++ extra))
+  over more extra P h = subst P (append_assoc start more extra) h
 
-    go : (h : Option Holder) → holder seen t ≡ h → is_some h ≡ true → is_claimed_by seen n t ≡ true
-    go None e h = absurd cc
-    go (Some x) e h =
-        let theirs : is_claimed_by seen x.by t ≡ true = ap (is_held_by x.by) e ∙ same x.by in
-        let own = (tasks_kept o seen l).own t n (claimed_positive o seen l t claimed) taken in
-        let me : x.by ≡ n = claimer seen n x.by t own (held_taken seen x.by t theirs) in
-        subst (λ (m : ℕ). is_claimed_by seen m t ≡ true) me theirs
-
-module _ (o : Opening) (means : ℕ → ℕ → List Entry → Type 0) (stays : Lasts means) (n c : ℕ) (start : List Entry) where
-  -- what was taken since stands in what was seen
-  pub taken_seen : (more : List Entry) (t : ℕ) → is_taken_by more n t ≡ true → is_taken_by (start ++ more) n t ≡ true
-  taken_seen more t h = taken_by-append start more n t ∙ or_right (is_taken_by start n t) (is_taken_by more n t) h
-
-  -- ---- entries that take nothing by the number, and are of no task that it has done
-
-  -- a run that is over stays
-  stays_ran : (is_at : ℕ → Type 0) (more extra : List Entry) (w : AtWork o means n c is_at start more) (t : ℕ) → is_taken_by more n t ≡ true → (is_at t → ⊥)
-      → any (is_of_task t) extra ≡ false → means n t ((start ++ more) ++ extra)
-  stays_ran is_at more extra w t k at apart =
-      let pos = claimed_positive o (start ++ more) w.legal t (taken_claimed (start ++ more) n t (taken_seen more t k)) in
-      let shut : has_open_job (start ++ more) t ≡ false = idle_shut o (start ++ more) w.legal t pos (not_busy o (start ++ more) w.legal t (w.answered t k at)) in
-      stays n t (start ++ more) extra apart shut (w.ran t k at)
-
-  goes_on : (is_at : ℕ → Type 0) (more extra : List Entry) → Legal o ((start ++ more) ++ extra) → makes_only (works c) n extra ≡ true
-      → ((t : ℕ) → is_taken_by extra n t ≡ false) → AtWork o means n c is_at start more
-      → ((t : ℕ) → is_taken_by more n t ≡ true → (is_at t → ⊥) → any (is_of_task t) extra ≡ false)
-      → AtWork o means n c is_at start (more ++ extra)
-  goes_on is_at more extra legal only none w apart = record {
-    only = all-join (λ (e : Entry). not (e.by == n) || works c e.what) more extra w.only only;
-    answered = λ t h at. over (λ j. is_answered j t ≡ true) (answered_lasts (start ++ more) extra t (w.answered t (before t h) at));
-    ran = λ t h at. over (λ j. means n t j) (stays_ran is_at more extra w t (before t h) at (apart t (before t h) at));
-    legal = over (Legal o) legal;
-    started = over (λ j. is_started j c ≡ true) (started_lasts (start ++ more) extra c w.started);
-    ready = over (λ j. is_prepared j c ≡ true) (prepared_lasts (start ++ more) extra c w.ready);
-  }
-    where
-      over : (P : List Entry → Type 0) → P ((start ++ more) ++ extra) → P (start ++ (more ++ extra))
-      over P h = subst P (append_assoc start more extra) h
-
-      before : (t : ℕ) → is_taken_by (more ++ extra) n t ≡ true → is_taken_by more n t ≡ true
-      before t h = go (is_taken_by more n t) (is_taken_by extra n t) (sym (taken_by-append more extra n t) ∙ h) (none t)
-        where
-          go : (a b : Bool) → (a || b) ≡ true → b ≡ false → a ≡ true
-          go true b h e = refl
-          go false true h e = absurd cc
-          go false false h e = absurd cc
+  under : (more extra : List Entry) (P : List Entry → Type 0) → P (start ++ (more ++ extra)) → P ((start ++ more) ++ extra)
+  under more extra P h = subst P (sym (append_assoc start more extra)) h
 
   -- others made entries
-  pub work_others : (is_at : ℕ → Type 0) (more others : List Entry) → Legal o ((start ++ more) ++ others) → are_others n others ≡ true
+  pub work_others : (is_at : ℕ → ℕ → Type 0) (more others : List Entry) → Legal o ((start ++ more) ++ others) → are_others n others ≡ true
       → AtWork o means n c is_at start more → AtWork o means n c is_at start (more ++ others)
-  work_others is_at more others legal apart w =
-      goes_on is_at more others legal (only_others (works c) n others apart) (λ t. others_untaken n t others apart) w
-      (λ t h at. others_untasked o n t (start ++ more) others legal apart (taken_seen more t h))
-
-  pub busy_others : (t : ℕ) (more others : List Entry) → Legal o ((start ++ more) ++ others) → are_others n others ≡ true
-      → Busy o means n c t start more → Busy o means n c t start (more ++ others)
-  busy_others t more others legal apart b = record {
-    work = work_others (λ u. u ≡ t) more others legal apart b.work;
-    taken = taken_lasts more others n t b.taken;
-    unanswered = ap (λ (j : List Entry). is_answered j t) (sym (append_assoc start more others))
-        ∙ any-append (answers t) (start ++ more) others ∙ neither (is_answered (start ++ more) t) (is_answered others t) b.unanswered
-        (unanswered_in t others (others_untasked o n t (start ++ more) others legal apart (taken_seen more t b.taken)));
+  work_others is_at more others legal apart w = record {
+    only = all-join (λ (e : Entry). not (e.by == n) || works c e.what) more others w.only (only_others (works c) n others apart);
+    ran = λ t k h at. over more others (λ j. means n t k j)
+        (stays n t k (start ++ more) others (w.ran t k (sym (turn_before start more others n t k (others_turns n (start ++ more) others apart)) ∙ h) at));
+    holds = λ t free held. over more others (λ j. is_at t (turn_of_task j t))
+        (let k = others_keep o n (start ++ more) others w.legal legal apart t (under more others (λ j. is_claimed_by j n t ≡ true) held) in
+        subst (is_at t) (sym k.1) (w.holds t free k.0));
+    legal = over more others (Legal o) legal;
+    started = over more others (λ j. is_started j c ≡ true) (started_lasts (start ++ more) others c w.started);
+    ready = over more others (λ j. is_prepared j c ≡ true) (prepared_lasts (start ++ more) others c w.ready);
   }
 
-  -- the worker makes an entry of its task that is neither its claim nor its answer
-  pub busy_makes : (t : ℕ) (more : List Entry) (w : What) → Legal o ((start ++ more) ++ entry n w ∷ []) → works c w ≡ true
-      → ((u : ℕ) → claims u w ≡ false) → answers t w ≡ false → ((u : ℕ) → is_of_task u w ≡ true → u ≡ t)
-      → Busy o means n c t start more → Busy o means n c t start (more ++ entry n w ∷ [])
-  busy_makes t more w legal makes unclaiming unanswering of b = record {
-    work = goes_on (λ u. u ≡ t) more (entry n w ∷ []) legal (rw (makes, same n) refl)
-        (λ u. rw (unclaiming u) (off (n == n))) b.work (λ u h at. neither (is_of_task u w) false (by_either (is_of_task u w) (λ is. absurd (at (of u is))) (λ f. f)) refl);
-    taken = taken_lasts more (entry n w ∷ []) n t b.taken;
-    unanswered = ap (λ (j : List Entry). is_answered j t) (sym (append_assoc start more (entry n w ∷ [])))
-        ∙ any-append (answers t) (start ++ more) (entry n w ∷ []) ∙ neither (is_answered (start ++ more) t) (is_answered (entry n w ∷ []) t) b.unanswered (rw unanswering refl);
+  -- and nothing of the task that it is at
+  pub busy_apart : (t k : ℕ) (more others : List Entry) → Legal o ((start ++ more) ++ others) → are_others n others ≡ true → Busy o means n c t k start more
+      → any (is_of_task t) others ≡ false
+  busy_apart t k more others legal apart b = others_apart o (start ++ more) others n t b.work.legal legal apart b.held
+
+  pub busy_others : (t k : ℕ) (more others : List Entry) → Legal o ((start ++ more) ++ others) → are_others n others ≡ true
+      → Busy o means n c t k start more → Busy o means n c t k start (more ++ others)
+  busy_others t k more others legal apart b = record {
+    work = work_others (λ u j. (u ≡ t) × (j ≡ k)) more others legal apart b.work;
+    taken = takes_turn-append start more others n t k ∙ or_left (takes_turn start more n t k) (takes_turn (start ++ more) others n t k) b.taken;
+    held = over more others (λ j. is_claimed_by j n t ≡ true) (ap (is_held_by n) (holder_apart (start ++ more) others t none) ∙ b.held);
+    turn = over more others (λ j. turn_of_task j t ≡ k) (turn_apart (start ++ more) others t (unrenewed_in t others none) ∙ b.turn);
   }
     where
-      off : (b : Bool) → ((b && false) || false) ≡ false
-      off true = refl
-      off false = refl
+      none : any (is_of_task t) others ≡ false
+      none = busy_apart t k more others legal apart b
 
   -- ---- a claim
 
-  pub claim_begins : (t : ℕ) (more : List Entry) → Legal o ((start ++ more) ++ entry n (Claim t c) ∷ []) → is_claimed (start ++ more) t ≡ false
-      → Free o means n c start more → Busy o means n c t start (more ++ entry n (Claim t c) ∷ [])
-  claim_begins t more legal free w = record {
+  pub claim_begins : (t : ℕ) (more : List Entry) → Legal o ((start ++ more) ++ entry n (Claim t c) ∷ []) → Free o means n c start more
+      → Busy o means n c t (turn_of_task (start ++ more) t) start (more ++ entry n (Claim t c) ∷ [])
+  claim_begins t more legal w = record {
     work = record {
       only = all-join (λ (e : Entry). not (e.by == n) || works c e.what) more one w.only (rw (same n, same c) refl);
-      answered = λ u h at. over (λ j. is_answered j u ≡ true) (answered_lasts (start ++ more) one u (w.answered u (before u h at) (λ x. x)));
-      ran = λ u h at. over (λ j. means n u j) (stays_ran (λ u. ⊥) more one w u (before u h at) (λ x. x) (rw (differ t u (λ e. at (sym e))) refl));
-      legal = over (Legal o) legal;
-      started = over (λ j. is_started j c ≡ true) (started_lasts (start ++ more) one c w.started);
-      ready = over (λ j. is_prepared j c ≡ true) (prepared_lasts (start ++ more) one c w.ready);
+      ran = λ u j h at. over more one (λ x. means n u j x) (stays n u j (start ++ more) one (w.ran u j (before u j h at) (λ x. x)));
+      holds = holds;
+      legal = over more one (Legal o) legal;
+      started = over more one (λ j. is_started j c ≡ true) (started_lasts (start ++ more) one c w.started);
+      ready = over more one (λ j. is_prepared j c ≡ true) (prepared_lasts (start ++ more) one c w.ready);
     };
-    taken = taken_by-append more one n t ∙ or_right (is_taken_by more n t) (is_taken_by one n t) (rw (same n, same t) refl);
-    unanswered = ap (λ (j : List Entry). is_answered j t) (sym (append_assoc start more one))
-        ∙ any-append (answers t) (start ++ more) one ∙ neither (is_answered (start ++ more) t) (is_answered one t) none refl;
+    taken = takes_turn-append start more one n t k ∙ (rw (begun, same t, same k) (to_true (takes_turn start more n t k)));
+    held = over more one (λ j. is_claimed_by j n t ≡ true) (ap (is_held_by n) (holder_append (start ++ more) one t) ∙ (rw (same t) (same n)));
+    turn = over more one (λ j. turn_of_task j t ≡ k) (turn_apart (start ++ more) one t refl);
   }
     where
       one : List Entry
       one = entry n (Claim t c) ∷ []
 
-      over : (P : List Entry → Type 0) → P ((start ++ more) ++ one) → P (start ++ (more ++ one))
-      over P h = subst P (append_assoc start more one) h
+      k : ℕ
+      k = turn_of_task (start ++ more) t
 
-      before : (u : ℕ) → is_taken_by (more ++ one) n u ≡ true → (u ≡ t → ⊥) → is_taken_by more n u ≡ true
-      before u h at = go (is_taken_by more n u) (sym (taken_by-append more one n u) ∙ h)
-        where
-          go : (a : Bool) → (a || ((n == n && t == u) || false)) ≡ true → a ≡ true
-          go true h = refl
-          go false h = true_not_false (n == n && t == u) (sym (or_false (n == n && t == u)) ∙ h) (rw (differ t u (λ e. at (sym e))) (off (n == n)))
-            where
-              off : (b : Bool) → (b && false) ≡ false
-              off true = refl
-              off false = refl
+      begun : turns_by n (start ++ more) one ≡ (t, k) ∷ []
+      begun = rw (same n) refl
 
-      positive : 0 < t
-      positive = claimed_positive o ((start ++ more) ++ one) legal t (any-append (claims t) (start ++ more) one ∙ or_right (is_claimed (start ++ more) t) (is_claimed one t) (rw (same t) refl))
+      to_true : (b : Bool) → (b || true) ≡ true
+      to_true true = refl
+      to_true false = refl
 
-      none : is_answered (start ++ more) t ≡ false
-      none = unanswered_in t (start ++ more) ((tasks_kept o (start ++ more) w.legal).none t positive free)
+      before : (u j : ℕ) → takes_turn start (more ++ one) n u j ≡ true → ((u ≡ t) × (j ≡ k) → ⊥) → takes_turn start more n u j ≡ true
+      before u j h at =
+          by_either (is_turn u j (t, k))
+          (λ e. (let s = both (t == u) (k == j) e in absurd (at (sym (same_number t u s.0), sym (same_number k j s.1)))))
+          (λ d. sym (takes_turn-append start more one n u j ∙ (rw (begun, d) (or_false (takes_turn start more n u j)))) ∙ h)
 
-  -- ---- an answer
+      holds : (u : ℕ) → is_claimed_by start n u ≡ false → is_claimed_by (start ++ (more ++ one)) n u ≡ true → (u ≡ t) × (turn_of_task (start ++ (more ++ one)) u ≡ k)
+      holds u free held =
+          by_either (t == u)
+          (λ e. (let eq : u ≡ t = sym (same_number t u e) in (eq, over more one (λ j. turn_of_task j u ≡ k)
+          (subst (λ (x : ℕ). turn_of_task ((start ++ more) ++ one) x ≡ k) (sym eq) (turn_apart (start ++ more) one t refl)))))
+          (λ d. absurd (w.holds u free
+          (sym (ap (is_held_by n) (holder_apart (start ++ more) one u (rw d refl))) ∙ under more one (λ j. is_claimed_by j n u ≡ true) held)))
 
-  pub answer_frees : (t : ℕ) (more : List Entry) (answer : Answer) → Legal o ((start ++ more) ++ entry n (Answered t answer) ∷ [])
-      → means n t ((start ++ more) ++ entry n (Answered t answer) ∷ [])
-      → Busy o means n c t start more → Free o means n c start (more ++ entry n (Answered t answer) ∷ [])
-  answer_frees t more answer legal run b = record {
-    only = all-join (λ (e : Entry). not (e.by == n) || works c e.what) more one b.work.only (rw (same n) refl);
-    answered = λ u h at. over (λ j. is_answered j u ≡ true) (by_either (t == u)
-        (λ e. any-append (answers u) (start ++ more) one ∙ or_right (is_answered (start ++ more) u) (is_answered one u) (rw e refl))
-        (λ d. answered_lasts (start ++ more) one u (b.work.answered u (before u h) (apart u d))));
-    ran = λ u h at. over (λ j. means n u j) (by_either (t == u)
-        (λ e. subst (λ (x : ℕ). means n x ((start ++ more) ++ one)) (same_number t u e) run)
-        (λ d. stays_ran (λ u. u ≡ t) more one b.work u (before u h) (apart u d) (rw d refl)));
-    legal = over (Legal o) legal;
-    started = over (λ j. is_started j c ≡ true) (started_lasts (start ++ more) one c b.work.started);
-    ready = over (λ j. is_prepared j c ≡ true) (prepared_lasts (start ++ more) one c b.work.ready);
+  -- ---- an answer, or that the task is to be run again
+
+  pub answer_frees : (t k : ℕ) (more : List Entry) (again : Bool) (answer : Answer) → Legal o ((start ++ more) ++ entry n (closing again t answer) ∷ [])
+      → means n t k ((start ++ more) ++ entry n (closing again t answer) ∷ [])
+      → Busy o means n c t k start more → Free o means n c start (more ++ entry n (closing again t answer) ∷ [])
+  answer_frees t k more again answer legal run b = record {
+    only = all-join (λ (e : Entry). not (e.by == n) || works c e.what) more one b.work.only (rw (same n, closing_works again t answer c) refl);
+    ran = λ u j h at. over more one (λ x. means n u j x) (by_either (is_turn u j (t, k)) (λ e. this u j e) (λ d. stays n u j (start ++ more) one (b.work.ran u j (before u j h) (apart u j d))));
+    holds = holds;
+    legal = over more one (Legal o) legal;
+    started = over more one (λ j. is_started j c ≡ true) (started_lasts (start ++ more) one c b.work.started);
+    ready = over more one (λ j. is_prepared j c ≡ true) (prepared_lasts (start ++ more) one c b.work.ready);
   }
     where
       one : List Entry
-      one = entry n (Answered t answer) ∷ []
+      one = entry n (closing again t answer) ∷ []
 
-      over : (P : List Entry → Type 0) → P ((start ++ more) ++ one) → P (start ++ (more ++ one))
-      over P h = subst P (append_assoc start more one) h
+      this : (u j : ℕ) → is_turn u j (t, k) ≡ true → means n u j ((start ++ more) ++ one)
+      this u j e =
+          let s = both (t == u) (k == j) e in
+          subst (λ (x : ℕ). means n x j ((start ++ more) ++ one)) (same_number t u s.0) (subst (λ (x : ℕ). means n t x ((start ++ more) ++ one)) (same_number k j s.1) run)
 
-      apart : (u : ℕ) → (t == u) ≡ false → u ≡ t → ⊥
-      apart u d e = true_not_false (t == u) (subst (λ (x : ℕ). (t == x) ≡ true) (sym e) (same t)) d
+      apart : (u j : ℕ) → is_turn u j (t, k) ≡ false → (u ≡ t) × (j ≡ k) → ⊥
+      apart u j d e = true_not_false (is_turn u j (t, k))
+          (subst (λ (x : ℕ). is_turn x j (t, k) ≡ true) (sym e.0) (subst (λ (x : ℕ). is_turn t x (t, k) ≡ true) (sym e.1) (rw (same t, same k) refl))) d
 
-      before : (u : ℕ) → is_taken_by (more ++ one) n u ≡ true → is_taken_by more n u ≡ true
-      before u h = go (is_taken_by more n u) (n == n) (sym (taken_by-append more one n u) ∙ h)
+      before : (u j : ℕ) → takes_turn start (more ++ one) n u j ≡ true → takes_turn start more n u j ≡ true
+      before u j h = sym (turn_before start more one n u j (closing_turns again t answer n (start ++ more))) ∙ h
+
+      freed : is_claimed_by ((start ++ more) ++ one) n t ≡ false
+      freed = ap (is_held_by n) (holder_append (start ++ more) one t ∙ closing_frees again t answer n (holder (start ++ more) t))
+
+      holds : (u : ℕ) → is_claimed_by start n u ≡ false → is_claimed_by (start ++ (more ++ one)) n u ≡ true → ⊥
+      holds u free long =
+          by_either (t == u)
+          (λ e. true_not_false (is_claimed_by ((start ++ more) ++ one) n t) (subst (λ (x : ℕ). is_claimed_by ((start ++ more) ++ one) n x ≡ true) (sym (same_number t u e)) held) freed)
+          (λ d. (let s = b.work.holds u free (sym (ap (is_held_by n) (holder_apart (start ++ more) one u (or_false (is_of_task u (closing again t answer)) ∙ closing_other again t answer u d))) ∙ held) in
+          true_not_false (t == u) (subst (λ (x : ℕ). (t == x) ≡ true) (sym s.0) (same t)) d))
         where
-          go : (a d : Bool) → (a || ((d && false) || false)) ≡ true → a ≡ true
-          go true d h = refl
-          go false true h = absurd cc
-          go false false h = absurd cc
+          held : is_claimed_by ((start ++ more) ++ one) n u ≡ true
+          held = under more one (λ j. is_claimed_by j n u ≡ true) long
 
   -- ---- the end of a worker
 
   pub free_ends : (crew : ℕ → Post) (p : CorePass) (more : List Entry) → p.start ≡ start → seen_of p ≡ start ++ more → p.number ≡ n → 0 < n
       → ((w : What) → works c w ≡ true → makes (crew n) w ≡ true)
-      → Free o means n c start more → WorkerEnds means crew p
-  free_ends crew p more begins seen number pos post w = record {
+      → Free o means n c start more → IsThroughAfterAgain o n c more (seen_of p) → WorkerEnds o means crew c p
+  free_ends crew p more begins seen number pos post w through = record {
     keeps = record {
       number = subst (λ (m : ℕ). 0 < m) (sym number) pos;
       only = subst (λ (x : List Entry). makes_only (makes (crew p.number)) p.number x ≡ true) (sym new)
           (subst (λ (m : ℕ). makes_only (makes (crew m)) m more ≡ true) (sym number) (wider more w.only));
-      answered = λ t h. subst (λ (x : List Entry). is_answered x t ≡ true) (sym seen) (w.answered t (taken t h) (λ x. x));
+      holds = λ t free. by_either (is_claimed_by (seen_of p) p.number t) (λ h. absurd (w.holds t (from_start t free) (from_seen t h))) (λ f. f);
     };
-    ran = λ t h. subst (λ (x : List Entry). means p.number t x) (sym seen) (subst (λ (m : ℕ). means m t (start ++ more)) (sym number) (w.ran t (taken t h) (λ x. x)));
+    ran = λ t k h. subst (λ (x : List Entry). means p.number t k x) (sym seen) (subst (λ (m : ℕ). means m t k (start ++ more)) (sym number) (w.ran t k (taken t k h) (λ x. x)));
+    through = subst (λ (x : List Entry). IsThroughAfterAgain o p.number c x (seen_of p)) (sym new) (subst (λ (m : ℕ). IsThroughAfterAgain o m c more (seen_of p)) (sym number) through);
   }
     where
       new : since p ≡ more
       new = ap (λ (x : List Entry). drop (length p.start) x) seen ∙ ap (λ (x : List Entry). drop (length x) (start ++ more)) begins ∙ drop_start start more
 
-      taken : (t : ℕ) → is_taken_by (since p) p.number t ≡ true → is_taken_by more n t ≡ true
-      taken t h = subst (λ (m : ℕ). is_taken_by more m t ≡ true) number (ap (λ (x : List Entry). is_taken_by x p.number t) (sym new) ∙ h)
+      from_start : (t : ℕ) → is_claimed_by p.start p.number t ≡ false → is_claimed_by start n t ≡ false
+      from_start t h = subst (λ (m : ℕ). is_claimed_by start m t ≡ false) number (subst (λ (x : List Entry). is_claimed_by x p.number t ≡ false) begins h)
+
+      from_seen : (t : ℕ) → is_claimed_by (seen_of p) p.number t ≡ true → is_claimed_by (start ++ more) n t ≡ true
+      from_seen t h = subst (λ (m : ℕ). is_claimed_by (start ++ more) m t ≡ true) number (subst (λ (x : List Entry). is_claimed_by x p.number t ≡ true) seen h)
+
+      taken : (t k : ℕ) → takes_turn p.start (since p) p.number t k ≡ true → takes_turn start more n t k ≡ true
+      taken t k h = subst (λ (m : ℕ). takes_turn start more m t k ≡ true) number
+          (subst (λ (x : List Entry). takes_turn x more p.number t k ≡ true) begins (subst (λ (x : List Entry). takes_turn p.start x p.number t k ≡ true) new h))
 
       wider : (xs : List Entry) → makes_only (works c) n xs ≡ true → makes_only (makes (crew n)) n xs ≡ true
       wider [] h = refl

@@ -1,26 +1,26 @@
 -- A run of a task stays in a journal as it was.
-use Rattle.std.proofs.Common.{◌≡◌, ℕ, ◌+◌, List, [], ◌∷◌, ◌++◌, refl, sym, ap, subst, ◌∙◌, Bool, true, false, ◌==◌, cond, Some, None, Option, length, append_assoc}
+use Rattle.std.proofs.Common.{◌≡◌, ℕ, ◌+◌, List, [], ◌∷◌, ◌++◌, refl, sym, ap, subst, ◌∙◌, Bool, true, false, not, ◌==◌, cond, Some, None, Option, length, append_assoc}
 use Rattle.std.specs.Prelude.{◌||◌, option_map}
 use Rattle.std.specs.List.{list_any, cons_option}
 use Rattle.std.proofs.lemmas.List.Folds.{list_any-append}
 use Rattle.journal_model.specs.declared.verdict.Verdict.{Verdict}
 use Rattle.journal_model.specs.declared.entry.What.{What}
-use Rattle.journal_model.specs.declared.entry.What.TheVariants.{Claim, Ask, Lost, Answer as Answered}
+use Rattle.journal_model.specs.declared.entry.What.TheVariants.{Claim, Ask, Lost}
 use Rattle.journal_model.specs.declared.entry.Entry.{Entry}
 use Rattle.journal_model.specs.declared.opening.Opening.{Opening}
-use Rattle.journal_model.specs.Journal.{any, each_of, is_open, verdict_of}
+use Rattle.journal_model.specs.Journal.{each_of, is_open, verdict_of}
 use Rattle.journal_model.specs.Legality.{job_for, has_open_job}
+use Rattle.journal_model.proofs.Holding.{not_true}
 use Rattle.journal_model.proofs.Looks.{entry, each_of-append, either_left, either_right}
 use Rattle.ann_outside.specs.declared.file_desk.Call.{Call}
 use Rattle.annex_model.specs.Messages.{host_reading}
 use Rattle.journal_model.specs.Journal.{addressed}
 use Rattle.task_run.specs.Askers.{Asking, Noting}
 use Rattle.task_run.specs.declared.setup.Setup.{Setup}
-use Rattle.task_run.specs.Askings.{TaskStretch, past_claim, run_askings, run_notings, asking_of, askings_from, noting_of, notings_from, name_before}
+use Rattle.task_run.specs.Askings.{TaskStretch, closing, past_claim, run_turn, run_askings, run_notings, asking_of, askings_from, noting_of, notings_from, name_before}
 use Rattle.task_run.specs.Runs.{TaskRun}
-use Rattle.journal_model.specs.Makers.{is_of_task}
-use Rattle.journal_model.proofs.Working.{AllAsked, all_asked, kept_verdict}
-use Rattle.gathering.specs.JournalRuns.{JournalRun}
+use Rattle.journal_model.proofs.Working.{AllAsked, all_asked, closed_all, kept_verdict}
+use Rattle.gathering.specs.JournalRuns.{JournalRun, is_shut}
 
 -- ---- the same verdicts
 
@@ -84,69 +84,86 @@ stretch_more past more t run = record {
   by = run.by;
   child = run.child;
   within = run.within;
-  answered_by = run.answered_by;
+  closed_by = run.closed_by;
+  renewed = run.renewed;
   answer = run.answer;
   rest = run.rest ++ more;
   is = ap (λ (x : List Entry). x ++ more) run.is
-      ∙ append_assoc (run.past ++ entry run.by (Claim t run.child) ∷ run.within) (entry run.answered_by (Answered t run.answer) ∷ run.rest) more;
+      ∙ append_assoc (run.past ++ entry run.by (Claim t run.child) ∷ run.within) (entry run.closed_by (closing run.renewed t run.answer) ∷ run.rest) more;
   one = run.one;
 }
 
--- the jobs of a run are settled alike in a longer journal
-within_alike : (past more : List Entry) (t : ℕ) (run : TaskStretch past t) → has_open_job past t ≡ false → SameVerdicts (past ++ more) past (each_of (job_for t) run.within)
-within_alike past more t run shut = same_verdicts past more (each_of (job_for t) run.within) asked closed
-  where
-    front : List (ℕ × ℕ)
-    front = each_of (job_for t) run.past
+-- the jobs of a run are among those of its task
+module _ (past : List Entry) (t : ℕ) (run : TaskStretch past t) where
+  abbrev jobs_within : List (ℕ × ℕ)
+  jobs_within = each_of (job_for t) run.within
 
-    back : List (ℕ × ℕ)
-    back = each_of (job_for t) (entry run.answered_by (Answered t run.answer) ∷ run.rest)
+  front : List (ℕ × ℕ)
+  front = each_of (job_for t) run.past
 
-    jobs : each_of (job_for t) past ≡ (front ++ each_of (job_for t) run.within) ++ back
-    jobs = ap (each_of (job_for t)) run.is
-        ∙ each_of-append (job_for t) (run.past ++ entry run.by (Claim t run.child) ∷ run.within) (entry run.answered_by (Answered t run.answer) ∷ run.rest)
-        ∙ ap (λ (x : List (ℕ × ℕ)). x ++ back) (each_of-append (job_for t) run.past (entry run.by (Claim t run.child) ∷ run.within))
+  back : List (ℕ × ℕ)
+  back = each_of (job_for t) (entry run.closed_by (closing run.renewed t run.answer) ∷ run.rest)
 
-    asked : AllAsked past (each_of (job_for t) run.within)
-    asked = (asked_split past front (each_of (job_for t) run.within)
-        (asked_split past (front ++ each_of (job_for t) run.within) back (subst (AllAsked past) jobs (all_asked t past))).0).1
+  jobs : each_of (job_for t) past ≡ (front ++ jobs_within) ++ back
+  jobs = ap (each_of (job_for t)) run.is
+      ∙ each_of-append (job_for t) (run.past ++ entry run.by (Claim t run.child) ∷ run.within) (entry run.closed_by (closing run.renewed t run.answer) ∷ run.rest)
+      ∙ ap (λ (x : List (ℕ × ℕ)). x ++ back) (each_of-append (job_for t) run.past (entry run.by (Claim t run.child) ∷ run.within))
 
-    whole : (list_any (λ q. is_open past q.0 q.1) (front ++ each_of (job_for t) run.within) || list_any (λ q. is_open past q.0 q.1) back) ≡ false
-    whole = sym (list_any-append (λ (q : ℕ × ℕ). is_open past q.0 q.1) (front ++ each_of (job_for t) run.within) back)
-        ∙ ap (list_any (λ (q : ℕ × ℕ). is_open past q.0 q.1)) (sym jobs) ∙ shut
+  within_asked : AllAsked past jobs_within
+  within_asked = (asked_split past front jobs_within (asked_split past (front ++ jobs_within) back (subst (AllAsked past) jobs (all_asked t past))).0).1
 
-    closed : list_any (λ q. is_open past q.0 q.1) (each_of (job_for t) run.within) ≡ false
-    closed =
-        either_right (list_any (λ q. is_open past q.0 q.1) front) (list_any (λ q. is_open past q.0 q.1) (each_of (job_for t) run.within))
-        (sym (list_any-append (λ (q : ℕ × ℕ). is_open past q.0 q.1) front (each_of (job_for t) run.within))
-        ∙ either_left (list_any (λ q. is_open past q.0 q.1) (front ++ each_of (job_for t) run.within)) (list_any (λ q. is_open past q.0 q.1) back) whole)
+  -- where no job of the task is open, none of the run is
+  pub run_shut : has_open_job past t ≡ false → is_shut run ≡ true
+  run_shut shut = ap not closed
+    where
+      whole : (list_any (λ q. is_open past q.0 q.1) (front ++ jobs_within) || list_any (λ q. is_open past q.0 q.1) back) ≡ false
+      whole = sym (list_any-append (λ (q : ℕ × ℕ). is_open past q.0 q.1) (front ++ jobs_within) back) ∙ ap (list_any (λ (q : ℕ × ℕ). is_open past q.0 q.1)) (sym jobs) ∙ shut
 
--- what a run asked and noted is the same in a longer journal
-more_asked : (past more : List Entry) (t : ℕ) (run : TaskStretch past t) → has_open_job past t ≡ false → run_askings (stretch_more past more t run) ≡ run_askings run
-more_asked past more t run shut = askings_alike (past ++ more) past t (past_claim run) run.within (within_alike past more t run shut)
+      closed : list_any (λ q. is_open past q.0 q.1) jobs_within ≡ false
+      closed =
+          either_right (list_any (λ q. is_open past q.0 q.1) front) (list_any (λ q. is_open past q.0 q.1) jobs_within)
+          (sym (list_any-append (λ (q : ℕ × ℕ). is_open past q.0 q.1) front jobs_within)
+          ∙ either_left (list_any (λ q. is_open past q.0 q.1) (front ++ jobs_within)) (list_any (λ q. is_open past q.0 q.1) back) whole)
 
-more_noted : (past more : List Entry) (t : ℕ) (run : TaskStretch past t) → has_open_job past t ≡ false → run_notings (stretch_more past more t run) ≡ run_notings run
-more_noted past more t run shut = notings_alike (past ++ more) past t (past_claim run) 0 run.within (within_alike past more t run shut)
+  module _ (more : List Entry) (shut : is_shut run ≡ true) where
+    within_closed : list_any (λ q. is_open past q.0 q.1) jobs_within ≡ false
+    within_closed = not_true (list_any (λ q. is_open past q.0 q.1) jobs_within) shut
 
-run_longer : (o : Opening) (setup : Setup) (calls : List Call) (n t : ℕ) (past more : List Entry) → has_open_job past t ≡ false
-    → JournalRun o setup calls n t past → JournalRun o setup calls n t (past ++ more)
-run_longer o setup calls n t past more shut r = record {
+    -- they are settled alike in a longer journal
+    within_alike : SameVerdicts (past ++ more) past jobs_within
+    within_alike = same_verdicts past more jobs_within within_asked within_closed
+
+    -- what a run asked and noted is the same there
+    more_asked : run_askings (stretch_more past more t run) ≡ run_askings run
+    more_asked = askings_alike (past ++ more) past t (past_claim run) run.within within_alike
+
+    more_noted : run_notings (stretch_more past more t run) ≡ run_notings run
+    more_noted = notings_alike (past ++ more) past t (past_claim run) 0 run.within within_alike
+
+    more_shut : is_shut (stretch_more past more t run) ≡ true
+    more_shut = ap not (closed_all past more jobs_within within_asked within_closed)
+
+pub run_longer : (o : Opening) (setup : Setup) (calls : List Call) (n t k : ℕ) (past more : List Entry)
+    → JournalRun o setup calls n t k past → JournalRun o setup calls n t k (past ++ more)
+run_longer o setup calls n t k past more r = record {
   task = r.task;
   is = r.is;
   run = stretch_more past more t r.run;
   by_it = r.by_it;
+  turn = r.turn;
   layouts = r.layouts;
   known = r.known;
-  ran = subst (λ (xs : List Asking). TaskRun r.task t setup r.layouts xs calls (run_notings (stretch_more past more t r.run)) r.run.answer) (sym (more_asked past more t r.run shut))
-      (subst (λ (xs : List Noting). TaskRun r.task t setup r.layouts (run_askings r.run) calls xs r.run.answer) (sym (more_noted past more t r.run shut)) r.ran);
+  ran = subst (λ (xs : List Asking). TaskRun r.task (run_turn r.run) setup r.layouts xs calls (run_notings (stretch_more past more t r.run)) r.run.answer) (sym (more_asked past t r.run more r.shut))
+      (subst (λ (xs : List Noting). TaskRun r.task (run_turn r.run) setup r.layouts (run_askings r.run) calls xs r.run.answer) (sym (more_noted past t r.run more r.shut)) r.ran);
+  shut = more_shut past t r.run more r.shut;
 }
 
-pub run_lasts : (o : Opening) (setup : Setup) (calls : ℕ → ℕ → List Call) (n t : ℕ) (past more : List Entry) → any (is_of_task t) more ≡ false → has_open_job past t ≡ false
-    → JournalRun o setup (calls n t) n t past → JournalRun o setup (calls n t) n t (past ++ more)
-run_lasts o setup calls n t past more none shut r = run_longer o setup (calls n t) n t past more shut r
+pub run_lasts : (o : Opening) (setup : Setup) (calls : ℕ → ℕ → ℕ → List Call) (n t k : ℕ) (past more : List Entry)
+    → JournalRun o setup (calls n t k) n t k past → JournalRun o setup (calls n t k) n t k (past ++ more)
+run_lasts o setup calls n t k past more r = run_longer o setup (calls n t k) n t k past more r
 
--- of the same child, and with the same answer
-pub run_stays : (o : Opening) (setup : Setup) (calls : List Call) (n t : ℕ) (past more : List Entry) → has_open_job past t ≡ false
-    → (r : JournalRun o setup calls n t past) → (s : JournalRun o setup calls n t (past ++ more)) × (s.run.child ≡ r.run.child) × (s.run.answer ≡ r.run.answer)
+-- of the same child, closed alike and with the same answer
+pub run_stays : (o : Opening) (setup : Setup) (calls : List Call) (n t k : ℕ) (past more : List Entry) → (r : JournalRun o setup calls n t k past)
+    → (s : JournalRun o setup calls n t k (past ++ more)) × (s.run.child ≡ r.run.child) × (s.run.answer ≡ r.run.answer) × (s.run.renewed ≡ r.run.renewed)
 unfolding run_longer
-run_stays o setup calls n t past more shut r = (run_longer o setup calls n t past more shut r, refl, refl)
+run_stays o setup calls n t k past more r = (run_longer o setup calls n t k past more r, refl, refl, refl)

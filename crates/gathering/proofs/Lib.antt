@@ -1,7 +1,9 @@
 pub mod Owning
 pub mod Halls
 pub mod Crews
+pub mod Turning
 pub mod Gathering
+pub mod Renewing
 pub mod Rounding
 pub mod Laboring
 pub mod Entering

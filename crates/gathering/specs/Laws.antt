@@ -109,10 +109,9 @@ AloneRound means =
 -- ---- rounds in a row
 
 -- what was done before a round stays: the links to other children
-abbrev pub EarlierStays : Type 0
-EarlierStays =
-    (o : Opening) (means : ℕ → ℕ → ℕ → List Entry → Type 0) (crew : ℕ → Post) (numbers : List ℕ) (start rest : List Entry) (links : List LinkValue)
-    → Round o means crew numbers start rest links → Legal o start → IsAtRest start
+abbrev pub EarlierStays : (ℕ → ℕ → ℕ → List Entry → Type 0) → Type 0
+EarlierStays means =
+    (o : Opening) (crew : ℕ → Post) (numbers : List ℕ) (start rest : List Entry) (links : List LinkValue) → Round o means crew numbers start rest links
     → (l : LinkValue) → list_any (λ m. m.ear.child == l.ear.child) links ≡ false → IsWired start l → IsWired (start ++ rest) l
 
 -- ---- a worker

@@ -1,10 +1,11 @@
 -- The posts of a round, and what each makes.
 use Rattle.std.specs.Prelude.{ℕ, ◌≡◌, ◌≢◌, ◌-◌, ◌==◌, ◌&&◌, ◌||◌, nat_lt, if◌then◌else◌, Bool, true, false, List, Option, Some, None, slice_get}
 use Rattle.journal_model.specs.declared.entry.What.{What}
-use Rattle.journal_model.specs.declared.entry.What.TheVariants.{Claim, Start, NoStart, Lead, Ask, End, Verdict as Settled, Lost, Answer as Answered, Note as Noted}
+use Rattle.journal_model.specs.declared.entry.What.TheVariants.{Claim, Start, NoStart, Lead, Ask, End, Verdict as Settled, Lost, Answer as Answered, Note as Noted, Again}
 use Rattle.journal_model.specs.Shares.{is_memory, is_closed, by_ear, by_mouth, by_link}
 
--- a worker's: claims for its child, requests of it with the names before them, lost ones, notes of chunks, and answers
+-- a worker's: claims for its child, requests of it with the names before them, lost ones, notes of chunks, answers, and that a task is
+-- to be run again
 abbrev pub works : ℕ → What → Bool
 works c (Claim task child) = child == c
 works c (Lead child job line) = child == c
@@ -12,6 +13,7 @@ works c (Ask child job task line) = child == c
 works c (Lost child task) = child == c
 works c (Answered task answer) = true
 works c (Noted task chunk count) = true
+works c (Again task answer) = true
 works c _ = false
 
 -- who ends a child for lack of memory, where a round can't go on

@@ -21,8 +21,8 @@ pub fn rounds_gather<M: Meaning>()
 {}
 
 /// What was done before a round stays.
-pub fn earlier_stays()
-    ensures { EarlierStays }
+pub fn earlier_stays<M: Meaning>()
+    ensures { (m : M) → EarlierStays (M.ran m) }
 {}
 
 /// How a worker goes on, from its first claim to its end.

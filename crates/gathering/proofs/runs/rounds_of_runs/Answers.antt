@@ -1,4 +1,4 @@
-use Rattle.gathering.proofs.WholeRounds.{tagged_gathers, pool_gathers, alone_gathers, earlier_stays}
+use Rattle.gathering.proofs.WholeRounds.{tagged_gathers, pool_gathers, alone_gathers}
 use Rattle.gathering.specs.JournalRuns.{HasJournalRun}
 use Rattle.gathering.proofs.Lasting.{run_lasts}
 use Rattle.gathering.proofs.runs.rounds_of_runs.Goals as goal
@@ -8,5 +8,4 @@ returns c = record {
   tagged = λ o setup calls. tagged_gathers (HasJournalRun o setup calls) (run_lasts o setup calls);
   pool = λ o setup calls. pool_gathers (HasJournalRun o setup calls) (run_lasts o setup calls);
   alone = λ o setup calls. alone_gathers (HasJournalRun o setup calls) (run_lasts o setup calls);
-  earlier = λ o setup calls. earlier_stays (HasJournalRun o setup calls) (run_lasts o setup calls);
 }
