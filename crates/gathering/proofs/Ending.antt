@@ -1,8 +1,10 @@
 -- What a role did with its pass, or that it stayed, gives what is promised of it.
 use Rattle.std.proofs.Common.{◌≡◌, ℕ, ◌<◌, List, [], ◌++◌, refl, sym, ap, subst, ◌∙◌, true, false, length, drop, append-nil}
+use Rattle.std.specs.List.{list_any}
 use Rattle.hall.specs.Log.{flat}
 use Rattle.hall.specs.Passes.{seen_of}
 use Rattle.journal_model.specs.declared.entry.Entry.{Entry}
+use Rattle.journal_model.specs.declared.opening.Opening.{Opening}
 use Rattle.journal_model.specs.Halves.{EarValue, MouthValue, EarWired, MouthWired}
 use Rattle.journal_model.specs.Shares.{Moved, are_own, makes_only, by_ear, by_mouth, is_heard, is_said}
 use Rattle.journal_model.proofs.Looks.{true_not_false}
@@ -10,7 +12,9 @@ use Rattle.journal_model.specs.Makers.{is_taken_by}
 use Rattle.gathering.specs.Posts.{Post, Ear, Mouth, makes}
 use Rattle.gathering.specs.Rounds.{CorePass, LinkValue, IsWired, since, KeepsPost, EarEnds, MouthEnds, WorkerEnds, LoneEnds}
 use Rattle.gathering.proofs.Halls.{drop_start}
-use Rattle.gathering.proofs.Rounding.{unclaiming_only, claim_not_heard, claim_not_said}
+use Rattle.gathering.specs.Tasks.{takes_turn}
+use Rattle.gathering.proofs.Renewing.{renews_by}
+use Rattle.gathering.proofs.Rounding.{unclaiming_only, unclaiming_holds, claim_not_heard, claim_not_said}
 
 -- what a pass has seen since the begin, where what it has seen is told as the start and more
 since_is : (p : CorePass) (more : List Entry) → seen_of p ≡ p.start ++ more → since p ≡ more
@@ -23,8 +27,7 @@ ear_ends crew p old new pos child post m wired = record {
   keeps = record {
     number = pos;
     only = only;
-    answered = λ t h. true_not_false (is_taken_by (since p) p.number t) h
-        (unclaiming_only crew p only (λ u w k. subst (λ (q : Post). makes q w ≡ false) (sym post) (claim_not_heard old.child u w k)) t);
+    holds = unclaiming_holds p (unclaiming_only crew p only (λ u w k. subst (λ (q : Post). makes q w ≡ false) (sym post) (claim_not_heard old.child u w k)));
   };
   wired = λ own. m.kept
       (subst (λ (x : List Entry). are_own (is_heard old.child) p.number x ≡ true) new_is (subst (λ (c : ℕ). are_own (is_heard c) p.number (since p) ≡ true) child own)) wired;
@@ -44,8 +47,7 @@ mouth_ends crew p old new pos child post m wired = record {
   keeps = record {
     number = pos;
     only = only;
-    answered = λ t h. true_not_false (is_taken_by (since p) p.number t) h
-        (unclaiming_only crew p only (λ u w k. subst (λ (q : Post). makes q w ≡ false) (sym post) (claim_not_said old.child u w k)) t);
+    holds = unclaiming_holds p (unclaiming_only crew p only (λ u w k. subst (λ (q : Post). makes q w ≡ false) (sym post) (claim_not_said old.child u w k)));
   };
   wired = λ own. m.kept
       (subst (λ (x : List Entry). are_own (is_said old.child) p.number x ≡ true) new_is (subst (λ (c : ℕ). are_own (is_said c) p.number (since p) ≡ true) child own)) wired;
@@ -67,14 +69,14 @@ module _ (crew : ℕ → Post) (p : CorePass) (pos : 0 < p.number) (none : p.lin
   stayed_since : since p ≡ []
   stayed_since = drop_start p.start (flat p.links) ∙ ap flat none
 
-  untaken : {A : Type 0} (t : ℕ) → is_taken_by (since p) p.number t ≡ true → A
-  untaken t h = true_not_false (is_taken_by (since p) p.number t) h (ap (λ (x : List Entry). is_taken_by x p.number t) stayed_since)
+  untaken : (t : ℕ) → is_taken_by (since p) p.number t ≡ false
+  untaken t = ap (λ (x : List Entry). is_taken_by x p.number t) stayed_since
 
   pub stayed_keeps : KeepsPost crew p
   stayed_keeps = record {
     number = pos;
     only = subst (λ (x : List Entry). makes_only (makes (crew p.number)) p.number x ≡ true) (sym stayed_since) refl;
-    answered = λ t h. untaken t h;
+    holds = unclaiming_holds p untaken;
   }
 
   pub stayed_ear : (ear : EarValue) → EarWired p.start ear → EarEnds crew ear p
@@ -83,8 +85,12 @@ module _ (crew : ℕ → Post) (p : CorePass) (pos : 0 < p.number) (none : p.lin
   pub stayed_mouth : (mouth : MouthValue) → MouthWired p.start mouth → MouthEnds crew mouth p
   stayed_mouth mouth wired = record { keeps = stayed_keeps; wired = λ own. subst (λ (x : List Entry). MouthWired x mouth) (sym stayed_seen) wired }
 
-  pub stayed_worker : (means : ℕ → ℕ → List Entry → Type 0) → WorkerEnds means crew p
-  stayed_worker means = record { keeps = stayed_keeps; ran = λ t h. untaken t h }
+  pub stayed_worker : (o : Opening) (means : ℕ → ℕ → ℕ → List Entry → Type 0) (c : ℕ) → WorkerEnds o means crew c p
+  stayed_worker o means c = record {
+    keeps = stayed_keeps;
+    ran = λ t k h. true_not_false (takes_turn p.start (since p) p.number t k) h (ap (λ (x : List Entry). takes_turn p.start x p.number t k) stayed_since);
+    through = λ h. true_not_false (list_any (renews_by p.number) (since p)) h (ap (list_any (renews_by p.number)) stayed_since);
+  }
 
-  pub stayed_lone : (means : ℕ → ℕ → List Entry → Type 0) (l : LinkValue) → IsWired p.start l → LoneEnds means crew l p
-  stayed_lone means l wired = record { works = stayed_worker means; wired = λ own. subst (λ (x : List Entry). IsWired x l) (sym stayed_seen) wired }
+  pub stayed_lone : (o : Opening) (means : ℕ → ℕ → ℕ → List Entry → Type 0) (l : LinkValue) → IsWired p.start l → LoneEnds o means crew l p
+  stayed_lone o means l wired = record { works = stayed_worker o means l.ear.child; wired = λ own. subst (λ (x : List Entry). IsWired x l) (sym stayed_seen) wired }

@@ -14,7 +14,7 @@ use Rattle.journal_model.specs.Journal.{any, starts, is_started, verdict_of}
 use Rattle.journal_model.specs.Legality.{Legal, is_claimed_by, is_held_by, holder, turned_by, is_done, is_prepared, prepares, renews, turn_of_task}
 use Rattle.journal_model.specs.Makers.{is_of_task}
 use Rattle.journal_model.specs.Shares.{are_others, makes_only}
-use Rattle.journal_model.proofs.Holders.{others_unheld, others_apart, turn_apart}
+use Rattle.journal_model.proofs.Holders.{others_unheld, others_apart, turn_stays}
 use Rattle.journal_model.proofs.Holding.{holder_append}
 use Rattle.journal_model.proofs.Looks.{entry, both, same, same_number, any-append, true_not_false, verdict_of-append}
 use Rattle.journal_model.proofs.Testing.{or_left, or_false, by_either, all-join, only_others}
@@ -76,7 +76,7 @@ abbrev Keeps : ℕ → List Entry → List Entry → Type 0
 Keeps n seen extra = (t : ℕ) → is_claimed_by (seen ++ extra) n t ≡ true → (is_claimed_by seen n t ≡ true) × (turn_of_task (seen ++ extra) t ≡ turn_of_task seen t)
 
 others_keep : (o : Opening) (n : ℕ) (seen others : List Entry) → Legal o seen → Legal o (seen ++ others) → are_others n others ≡ true → Keeps n seen others
-others_keep o n seen others first whole apart t held = (mine, turn_apart seen others t (unrenewed_in t others (others_apart o seen others n t first whole apart mine)))
+others_keep o n seen others first whole apart t held = (mine, turn_stays seen others t (unrenewed_in t others (others_apart o seen others n t first whole apart mine)))
   where
     mine : is_claimed_by seen n t ≡ true
     mine = by_either (is_claimed_by seen n t) (λ k. k) (λ f. true_not_false (is_claimed_by (seen ++ others) n t) held (others_unheld seen others n t apart f))
@@ -114,7 +114,7 @@ module _ (o : Opening) (means : ℕ → ℕ → ℕ → List Entry → Type 0) (
     work = work_others (λ u j. (u ≡ t) × (j ≡ k)) more others legal apart b.work;
     taken = takes_turn-append start more others n t k ∙ or_left (takes_turn start more n t k) (takes_turn (start ++ more) others n t k) b.taken;
     held = over more others (λ j. is_claimed_by j n t ≡ true) (ap (is_held_by n) (holder_apart (start ++ more) others t none) ∙ b.held);
-    turn = over more others (λ j. turn_of_task j t ≡ k) (turn_apart (start ++ more) others t (unrenewed_in t others none) ∙ b.turn);
+    turn = over more others (λ j. turn_of_task j t ≡ k) (turn_stays (start ++ more) others t (unrenewed_in t others none) ∙ b.turn);
   }
     where
       none : any (is_of_task t) others ≡ false
@@ -135,7 +135,7 @@ module _ (o : Opening) (means : ℕ → ℕ → ℕ → List Entry → Type 0) (
     };
     taken = takes_turn-append start more one n t k ∙ (rw (begun, same t, same k) (to_true (takes_turn start more n t k)));
     held = over more one (λ j. is_claimed_by j n t ≡ true) (ap (is_held_by n) (holder_append (start ++ more) one t) ∙ (rw (same t) (same n)));
-    turn = over more one (λ j. turn_of_task j t ≡ k) (turn_apart (start ++ more) one t refl);
+    turn = over more one (λ j. turn_of_task j t ≡ k) (turn_stays (start ++ more) one t refl);
   }
     where
       one : List Entry
@@ -161,7 +161,7 @@ module _ (o : Opening) (means : ℕ → ℕ → ℕ → List Entry → Type 0) (
       holds u free held =
           by_either (t == u)
           (λ e. (let eq : u ≡ t = sym (same_number t u e) in (eq, over more one (λ j. turn_of_task j u ≡ k)
-          (subst (λ (x : ℕ). turn_of_task ((start ++ more) ++ one) x ≡ k) (sym eq) (turn_apart (start ++ more) one t refl)))))
+          (subst (λ (x : ℕ). turn_of_task ((start ++ more) ++ one) x ≡ k) (sym eq) (turn_stays (start ++ more) one t refl)))))
           (λ d. absurd (w.holds u free
           (sym (ap (is_held_by n) (holder_apart (start ++ more) one u (rw d refl))) ∙ under more one (λ j. is_claimed_by j n u ≡ true) held)))
 

@@ -98,10 +98,10 @@ module _ (past : List Entry) (t : ℕ) (run : TaskStretch past t) where
   abbrev jobs_within : List (ℕ × ℕ)
   jobs_within = each_of (job_for t) run.within
 
-  front : List (ℕ × ℕ)
+  abbrev front : List (ℕ × ℕ)
   front = each_of (job_for t) run.past
 
-  back : List (ℕ × ℕ)
+  abbrev back : List (ℕ × ℕ)
   back = each_of (job_for t) (entry run.closed_by (closing run.renewed t run.answer) ∷ run.rest)
 
   jobs : each_of (job_for t) past ≡ (front ++ jobs_within) ++ back

@@ -1,48 +1,54 @@
 -- The contract of a round from what its roles promise.
 use Rattle.std.proofs.Common.{◌≡◌, ◌≢◌, zero, suc, ℕ, ◌+◌, ◌-◌, List, [], ◌∷◌, ◌++◌, refl, sym, ap, subst, ◌∙◌, Bool, true, false, not, ◌==◌, cond, Some, None, Option, arith, slice_get, ◌⊎◌, inl, inr}
-use Rattle.std.specs.Prelude.{◌&&◌, ◌||◌, All, map, option_and_then, find}
+use Rattle.std.specs.Prelude.{◌&&◌, ◌||◌, nat_lt, All, map, option_and_then, find}
 use Rattle.std.specs.List.{list_any}
 use Rattle.std.specs.Option.{option_or}
+use Rattle.std.proofs.lemmas.Bool.Decides.{nat_tests}
+use Rattle.std.proofs.lemmas.List.Folds.{list_any-append}
 use Rattle.std.proofs.lemmas.Option.{same_Some}
+use Rattle.hall.specs.Log.{flat}
 use Rattle.hall.specs.Passes.{seen_of}
 use Rattle.hall.proofs.Logs.{get-from_all, all-from_get}
 use Rattle.journal_model.specs.declared.verdict.Why.{Why}
 use Rattle.journal_model.specs.declared.verdict.Why.TheVariants.{Closed as WasClosed}
 use Rattle.journal_model.specs.declared.entry.What.{What}
-use Rattle.journal_model.specs.declared.entry.What.TheVariants.{Claim, Sent, Mute, Got, End}
+use Rattle.journal_model.specs.declared.entry.What.TheVariants.{Claim, Sent, Mute, Got, End, Again}
 use Rattle.journal_model.specs.declared.entry.Entry.{Entry}
 use Rattle.journal_model.specs.declared.opening.Opening.{Opening}
 use Rattle.journal_model.specs.Journal.{any, starts, ends, end_why, is_started, why_of}
-use Rattle.journal_model.specs.Legality.{Legal, claims, is_claimed}
+use Rattle.journal_model.specs.Legality.{Legal, claims}
 use Rattle.journal_model.specs.Halves.{EarValue, MouthValue, EarWired, MouthWired}
-use Rattle.journal_model.specs.Makers.{is_of_task, is_taken_by}
+use Rattle.journal_model.specs.Makers.{is_taken_by}
 use Rattle.journal_model.specs.Shares.{are_own, makes_only, is_heard, is_said, is_of_child, is_closed, by_ear, by_mouth}
 use Rattle.journal_model.proofs.Ears.{ear_apart}
-use Rattle.journal_model.proofs.Idling.{claimed_positive}
+use Rattle.journal_model.proofs.Holders.{untaken_unheld}
 use Rattle.journal_model.proofs.Linking.{why_of-append}
 use Rattle.journal_model.proofs.Looks.{same, differ, any-append, either_left, either_right, true_not_false}
 use Rattle.journal_model.proofs.Mouths.{mouth_apart}
 use Rattle.journal_model.proofs.Testing.{or_left, or_right, neither, by_either, any-fewer, none-each}
 use Rattle.journal_model.proofs.Turns.{turn_apart, tagged_turn}
-use Rattle.journal_model.proofs.Working.{idle_shut}
 use Rattle.host_core.specs.Steps.{are_all_claimed}
 use Rattle.gathering.specs.Pairs.{Pairwise}
-use Rattle.gathering.specs.Posts.{Post, makes, gives_up, is_mains, tagged_crew, pool_crew, alone_crew, OnlyAt, Nowhere}
-use Rattle.gathering.specs.Tasks.{Lasts, HasRun, IsThrough}
+use Rattle.gathering.specs.Posts.{Post, Lone, lone_post, makes, gives_up, is_mains, tagged_crew, pool_crew, alone_crew, OnlyAt, Nowhere}
+use Rattle.gathering.specs.Tasks.{Lasts, HasRun, HoldsNoMore, IsThrough, is_renewal, takes_turn}
 use Rattle.gathering.specs.Rounds.{CorePass, LinkValue, IsWired, since, KeepsPost, IsAtRest, EarEnds, MouthEnds, WorkerEnds, LoneEnds, IsAmong, IsLostChild, Round}
 use Rattle.gathering.specs.Laws.{MayBeginTagged, Distinct, children_of, numbers_of}
 use Rattle.gathering.proofs.Owning.{nobody}
-use Rattle.gathering.proofs.Gathering.{Closed, gathers, lasts, task_gathers, rounded, through_lasts, same_since}
+use Rattle.gathering.proofs.Gathering.{Closed, gathers, lasts, pass_of, rounded, turns_in}
 use Rattle.gathering.proofs.Crews.{mains_nowhere, heard_at_ear, said_at_mouth, child_at_lone, child_at_main, elsewhere_tagged, elsewhere_pool, elsewhere_alone}
+use Rattle.gathering.proofs.Halls.{Saw, drop_start}
+use Rattle.gathering.proofs.Renewing.{Through, left_in, renewer_lives, renews_by}
+use Rattle.gathering.proofs.Turning.{is_turn, turn_made, untaken_turns}
 
--- ---- passes that claim nothing
+-- ---- passes that claim nothing, and that leave no task to be run again
 
-pub unclaiming_only : (crew : ℕ → Post) (p : CorePass) → makes_only (makes (crew p.number)) p.number (since p) ≡ true → ((t : ℕ) (w : What) → claims t w ≡ true → makes (crew p.number) w ≡ false)
-    → (t : ℕ) → is_taken_by (since p) p.number t ≡ false
-unclaiming_only crew p only none t =
-    none-each (λ (e : Entry). e.by == p.number && claims t e.what) (λ (e : Entry). not (e.by == p.number) || makes (crew p.number) e.what)
-    (λ e h. by_either (claims t e.what)
-    (λ is. go (e.by == p.number) (claims t e.what) (makes (crew p.number) e.what) (none t e.what is) h)
+-- a pass makes nothing that its post doesn't
+pub unmaking_only : (crew : ℕ → Post) (p : CorePass) → makes_only (makes (crew p.number)) p.number (since p) ≡ true → (pick : What → Bool) → ((w : What) → pick w ≡ true → makes (crew p.number) w ≡ false)
+    → list_any (λ e. e.by == p.number && pick e.what) (since p) ≡ false
+unmaking_only crew p only pick none =
+    none-each (λ (e : Entry). e.by == p.number && pick e.what) (λ (e : Entry). not (e.by == p.number) || makes (crew p.number) e.what)
+    (λ e h. by_either (pick e.what)
+    (λ is. go (e.by == p.number) (pick e.what) (makes (crew p.number) e.what) (none e.what is) h)
     (λ off. rw off (and_false (e.by == p.number)))) (since p) only
   where
     go : (b q m : Bool) → m ≡ false → (not b || m) ≡ true → (b && q) ≡ false
@@ -54,9 +60,18 @@ unclaiming_only crew p only none t =
     and_false true = refl
     and_false false = refl
 
+pub unclaiming_only : (crew : ℕ → Post) (p : CorePass) → makes_only (makes (crew p.number)) p.number (since p) ≡ true → ((t : ℕ) (w : What) → claims t w ≡ true → makes (crew p.number) w ≡ false)
+    → (t : ℕ) → is_taken_by (since p) p.number t ≡ false
+unclaiming_only crew p only none t = unmaking_only crew p only (claims t) (none t)
+
 pub unclaiming : (crew : ℕ → Post) (p : CorePass) → KeepsPost crew p → ((t : ℕ) (w : What) → claims t w ≡ true → makes (crew p.number) w ≡ false)
     → (t : ℕ) → is_taken_by (since p) p.number t ≡ false
 unclaiming crew p k none t = unclaiming_only crew p k.only none t
+
+-- a pass that claims nothing holds no more than at its begin
+pub unclaiming_holds : (p : CorePass) → ((t : ℕ) → is_taken_by (since p) p.number t ≡ false) → HoldsNoMore p.number p.start (seen_of p)
+unclaiming_holds p none t free =
+    untaken_unheld p.start (flat p.links) p.number t (ap (λ (x : List Entry). is_taken_by x p.number t) (sym (drop_start p.start (flat p.links))) ∙ none t) free
 
 pub claim_not_heard : (c t : ℕ) (w : What) → claims t w ≡ true → by_ear c w ≡ false
 claim_not_heard c t (Claim task child) h = refl
@@ -69,6 +84,18 @@ claim_not_end c t w h = absurd cc
 pub claim_not_said : (c t : ℕ) (w : What) → claims t w ≡ true → by_mouth c w ≡ false
 claim_not_said c t (Claim task child) h = refl
 claim_not_said c t w h = absurd cc
+
+renewal_not_heard : (c : ℕ) (w : What) → is_renewal w ≡ true → by_ear c w ≡ false
+renewal_not_heard c (Again task answer) h = refl
+renewal_not_heard c w h = absurd cc
+
+renewal_not_end : (c : ℕ) (w : What) → is_renewal w ≡ true → gives_up c w ≡ false
+renewal_not_end c (Again task answer) h = refl
+renewal_not_end c w h = absurd cc
+
+renewal_not_said : (c : ℕ) (w : What) → is_renewal w ≡ true → by_mouth c w ≡ false
+renewal_not_said c (Again task answer) h = refl
+renewal_not_said c w h = absurd cc
 
 -- ---- closings
 
@@ -137,28 +164,33 @@ each_cons : (P : CorePass → Type 0) (p : CorePass) (ps : List CorePass) → P 
 each_cons P p ps h r zero q there = subst P (same_Some p q there) h
 each_cons P p ps h r (suc i) q there = r i q there
 
-abbrev Ran : (ℕ → ℕ → List Entry → Type 0) → CorePass → Type 0
-Ran means p = HasRun means p.number (since p) (seen_of p)
+abbrev Ran : (ℕ → ℕ → ℕ → List Entry → Type 0) → CorePass → Type 0
+Ran means p = HasRun means p.number p.start (since p) (seen_of p)
 
 module _ (o : Opening) (crew : ℕ → Post) (start rest : List Entry) (ps : List CorePass) (c : Closed o crew start rest ps) where
-  ran_in : (means : ℕ → ℕ → List Entry → Type 0) → Lasts means → Each (Ran means) ps → (t n : ℕ) → is_taken_by rest n t ≡ true → means n t (start ++ rest)
-  ran_in means stays ran t n h =
-      let q = same_since o crew start rest ps c n t h in
-      let here : is_taken_by (since q.1) q.1.number t ≡ true = subst (λ (x : ℕ). is_taken_by (since q.1) x t ≡ true) (sym q.3) q.4 in
-      subst (λ (x : ℕ). means x t (start ++ rest)) q.3
-      (task_gathers o crew start rest ps c (means q.1.number t) t (stays q.1.number t) q.0 q.1 q.2 here (ran q.0 q.1 q.2 t here))
+  ran_in : (means : ℕ → ℕ → ℕ → List Entry → Type 0) → Lasts means → Each (Ran means) ps → (n : ℕ) → HasRun means n start rest (start ++ rest)
+  ran_in means stays ran n t k h =
+      let has = pass_of o crew start rest ps c n (turn_made n start rest t k h) in
+      let here : takes_turn start rest has.pass.number t k ≡ true = subst (λ (m : ℕ). takes_turn start rest m t k ≡ true) (sym has.is) h in
+      let seen : takes_turn start (since has.pass) has.pass.number t k ≡ true =
+      ap (list_any (is_turn t k)) (sym (turns_in o crew start rest ps c has.place has.pass has.there)) ∙ here in
+      let own : takes_turn has.pass.start (since has.pass) has.pass.number t k ≡ true =
+      subst (λ (x : List Entry). takes_turn x (since has.pass) has.pass.number t k ≡ true) (sym (c.saw has.place has.pass has.there).begins) seen in
+      subst (λ (m : ℕ). means m t k (start ++ rest)) has.is
+      (lasts o crew start rest ps c (means has.pass.number t k) (λ past more m. stays has.pass.number t k past more m) has.place has.pass has.there (ran has.place has.pass has.there t k own))
 
   none_of_mains : any is_mains rest ≡ false
   none_of_mains = nobody crew is_mains (mains_nowhere crew) rest c.posts
 
-  -- a worker is through
-  left_in : (links : List LinkValue) (i : ℕ) (p : CorePass) → slice_get ps i ≡ Some p → (child : ℕ) → IsAmong child links → (why_of start child ≡ Some WasClosed → ⊥) → IsThrough o (seen_of p) child
+  -- a child that wasn't closed isn't
+  still_unclosed : (d : ℕ) → (why_of start d ≡ Some WasClosed → ⊥) → why_of (start ++ rest) d ≡ Some WasClosed → ⊥
+  still_unclosed d before = not_closed start rest d before none_of_mains
+
+  -- where one pass is through, and each that left a task to be run again
+  left_here : (links : List LinkValue) → Each (λ q. list_any (renews_by q.number) (since q) ≡ true → Through o crew start rest ps c links still_unclosed q) ps
+      → (i : ℕ) (p : CorePass) → slice_get ps i ≡ Some p → (child : ℕ) → IsAmong child links → (why_of start child ≡ Some WasClosed → ⊥) → IsThrough o (seen_of p) child
       → (are_all_claimed o (start ++ rest) ≡ true) ⊎ ((d : ℕ) × IsAmong d links × IsLostChild (start ++ rest) d)
-  left_in links i p there child among before through = go (lasts o crew start rest ps c (λ past. IsThrough o past child) (through_lasts o child) i p there through)
-    where
-      go : IsThrough o (start ++ rest) child → (are_all_claimed o (start ++ rest) ≡ true) ⊎ ((d : ℕ) × IsAmong d links × IsLostChild (start ++ rest) d)
-      go (inl all) = inl all
-      go (inr gone) = inr (child, among, record { gone = gone; unclosed = not_closed start rest child before none_of_mains })
+  left_here links each i p there child among before through = left_in o crew start rest ps c links still_unclosed each i p there (child, among, before, through)
 
   others_in : (child : ℕ) → Nowhere crew (is_of_child child) → any (is_of_child child) rest ≡ false
   others_in child none = nobody crew (is_of_child child) none rest c.posts
@@ -182,8 +214,14 @@ one_link P l h = all-from_get P (l ∷ []) go
     go zero m there = subst P (same_Some l m there) h
     go (suc k) m there = absurd cc
 
-idle_ran : (means : ℕ → ℕ → List Entry → Type 0) (crew : ℕ → Post) (p : CorePass) → KeepsPost crew p → ((t : ℕ) (w : What) → claims t w ≡ true → makes (crew p.number) w ≡ false) → Ran means p
-idle_ran means crew p k none t h = true_not_false (is_taken_by (since p) p.number t) h (unclaiming crew p k none t)
+idle_ran : (means : ℕ → ℕ → ℕ → List Entry → Type 0) (crew : ℕ → Post) (p : CorePass) → KeepsPost crew p → ((t : ℕ) (w : What) → claims t w ≡ true → makes (crew p.number) w ≡ false) → Ran means p
+idle_ran means crew p k none t j h =
+    true_not_false (takes_turn p.start (since p) p.number t j) h (ap (list_any (is_turn t j)) (untaken_turns p.number p.start (since p) (unclaiming crew p k none)))
+
+-- a pass that leaves no task to be run again has no more to promise of it
+idle_through : {A : Type 0} (crew : ℕ → Post) (p : CorePass) → KeepsPost crew p → ((w : What) → is_renewal w ≡ true → makes (crew p.number) w ≡ false)
+    → list_any (renews_by p.number) (since p) ≡ true → A
+idle_through crew p k none h = true_not_false (list_any (renews_by p.number) (since p)) h (unmaking_only crew p k.only is_renewal none)
 
 one_among : (c : ℕ) (l : LinkValue) → l.ear.child ≡ c → IsAmong c (l ∷ [])
 one_among c l is = or_left (l.ear.child == c) false (subst (λ (x : ℕ). (l.ear.child == x) ≡ true) is (same l.ear.child))
@@ -193,10 +231,10 @@ other_than c d off e = true_not_false (d == c) (subst (λ (x : ℕ). (d == x) �
 
 -- ---- over a tagged child
 
-module _ (o : Opening) (means : ℕ → ℕ → List Entry → Type 0) (stays : Lasts means) (l : LinkValue) (main ear mouth : CorePass) (workers : List CorePass)
+module _ (o : Opening) (means : ℕ → ℕ → ℕ → List Entry → Type 0) (stays : Lasts means) (l : LinkValue) (main ear mouth : CorePass) (workers : List CorePass)
     (one : main.number ≡ 1) (two : ear.number ≡ 2) (three : mouth.number ≡ 3)
     (keeps : KeepsPost (tagged_crew l.ear.child) main) (hears : EarEnds (tagged_crew l.ear.child) l.ear ear) (speaks : MouthEnds (tagged_crew l.ear.child) l.mouth mouth)
-    (work : All (WorkerEnds means (tagged_crew l.ear.child)) workers) where
+    (work : All (WorkerEnds o means (tagged_crew l.ear.child) l.ear.child) workers) where
   abbrev crew : ℕ → Post
   crew = tagged_crew l.ear.child
 
@@ -205,7 +243,7 @@ module _ (o : Opening) (means : ℕ → ℕ → List Entry → Type 0) (stays : 
       each_cons (KeepsPost crew) main (ear ∷ mouth ∷ workers) keeps
       (each_cons (KeepsPost crew) ear (mouth ∷ workers) hears.keeps
       (each_cons (KeepsPost crew) mouth workers speaks.keeps
-      (λ i p there. (get-from_all (WorkerEnds means crew) workers work i p there).keeps)))
+      (λ i p there. (get-from_all (WorkerEnds o means crew l.ear.child) workers work i p there).keeps)))
 
   none_main : (t : ℕ) (w : What) → claims t w ≡ true → makes (crew main.number) w ≡ false
   none_main t w h = subst (λ (n : ℕ). makes (crew n) w ≡ false) (sym one) (claim_not_end l.ear.child t w h)
@@ -221,7 +259,28 @@ module _ (o : Opening) (means : ℕ → ℕ → List Entry → Type 0) (stays : 
       each_cons (Ran means) main (ear ∷ mouth ∷ workers) (idle_ran means crew main keeps none_main)
       (each_cons (Ran means) ear (mouth ∷ workers) (idle_ran means crew ear hears.keeps none_ear)
       (each_cons (Ran means) mouth workers (idle_ran means crew mouth speaks.keeps none_mouth)
-      (λ i p there. (get-from_all (WorkerEnds means crew) workers work i p there).ran)))
+      (λ i p there. (get-from_all (WorkerEnds o means crew l.ear.child) workers work i p there).ran)))
+
+  module _ (start rest : List Entry) (c : Closed o crew start rest (main ∷ ear ∷ mouth ∷ workers)) (unclosed : why_of start l.ear.child ≡ Some WasClosed → ⊥) where
+    abbrev Renewed : CorePass → Type 0
+    Renewed q = list_any (renews_by q.number) (since q) ≡ true
+        → Through o crew start rest (main ∷ ear ∷ mouth ∷ workers) c (l ∷ []) (still_unclosed o crew start rest (main ∷ ear ∷ mouth ∷ workers) c) q
+
+    tagged_through : Each Renewed (main ∷ ear ∷ mouth ∷ workers)
+    tagged_through =
+        each_cons Renewed main (ear ∷ mouth ∷ workers) (idle_through crew main keeps none_main_again)
+        (each_cons Renewed ear (mouth ∷ workers) (idle_through crew ear hears.keeps none_ear_again)
+        (each_cons Renewed mouth workers (idle_through crew mouth speaks.keeps none_mouth_again)
+        (λ i p there h. (l.ear.child, one_among l.ear.child l refl, unclosed, (get-from_all (WorkerEnds o means crew l.ear.child) workers work i p there).through h))))
+      where
+        none_main_again : (w : What) → is_renewal w ≡ true → makes (crew main.number) w ≡ false
+        none_main_again w h = subst (λ (n : ℕ). makes (crew n) w ≡ false) (sym one) (renewal_not_end l.ear.child w h)
+
+        none_ear_again : (w : What) → is_renewal w ≡ true → makes (crew ear.number) w ≡ false
+        none_ear_again w h = subst (λ (n : ℕ). makes (crew n) w ≡ false) (sym two) (renewal_not_heard l.ear.child w h)
+
+        none_mouth_again : (w : What) → is_renewal w ≡ true → makes (crew mouth.number) w ≡ false
+        none_mouth_again w h = subst (λ (n : ℕ). makes (crew n) w ≡ false) (sym three) (renewal_not_said l.ear.child w h)
 
   pub tagged_round : (start rest : List Entry) → Closed o crew start rest (main ∷ ear ∷ mouth ∷ workers)
       → Legal o start → IsAtRest start → MayBeginTagged start l.ear.child → l.mouth.child ≡ l.ear.child
@@ -232,7 +291,7 @@ module _ (o : Opening) (means : ℕ → ℕ → List Entry → Type 0) (stays : 
     linked = one_link (IsWired (start ++ rest)) l wired;
     ran = ran_in o crew start rest ps c means stays tagged_ran;
     others = λ child off. others_in o crew start rest ps c child (elsewhere_tagged child l.ear.child (other_than child l.ear.child (either_left (l.ear.child == child) false off)));
-    left = left_in o crew start rest ps c (l ∷ []) i p there l.ear.child (one_among l.ear.child l refl) begins.unclosed through;
+    left = left_here o crew start rest ps c (l ∷ []) (tagged_through start rest c begins.unclosed) i p there l.ear.child (one_among l.ear.child l refl) begins.unclosed through;
   }
     where
       ps : List CorePass
@@ -295,23 +354,70 @@ among_at (m ∷ links) zero l there =
 among_at (m ∷ links) (suc i) l there =
     or_right (m.ear.child == l.ear.child) (list_any (λ x. x.ear.child == l.ear.child) links) (among_at links i l there)
 
-module _ (o : Opening) (means : ℕ → ℕ → List Entry → Type 0) (stays : Lasts means) (main : CorePass) (links : List LinkValue) (workers : List CorePass)
+module _ (o : Opening) (means : ℕ → ℕ → ℕ → List Entry → Type 0) (stays : Lasts means) (main : CorePass) (links : List LinkValue) (workers : List CorePass)
     (one : main.number ≡ 1) (by_place : (i : ℕ) (p : CorePass) → slice_get workers i ≡ Some p → p.number ≡ i + 2)
-    (keeps : KeepsPost (pool_crew (children_of links)) main) (manned : Pairwise (LoneEnds means (pool_crew (children_of links))) links workers) where
+    (keeps : KeepsPost (pool_crew (children_of links)) main) (manned : Pairwise (LoneEnds o means (pool_crew (children_of links))) links workers) where
   abbrev pool : ℕ → Post
   pool = pool_crew (children_of links)
 
   none_main_pool : (t : ℕ) (w : What) → claims t w ≡ true → makes (pool main.number) w ≡ false
   none_main_pool t w h = subst (λ (n : ℕ). makes (pool n) w ≡ false) (sym one) refl
 
-  works_at : Each (WorkerEnds means pool) workers
-  works_at i p there = (of_second (LoneEnds means pool) links workers manned i p there).2.works
+  -- the worker at a place, and its link
+  record Manned (i : ℕ) (p : CorePass) : Type 0 where
+    pub link : LinkValue
+    pub at : slice_get links i ≡ Some link
+    pub ends : LoneEnds o means pool link p
+
+  manned_at : (i : ℕ) (p : CorePass) → slice_get workers i ≡ Some p → Manned i p
+  manned_at i p there = (let q = of_second (LoneEnds o means pool) links workers manned i p there in record { link = q.0; at = q.1; ends = q.2 })
+
+  -- its post is over this link's child
+  child_here : (i : ℕ) (p : CorePass) (m : LinkValue) → slice_get workers i ≡ Some p → slice_get links i ≡ Some m → slice_get (children_of links) (p.number - 2) ≡ Some m.ear.child
+  child_here i p m there at =
+      let number : p.number ≡ i + 2 = by_place i p there in
+      subst (λ (k : ℕ). slice_get (children_of links) k ≡ Some m.ear.child) (omega (arith, number)) (map_there (λ (x : LinkValue). x.ear.child) links i m at)
 
   pub pool_keeps : Each (KeepsPost pool) (main ∷ workers)
-  pool_keeps = each_cons (KeepsPost pool) main workers keeps (λ i p there. (works_at i p there).keeps)
+  pool_keeps = each_cons (KeepsPost pool) main workers keeps (λ i p there. (manned_at i p there).ends.works.keeps)
 
   pool_ran : Each (Ran means) (main ∷ workers)
-  pool_ran = each_cons (Ran means) main workers (idle_ran means pool main keeps none_main_pool) (λ i p there. (works_at i p there).ran)
+  pool_ran = each_cons (Ran means) main workers (idle_ran means pool main keeps none_main_pool) (λ i p there. (manned_at i p there).ends.works.ran)
+
+  module _ (start rest : List Entry) (c : Closed o pool start rest (main ∷ workers)) (legal : Legal o start) (calm : IsAtRest start) where
+    abbrev RenewedLone : CorePass → Type 0
+    RenewedLone q = list_any (renews_by q.number) (since q) ≡ true → Through o pool start rest (main ∷ workers) c links (still_unclosed o pool start rest (main ∷ workers) c) q
+
+    -- a worker that left a task to be run again claimed one for its child, when this lived
+    lone_unclosed : (i : ℕ) (p : CorePass) → slice_get workers i ≡ Some p → (m : LinkValue) → slice_get links i ≡ Some m → list_any (renews_by p.number) (since p) ≡ true
+        → why_of start m.ear.child ≡ Some WasClosed → ⊥
+    lone_unclosed i p there m at h =
+        renewer_lives o pool start rest p.number m.ear.child (omega (arith, number)) legal c.legal calm.idle c.posts own
+        (ap (list_any (renews_by p.number)) s.behind ∙ list_any-append (renews_by p.number) (since p) s.later
+        ∙ or_left (list_any (renews_by p.number) (since p)) (list_any (renews_by p.number) s.later) h)
+      where
+        number : p.number ≡ i + 2
+        number = by_place i p there
+
+        s : Saw o start rest p
+        s = c.saw (suc i) p there
+
+        own : (task child : ℕ) → makes (pool p.number) (Claim task child) ≡ true → (child == m.ear.child) ≡ true
+        own task child k =
+            let late : nat_lt p.number 2 ≡ false = grind (arith, nat_tests, number) in
+            let post : pool p.number ≡ Lone m.ear.child = (rw late (ap lone_post (child_here i p m there at))) in
+            subst (λ (q : Post). makes q (Claim task child) ≡ true) post k
+
+    pool_through : Each RenewedLone (main ∷ workers)
+    pool_through = each_cons RenewedLone main workers (idle_through pool main keeps none_again) (λ i p there h. at_place i p there h)
+      where
+        none_again : (w : What) → is_renewal w ≡ true → makes (pool main.number) w ≡ false
+        none_again w h = subst (λ (n : ℕ). makes (pool n) w ≡ false) (sym one) refl
+
+        at_place : (i : ℕ) (p : CorePass) → slice_get workers i ≡ Some p → RenewedLone p
+        at_place i p there h =
+            let m = manned_at i p there in
+            (m.link.ear.child, among_at links i m.link m.at, lone_unclosed i p there m.link m.at h, m.ends.works.through h)
 
   pub pool_round : (start rest : List Entry) → Closed o pool start rest (main ∷ workers)
       → Legal o start → IsAtRest start → Distinct (children_of links)
@@ -323,7 +429,7 @@ module _ (o : Opening) (means : ℕ → ℕ → List Entry → Type 0) (stays : 
     linked = all-from_get (IsWired (start ++ rest)) links linked;
     ran = ran_in o pool start rest ps c means stays pool_ran;
     others = λ child off. others_in o pool start rest ps c child (elsewhere_pool child (children_of links) (no_child child links off));
-    left = left_in o pool start rest ps c links (suc i) p there l.ear.child (among_at links i l at) unclosed through;
+    left = left_here o pool start rest ps c links (pool_through start rest c legal calm) (suc i) p there l.ear.child (among_at links i l at) unclosed through;
   }
     where
       ps : List CorePass
@@ -331,16 +437,14 @@ module _ (o : Opening) (means : ℕ → ℕ → List Entry → Type 0) (stays : 
 
       linked : (k : ℕ) (m : LinkValue) → slice_get links k ≡ Some m → IsWired (start ++ rest) m
       linked k m is =
-          let q = of_first (LoneEnds means pool) links workers manned k m is in
+          let q = of_first (LoneEnds o means pool) links workers manned k m is in
           let number : q.0.number ≡ k + 2 = by_place k q.0 q.1 in
-          let child : slice_get (children_of links) (q.0.number - 2) ≡ Some m.ear.child =
-          subst (λ (n : ℕ). slice_get (children_of links) n ≡ Some m.ear.child) (omega (arith, number)) (map_there (λ (x : LinkValue). x.ear.child) links k m is) in
-          link_in o pool start rest ps c m (suc k) q.0 q.1 (child_at_lone (children_of links) q.0.number m.ear.child distinct (omega (arith, number)) child) q.2.wired
+          link_in o pool start rest ps c m (suc k) q.0 q.1 (child_at_lone (children_of links) q.0.number m.ear.child distinct (omega (arith, number)) (child_here k q.0 m q.1 is)) q.2.wired
 
 -- ---- the main thread alone
 
-module _ (o : Opening) (means : ℕ → ℕ → List Entry → Type 0) (stays : Lasts means) (l : LinkValue) (main : CorePass) (others : List CorePass)
-    (one : main.number ≡ 1) (lone : LoneEnds means (alone_crew l.ear.child) l main)
+module _ (o : Opening) (means : ℕ → ℕ → ℕ → List Entry → Type 0) (stays : Lasts means) (l : LinkValue) (main : CorePass) (others : List CorePass)
+    (one : main.number ≡ 1) (lone : LoneEnds o means (alone_crew l.ear.child) l main)
     (keeps : Each (KeepsPost (alone_crew l.ear.child)) others) (rest_of : Each (λ p. p.number ≢ 1) others) where
   abbrev alone : ℕ → Post
   alone = alone_crew l.ear.child
@@ -354,6 +458,15 @@ module _ (o : Opening) (means : ℕ → ℕ → List Entry → Type 0) (stays : 
   alone_ran : Each (Ran means) (main ∷ others)
   alone_ran = each_cons (Ran means) main others lone.works.ran (λ i p there. idle_ran means alone p (keeps i p there) (none_other p (rest_of i p there)))
 
+  module _ (start rest : List Entry) (c : Closed o alone start rest (main ∷ others)) (unclosed : why_of start l.ear.child ≡ Some WasClosed → ⊥) where
+    abbrev RenewedAlone : CorePass → Type 0
+    RenewedAlone q = list_any (renews_by q.number) (since q) ≡ true → Through o alone start rest (main ∷ others) c (l ∷ []) (still_unclosed o alone start rest (main ∷ others) c) q
+
+    alone_through : Each RenewedAlone (main ∷ others)
+    alone_through =
+        each_cons RenewedAlone main others (λ h. (l.ear.child, one_among l.ear.child l refl, unclosed, lone.works.through h))
+        (λ i p there. idle_through alone p (keeps i p there) (λ w h. rw (differ p.number 1 (rest_of i p there)) refl))
+
   pub alone_round : (start rest : List Entry) → Closed o alone start rest (main ∷ others)
       → Legal o start → IsAtRest start → (why_of start l.ear.child ≡ Some WasClosed → ⊥) → IsThrough o (seen_of main) l.ear.child
       → Round o means alone (numbers_of (main ∷ others)) start rest (l ∷ [])
@@ -363,16 +476,8 @@ module _ (o : Opening) (means : ℕ → ℕ → List Entry → Type 0) (stays : 
         (link_in o alone start rest ps c l 0 main refl (subst (OnlyAt alone (is_of_child l.ear.child)) (sym one) (child_at_main l.ear.child)) lone.wired);
     ran = ran_in o alone start rest ps c means stays alone_ran;
     others = λ child off. others_in o alone start rest ps c child (elsewhere_alone child l.ear.child (other_than child l.ear.child (either_left (l.ear.child == child) false off)));
-    left = left_in o alone start rest ps c (l ∷ []) 0 main refl l.ear.child (one_among l.ear.child l refl) unclosed through;
+    left = left_here o alone start rest ps c (l ∷ []) (alone_through start rest c unclosed) 0 main refl l.ear.child (one_among l.ear.child l refl) unclosed through;
   }
     where
       ps : List CorePass
       ps = main ∷ others
-
--- ---- what was done before the round stays
-
--- the run of a task that was claimed before
-pub ran_before : (o : Opening) (means : ℕ → ℕ → List Entry → Type 0) → Lasts means → (start rest : List Entry) (n t : ℕ) → Legal o start → IsAtRest start → is_claimed start t ≡ true → any (is_of_task t) rest ≡ false
-    → means n t start → means n t (start ++ rest)
-ran_before o means stays start rest n t legal calm claimed none h =
-    stays n t start rest none (idle_shut o start legal t (claimed_positive o start legal t claimed) (calm.idle t)) h

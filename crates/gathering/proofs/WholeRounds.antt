@@ -8,9 +8,9 @@ use Rattle.gathering.specs.Tasks.{Lasts}
 use Rattle.gathering.specs.Rounds.{KeepsPost}
 use Rattle.gathering.specs.Laws.{children_of, TaggedRound, PoolRound, AloneRound, EarlierStays}
 use Rattle.gathering.proofs.Gathering.{closed}
-use Rattle.gathering.proofs.Rounding.{tagged_keeps, tagged_round, pool_keeps, pool_round, alone_keeps, alone_round, wired_apart, ran_before}
+use Rattle.gathering.proofs.Rounding.{tagged_keeps, tagged_round, pool_keeps, pool_round, alone_keeps, alone_round, wired_apart}
 
-module _ (means : ℕ → ℕ → List Entry → Type 0) (stays : Lasts means) where
+module _ (means : ℕ → ℕ → ℕ → List Entry → Type 0) (stays : Lasts means) where
   pub tagged_gathers : TaggedRound means
   tagged_gathers = λ h final fixed l main ear mouth workers over legal calm begins one_child one two three keeps hears speaks work i p there through.
       (let all = all-from_get (KeepsPost (tagged_crew l.ear.child)) (main ∷ ear ∷ mouth ∷ workers) (tagged_keeps h.fixed means stays l main ear mouth workers one two three keeps hears speaks work) in (
@@ -41,7 +41,4 @@ module _ (means : ℕ → ℕ → List Entry → Type 0) (stays : Lasts means) w
       ))
 
   pub earlier_stays : EarlierStays means
-  earlier_stays = λ o crew numbers start rest links round legal calm. (
-    λ l off wired. wired_apart start rest l (round.others l.ear.child off) wired,
-    λ n t claimed ran. ran_before o means stays start rest n t legal calm claimed (round.rounded.before t claimed) ran,
-  )
+  earlier_stays = λ o crew numbers start rest links round l off wired. wired_apart start rest l (round.others l.ear.child off) wired

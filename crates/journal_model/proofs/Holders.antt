@@ -46,8 +46,8 @@ others_apart o seen more n t first whole apart held =
 -- ---- the turn
 
 -- a task is in the same turn until it is to be run again
-pub turn_apart : (past more : List Entry) (t : ℕ) → any (renews t) more ≡ false → turn_of_task (past ++ more) t ≡ turn_of_task past t
-turn_apart past more t none =
+pub turn_stays : (past more : List Entry) (t : ℕ) → any (renews t) more ≡ false → turn_of_task (past ++ more) t ≡ turn_of_task past t
+turn_stays past more t none =
     let whole = count-append (renews t) past more in
     let later = count_none (renews t) more none in
     omega (arith, whole, later)

@@ -6,5 +6,11 @@ returns g c = record {
   ears = ear_ends;
   mouths = mouth_ends;
   stayed = λ m crew p pos none.
-      (stayed_keeps crew p pos none, stayed_worker crew p pos none (g.M.Meaning.ran m), stayed_ear crew p pos none, stayed_mouth crew p pos none, stayed_lone crew p pos none (g.M.Meaning.ran m));
+      (
+        stayed_keeps crew p pos none,
+        λ o c. stayed_worker crew p pos none o (g.M.Meaning.ran m) c,
+        stayed_ear crew p pos none,
+        stayed_mouth crew p pos none,
+        λ o l wired. stayed_lone crew p pos none o (g.M.Meaning.ran m) l wired,
+      );
 }
