@@ -1,5 +1,5 @@
 -- What each pass of a round promises, gathered into the journal.
-use Rattle.std.proofs.Common.{◌≡◌, zero, suc, ℕ, ◌<◌, List, [], ◌∷◌, ◌++◌, refl, sym, ap, subst, ◌∙◌, Bool, true, false, not, ◌==◌, Some, None, Option, append_assoc, append-nil, arith, slice_get, ◌⊎◌, inl, inr}
+use Rattle.std.proofs.Common.{◌≡◌, suc, ℕ, ◌<◌, List, [], ◌∷◌, ◌++◌, refl, sym, ap, subst, ◌∙◌, Bool, true, false, not, ◌==◌, Some, None, Option, append_assoc, append-nil, arith, slice_get, ◌⊎◌, inl, inr}
 use Rattle.std.specs.Prelude.{◌&&◌, ◌||◌, All, map, is_some}
 use Rattle.std.specs.List.{list_any, list_all}
 use Rattle.std.proofs.lemmas.List.Elements.{filter-append}

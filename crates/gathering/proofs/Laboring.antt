@@ -1,6 +1,6 @@
 -- A worker goes on: while others make their entries, by a claim, and by what closes its run.
-use Rattle.std.proofs.Common.{◌≡◌, ℕ, ◌<◌, List, [], ◌∷◌, ◌++◌, refl, sym, ap, subst, ◌∙◌, Bool, true, false, not, ◌==◌, cond, Some, None, Option, length, drop, append_assoc}
-use Rattle.std.specs.Prelude.{◌&&◌, ◌||◌}
+use Rattle.std.proofs.Common.{◌≡◌, ℕ, ◌<◌, List, [], ◌∷◌, ◌++◌, refl, sym, ap, subst, ◌∙◌, Bool, true, false, not, ◌==◌, Some, None, Option, length, drop, append_assoc}
+use Rattle.std.specs.Prelude.{◌||◌}
 use Rattle.std.specs.Option.{option_or}
 use Rattle.hall.specs.Passes.{seen_of}
 use Rattle.journal_model.specs.declared.verdict.Verdict.{Verdict}
@@ -11,7 +11,7 @@ use Rattle.journal_model.specs.declared.entry.What.TheVariants.{Claim, Answer as
 use Rattle.journal_model.specs.declared.entry.Entry.{Entry}
 use Rattle.journal_model.specs.declared.opening.Opening.{Opening}
 use Rattle.journal_model.specs.Journal.{any, starts, is_started, verdict_of}
-use Rattle.journal_model.specs.Legality.{Legal, is_claimed_by, is_held_by, holder, turned_by, is_done, is_prepared, prepares, renews, turn_of_task}
+use Rattle.journal_model.specs.Legality.{Legal, is_claimed_by, is_held_by, holder, turned_by, is_done, is_prepared, prepares, turn_of_task}
 use Rattle.journal_model.specs.Makers.{is_of_task}
 use Rattle.journal_model.specs.Shares.{are_others, makes_only}
 use Rattle.journal_model.proofs.Holders.{others_unheld, others_apart, turn_stays}
@@ -25,7 +25,7 @@ use Rattle.gathering.specs.Tasks.{Lasts, IsThroughAfterAgain, takes_turn, turns_
 use Rattle.gathering.specs.Rounds.{CorePass, since, WorkerEnds}
 use Rattle.gathering.specs.Workers.{AtWork, Free, Busy}
 use Rattle.gathering.proofs.Halls.{drop_start}
-use Rattle.gathering.proofs.Turning.{is_turn, others_turns, takes_turn-append, turn_before}
+use Rattle.gathering.proofs.Turning.{claim_turns, is_turn, others_turns, takes_turn-append, turn_before}
 
 -- ---- what lasts
 
@@ -145,7 +145,7 @@ module _ (o : Opening) (means : ℕ → ℕ → ℕ → List Entry → Type 0) (
       k = turn_of_task (start ++ more) t
 
       begun : turns_by n (start ++ more) one ≡ (t, k) ∷ []
-      begun = rw (same n) refl
+      begun = claim_turns n (start ++ more) t c
 
       to_true : (b : Bool) → (b || true) ≡ true
       to_true true = refl
@@ -160,8 +160,11 @@ module _ (o : Opening) (means : ℕ → ℕ → ℕ → List Entry → Type 0) (
       holds : (u : ℕ) → is_claimed_by start n u ≡ false → is_claimed_by (start ++ (more ++ one)) n u ≡ true → (u ≡ t) × (turn_of_task (start ++ (more ++ one)) u ≡ k)
       holds u free held =
           by_either (t == u)
-          (λ e. (let eq : u ≡ t = sym (same_number t u e) in (eq, over more one (λ j. turn_of_task j u ≡ k)
-          (subst (λ (x : ℕ). turn_of_task ((start ++ more) ++ one) x ≡ k) (sym eq) (turn_stays (start ++ more) one t refl)))))
+          (λ e. (let eq : u ≡ t = sym (same_number t u e) in (
+            eq,
+            over more one (λ j. turn_of_task j u ≡ k)
+                (subst (λ (x : ℕ). turn_of_task ((start ++ more) ++ one) x ≡ k) (sym eq) (turn_stays (start ++ more) one t refl)),
+          )))
           (λ d. absurd (w.holds u free
           (sym (ap (is_held_by n) (holder_apart (start ++ more) one u (rw d refl))) ∙ under more one (λ j. is_claimed_by j n u ≡ true) held)))
 

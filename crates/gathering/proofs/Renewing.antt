@@ -1,6 +1,6 @@
 -- What is left of a round: all tasks are claimed, or some child of it is lost.
 use Rattle.std.proofs.Common.{◌≡◌, zero, suc, ℕ, ◌+◌, ◌<◌, ◌≤◌, List, [], ◌∷◌, ◌++◌, refl, sym, ap, subst, ◌∙◌, Bool, true, false, not, ◌==◌, Some, None, append_assoc, append-nil, length, length-append, arith, slice_get, ◌⊎◌, inl, inr}
-use Rattle.std.specs.Prelude.{◌&&◌, ◌||◌, fold, is_some}
+use Rattle.std.specs.Prelude.{◌&&◌, ◌||◌}
 use Rattle.std.specs.List.{list_any, list_all}
 use Rattle.std.proofs.lemmas.List.{append_cancel_left}
 use Rattle.std.proofs.lemmas.List.Folds.{list_any-append}
@@ -12,7 +12,7 @@ use Rattle.journal_model.specs.declared.entry.Entry.{Entry}
 use Rattle.journal_model.specs.declared.opening.Opening.{Opening}
 use Rattle.journal_model.specs.Journal.{any, ends, mutes, is_ended, is_live, is_mute, is_started, why_of}
 use Rattle.journal_model.specs.Due.{due_after}
-use Rattle.journal_model.specs.Legality.{Legal, claims, claimed_after, claimed_on, holder, is_busy, is_claimed, is_claimed_by, is_held_by, is_number, is_prepared, is_run_again, least_free, may_come, numbers_of}
+use Rattle.journal_model.specs.Legality.{Legal, claims, claimed_after, holder, is_busy, is_claimed, is_claimed_by, is_held_by, is_number, is_prepared, is_run_again, least_free, may_come, numbers_of}
 use Rattle.journal_model.specs.Makers.{is_of_task, is_taken_by}
 use Rattle.journal_model.specs.Shares.{are_others}
 use Rattle.journal_model.proofs.Holding.{claimed_append, closing_claims, held_busy, holder_append, not_true}

@@ -1,17 +1,17 @@
 -- The turns that a number takes along a stretch of entries.
-use Rattle.std.proofs.Common.{◌≡◌, ℕ, List, [], ◌∷◌, ◌++◌, refl, sym, ap, ◌∙◌, Bool, true, false, not, ◌==◌, cond, Some, None, Option, append_assoc, append-nil}
+use Rattle.std.proofs.Common.{◌≡◌, ℕ, List, [], ◌∷◌, ◌++◌, refl, sym, ap, ◌∙◌, Bool, true, false, ◌==◌, cond, Some, None, Option, append_assoc, append-nil}
 use Rattle.std.specs.Prelude.{◌&&◌, ◌||◌}
 use Rattle.std.specs.List.{list_any, cons_option}
 use Rattle.std.proofs.lemmas.List.Folds.{list_any-append}
 use Rattle.journal_model.specs.declared.entry.What.{What}
 use Rattle.journal_model.specs.declared.entry.What.TheVariants.{Claim}
 use Rattle.journal_model.specs.declared.entry.Entry.{Entry}
-use Rattle.journal_model.specs.Legality.{claims}
+use Rattle.journal_model.specs.Legality.{claims, turn_of_task}
 use Rattle.journal_model.specs.Makers.{is_taken_by}
 use Rattle.journal_model.specs.Shares.{are_others}
 use Rattle.journal_model.proofs.Holders.{others_untaken}
 use Rattle.journal_model.proofs.Looks.{either_left, either_right, same, true_not_false}
-use Rattle.journal_model.proofs.Testing.{by_either, or_false, or_left, or_right}
+use Rattle.journal_model.proofs.Testing.{or_false}
 use Rattle.gathering.specs.Tasks.{claimed_turn, turns_by, takes_turn}
 
 -- the turn that the entry gives the number, where it stands after past
@@ -26,7 +26,7 @@ pub turns_by-append : (n : ℕ) (past xs ys : List Entry) → turns_by n past (x
 turns_by-append n past [] ys = ap (λ (p : List Entry). turns_by n p ys) (sym (append-nil past))
 turns_by-append n past (e ∷ xs) ys =
     ap (cons_option (turn_by n past e))
-        (turns_by-append n (past ++ e ∷ []) xs ys ∙ ap (λ (p : List Entry). turns_by n (past ++ e ∷ []) xs ++ turns_by n p ys) (append_assoc past (e ∷ []) xs))
+    (turns_by-append n (past ++ e ∷ []) xs ys ∙ ap (λ (p : List Entry). turns_by n (past ++ e ∷ []) xs ++ turns_by n p ys) (append_assoc past (e ∷ []) xs))
     ∙ cons_append (turn_by n past e) (turns_by n (past ++ e ∷ []) xs) (turns_by n (past ++ e ∷ xs) ys)
 
 abbrev pub is_turn : ℕ → ℕ → ℕ × ℕ → Bool
@@ -59,6 +59,10 @@ turn_before past xs ys n t k none =
     takes_turn-append past xs ys n t k ∙ ap (λ (us : List (ℕ × ℕ)). takes_turn past xs n t k || list_any (is_turn t k) us) none ∙ or_false (takes_turn past xs n t k)
 
 -- ---- some
+
+-- a claim takes the task's turn that comes next
+pub claim_turns : (n : ℕ) (past : List Entry) (t child : ℕ) → turns_by n past (record { by = n; what = Claim t child } ∷ []) ≡ (t, turn_of_task past t) ∷ []
+claim_turns n past t child = rw (same n) refl
 
 -- who takes a turn makes an entry
 pub turn_made : (n : ℕ) (past xs : List Entry) (t k : ℕ) → takes_turn past xs n t k ≡ true → list_any (λ e. e.by == n) xs ≡ true

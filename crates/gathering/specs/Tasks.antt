@@ -5,7 +5,6 @@ use Rattle.journal_model.specs.declared.entry.What.{What}
 use Rattle.journal_model.specs.declared.entry.What.TheVariants.{Claim, Again}
 use Rattle.journal_model.specs.declared.entry.Entry.{Entry}
 use Rattle.journal_model.specs.declared.opening.Opening.{Opening}
-use Rattle.journal_model.specs.Journal.{any}
 use Rattle.journal_model.specs.Legality.{is_claimed_by, turn_of_task}
 use Rattle.host_core.specs.Steps.{are_all_claimed, is_gone}
 

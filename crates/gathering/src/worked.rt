@@ -1,12 +1,14 @@
 // Worked rows of the definitions, each the contract of a function with nothing to do.
 ghost use Rattle.std.specs.Prelude.{◌≡◌, true, false, [], ◌∷◌, take, codes};
+ghost use Rattle.journal_model.specs.AgainRows.{claimed_again, lost_answer, one_check_again, renewed};
 ghost use Rattle.journal_model.specs.declared.verdict.Why.TheVariants.{Closed, Eof, Memory};
-ghost use Rattle.journal_model.specs.declared.entry.What.TheVariants.{Claim, Got, End, Start};
+ghost use Rattle.journal_model.specs.declared.entry.What.TheVariants.{Again, Claim, Got, End, Start};
 ghost use Rattle.journal_model.specs.Legality.{Legal};
-ghost use Rattle.journal_model.specs.Rows.{two_checks, tagged_greeting};
+ghost use Rattle.journal_model.specs.Rows.{by_main, two_checks, tagged_greeting};
 ghost use Rattle.gathering.specs.Posts.{makes, tagged_crew, pool_crew, alone_crew, is_mains};
 ghost use Rattle.gathering.specs.Rounds.{IsAtRest};
 ghost use Rattle.gathering.specs.Laws.{MayBeginTagged};
+ghost use Rattle.gathering.specs.Tasks.{IsThroughAfterAgain, takes_turn, turns_by};
 
 /// After the greeting of a tagged child a round may begin, and not while a task is busy.
 pub fn greeted_may_begin()
@@ -25,6 +27,8 @@ pub fn tagged_posts()
     ensures mouth_ends { makes (tagged_crew 1 3) (End 1 Eof) ≡ false }
     ensures worker_claims { makes (tagged_crew 1 4) (Claim 3 1) ≡ true }
     ensures other_child { makes (tagged_crew 1 4) (Claim 3 2) ≡ false }
+    ensures worker_renews { makes (tagged_crew 1 4) (Again 3 lost_answer) ≡ true }
+    ensures mouth_renews { makes (tagged_crew 1 3) (Again 3 lost_answer) ≡ false }
     ensures worker_hears { makes (tagged_crew 1 4) (Got 1 (codes "x")) ≡ false }
     ensures main_gives_up { makes (tagged_crew 1 1) (End 1 Memory) ≡ true }
     ensures main_claims { makes (tagged_crew 1 1) (Claim 3 1) ≡ false }
@@ -39,4 +43,19 @@ pub fn lone_posts()
     ensures alone { makes (alone_crew 5 1) (Got 5 (codes "x")) ≡ true }
     ensures others_alone { makes (alone_crew 5 2) (Got 5 (codes "x")) ≡ false }
     ensures starts { is_mains (Start 1 0 true) ≡ true }
+{}
+
+/// A task that was claimed again is in its second turn, which its claimer alone takes.
+pub fn turns_are_told_apart()
+    ensures both { turns_by 0 [] (claimed_again 1) ≡ (1, 1) ∷ (1, 2) ∷ [] }
+    ensures another_number { turns_by 4 [] (claimed_again 1) ≡ [] }
+    ensures second { takes_turn renewed (by_main (Claim 1 1) ∷ []) 0 1 2 ≡ true }
+    ensures not_first { takes_turn renewed (by_main (Claim 1 1) ∷ []) 0 1 1 ≡ false }
+{}
+
+/// Who left a task to be run again goes on with a child that is there still.
+pub fn renewed_tasks_are_left()
+    ensures gone { IsThroughAfterAgain (one_check_again 1) 0 1 renewed renewed }
+    ensures there { IsThroughAfterAgain (one_check_again 1) 0 2 renewed renewed → ⊥ }
+    ensures another_number { IsThroughAfterAgain (one_check_again 1) 4 2 renewed renewed }
 {}
