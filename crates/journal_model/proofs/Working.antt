@@ -115,7 +115,7 @@ turns t n by h (Again task answer) held = go (task == t) held
     go false k = inl k
 turns t n by h w held = inl held
 
-held_taken_from : (t n : ℕ) (h : Option Holder) (xs : List Entry) → is_held_by n (fold (turned t) h xs) ≡ true → (is_held_by n h ≡ true) ⊎ (is_taken_by xs n t ≡ true)
+pub held_taken_from : (t n : ℕ) (h : Option Holder) (xs : List Entry) → is_held_by n (fold (turned t) h xs) ≡ true → (is_held_by n h ≡ true) ⊎ (is_taken_by xs n t ≡ true)
 held_taken_from t n h [] held = inl held
 held_taken_from t n h (e ∷ xs) held = go (held_taken_from t n (turned_by t h e.by e.what) xs held)
   where
@@ -381,7 +381,7 @@ held_alone o seen more n t pos legal held none =
 pub count-append : (p : What → Bool) (xs ys : List Entry) → count p (xs ++ ys) ≡ count p xs + count p ys
 count-append p xs ys = ap (λ (l : List Entry). length l) (filter-append (λ (e : Entry). p e.what) xs ys) ∙ length-append (filter (λ (e : Entry). p e.what) xs) (filter (λ (e : Entry). p e.what) ys)
 
-count_none : (p : What → Bool) (xs : List Entry) → any p xs ≡ false → count p xs ≡ 0
+pub count_none : (p : What → Bool) (xs : List Entry) → any p xs ≡ false → count p xs ≡ 0
 count_none p [] h = refl
 count_none p (e ∷ xs) h = rw (either_left (p e.what) (any p xs) h) (count_none p xs (either_right (p e.what) (any p xs) h))
 
