@@ -247,7 +247,7 @@ module _ (o : Opening) (n c t : ℕ) (past within : List Entry) (renewed : Bool)
 -- ---- the whole task
 
 -- running out of memory is an answer that no refusal of the desk gives
-causes_answered : (old new : Counts) (result : Result Answer NoMemory) → HasTaskCauses old new result → HasTaskCauses old new (Ok (answered result))
+pub causes_answered : (old new : Counts) (result : Result Answer NoMemory) → HasTaskCauses old new result → HasTaskCauses old new (Ok (answered result))
 causes_answered old new (Ok answer) h = h
 causes_answered old new (Err e) h = record {
   faults_later = h.faults_later;

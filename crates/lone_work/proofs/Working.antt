@@ -1,7 +1,7 @@
 -- What a worker did, task by task.
-use Rattle.std.proofs.Common.{◌≡◌, ℕ, ◌<◌, List, [], ◌∷◌, ◌++◌, refl, sym, ap, subst, ◌∙◌, Bool, true, false, not, ◌==◌, Some, None, Option, arith, append_assoc, append-nil}
-use Rattle.std.specs.Prelude.{◌||◌, if◌then◌else◌, map}
-use Rattle.std.specs.List.{list_all, cons_option}
+use Rattle.std.proofs.Common.{◌≡◌, ℕ, ◌<◌, List, [], ◌∷◌, ◌++◌, refl, sym, ap, subst, ◌∙◌, Bool, true, false, not, ◌==◌, cond, Some, None, Option, arith, append_assoc, append-nil}
+use Rattle.std.specs.Prelude.{◌&&◌, ◌||◌, if◌then◌else◌, map}
+use Rattle.std.specs.List.{list_all, list_any, cons_option}
 use Rattle.ann_outside.specs.Calls.{Gained}
 use Rattle.ann_outside.specs.DeskCauses.{Counts}
 use Rattle.ann_outside.specs.declared.file_desk.Call.{Call}
@@ -10,12 +10,13 @@ use Rattle.journal_model.specs.declared.entry.What.{What}
 use Rattle.journal_model.specs.declared.entry.What.TheVariants.{Claim, Lead, Ask, Lost, Note, Answer as Answered, Again}
 use Rattle.journal_model.specs.declared.entry.Entry.{Entry}
 use Rattle.journal_model.specs.declared.opening.Opening.{Opening}
-use Rattle.journal_model.specs.Legality.{Legal, turn_of_task}
+use Rattle.journal_model.specs.Legality.{Legal, claims, turn_of_task}
+use Rattle.journal_model.specs.Makers.{is_taken_by}
 use Rattle.journal_model.specs.Room.{claims_left}
 use Rattle.journal_model.specs.Shares.{are_by, by_link, makes_only}
 use Rattle.journal_model.proofs.ClaimsLeft.{claims_left_less}
-use Rattle.journal_model.proofs.Looks.{both, entry, same, same_number}
-use Rattle.journal_model.proofs.Testing.{all-join}
+use Rattle.journal_model.proofs.Looks.{both, either_left, either_right, entry, same, same_number}
+use Rattle.journal_model.proofs.Testing.{all-join, neither}
 use Rattle.task_run.specs.declared.setup.Setup.{Setup}
 use Rattle.task_run.specs.declared.turn.TaskTurn.{TaskTurn}
 use Rattle.task_run.specs.Askings.{closing}
@@ -28,11 +29,11 @@ use Rattle.lone_work.specs.Works.{AllRan, CausedInTurn, DeskTells, LoneDoes, Ran
 
 -- ---- lists
 
-calls_both : (xs ys : List TaskDone) → all_calls (xs ++ ys) ≡ all_calls xs ++ all_calls ys
+pub calls_both : (xs ys : List TaskDone) → all_calls (xs ++ ys) ≡ all_calls xs ++ all_calls ys
 calls_both [] ys = refl
 calls_both (r ∷ xs) ys = ap (λ (l : List Call). r.calls ++ l) (calls_both xs ys) ∙ sym (append_assoc r.calls (all_calls xs) (all_calls ys))
 
-turns_both : (xs ys : List TaskDone) → turns_of (xs ++ ys) ≡ turns_of xs ++ turns_of ys
+pub turns_both : (xs ys : List TaskDone) → turns_of (xs ++ ys) ≡ turns_of xs ++ turns_of ys
 turns_both [] ys = refl
 turns_both (r ∷ xs) ys = ap (λ (l : List (ℕ × ℕ)). (r.task, r.turn) ∷ l) (turns_both xs ys)
 
@@ -48,6 +49,18 @@ turns_by-none makes none n past (e ∷ xs) own =
     go true h = none past e.what h
     go false h = refl
 
+-- a task of which no turn was taken is not taken
+pub turns_untaken : (n v : ℕ) (past xs : List Entry) → list_any (λ (u : ℕ × ℕ). u.0 == v) (turns_by n past xs) ≡ false → is_taken_by xs n v ≡ false
+turns_untaken n v past [] h = refl
+turns_untaken n v past (e ∷ xs) h = go (e.by == n) e.what h (turns_untaken n v (past ++ e ∷ []) xs)
+  where
+    go : (b : Bool) (w : What) → list_any (λ (u : ℕ × ℕ). u.0 == v) (cons_option (cond b (claimed_turn past w) None) (turns_by n (past ++ e ∷ []) xs)) ≡ false
+        → (list_any (λ (u : ℕ × ℕ). u.0 == v) (turns_by n (past ++ e ∷ []) xs) ≡ false → is_taken_by xs n v ≡ false) → ((b && claims v w) || is_taken_by xs n v) ≡ false
+    go false w k r = r k
+    go true (Claim task child) k r = neither (task == v) (is_taken_by xs n v) (either_left (task == v) (list_any (λ (u : ℕ × ℕ). u.0 == v) (turns_by n (past ++ e ∷ []) xs)) k)
+        (r (either_right (task == v) (list_any (λ (u : ℕ × ℕ). u.0 == v) (turns_by n (past ++ e ∷ []) xs)) k))
+    go true w k r = r k
+
 -- what closes a run is the last of what stands after others
 pub ends_behind : (xs : List Entry) (y : Entry) (ys : List Entry) → ends_closed (y ∷ ys) ≡ true → ends_closed (xs ++ y ∷ ys) ≡ true
 ends_behind [] y ys h = h
@@ -58,11 +71,11 @@ ends_both : (xs ys : List Entry) → ends_closed xs ≡ true → ends_closed ys 
 ends_both xs [] h k = ap ends_closed (append-nil xs) ∙ h
 ends_both xs (y ∷ ys) h k = ends_behind xs y ys k
 
-caused_both : (a b d : Counts) (xs ys : List TaskDone) → CausedInTurn a xs b → CausedInTurn b ys d → CausedInTurn a (xs ++ ys) d
+pub caused_both : (a b d : Counts) (xs ys : List TaskDone) → CausedInTurn a xs b → CausedInTurn b ys d → CausedInTurn a (xs ++ ys) d
 caused_both a b d [] ys h k = subst (λ (w : Counts). CausedInTurn w ys d) h k
 caused_both a b d (r ∷ xs) ys h k = (h.0, caused_both r.counts b d xs ys h.1 k)
 
-ran_both : (o : Opening) (setup : Setup) (n c : ℕ) (journal : List Entry) (xs ys : List TaskDone) → AllRan o setup n c journal xs → AllRan o setup n c journal ys → AllRan o setup n c journal (xs ++ ys)
+pub ran_both : (o : Opening) (setup : Setup) (n c : ℕ) (journal : List Entry) (xs ys : List TaskDone) → AllRan o setup n c journal xs → AllRan o setup n c journal ys → AllRan o setup n c journal (xs ++ ys)
 ran_both o setup n c journal [] ys h k = k
 ran_both o setup n c journal (r ∷ xs) ys h k = (h.0, ran_both o setup n c journal xs ys h.1 k)
 
