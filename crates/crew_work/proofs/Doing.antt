@@ -1,25 +1,25 @@
 -- What a worker made, thing by thing.
-use Rattle.std.proofs.Common.{◌≡◌, ℕ, List, [], ◌∷◌, ◌++◌, refl, sym, ap, subst, ◌∙◌, Bool, true, false, not, ◌==◌, cond, None, Option, append_assoc}
+use Rattle.std.proofs.Common.{◌≡◌, ℕ, List, [], ◌∷◌, ◌++◌, refl, sym, ap, subst, ◌∙◌, Bool, true, false, not, ◌==◌, None, append_assoc}
 use Rattle.std.specs.Prelude.{◌||◌}
 use Rattle.std.specs.List.{cons_option}
-use Rattle.std.proofs.lemmas.List.Elements.{filter-append}
-use Rattle.journal_model.specs.declared.answer.Answer.{Answer}
 use Rattle.journal_model.specs.declared.entry.What.{What}
-use Rattle.journal_model.specs.declared.entry.What.TheVariants.{Claim, Lead, Ask, Lost, Answer as Answered, Note}
+use Rattle.journal_model.specs.declared.entry.What.TheVariants.{Claim, Lead, Ask, Lost, Note}
 use Rattle.journal_model.specs.declared.entry.Entry.{Entry}
-use Rattle.journal_model.specs.Journal.{any, each_of}
-use Rattle.journal_model.specs.Makers.{made_by_number}
-use Rattle.journal_model.specs.Output.{answer_in}
+use Rattle.journal_model.specs.Journal.{any}
 use Rattle.journal_model.specs.Shares.{Moved, are_by, are_own, by_link, is_of_child, makes_only}
-use Rattle.journal_model.proofs.Looks.{any-append, both, each_of-append, entry, same}
+use Rattle.journal_model.proofs.Looks.{any-append, both, entry, same}
 use Rattle.journal_model.proofs.Testing.{all-join, all-split, or_left, or_right, neither}
 use Rattle.link_roles.specs.Asks.{never}
 use Rattle.link_roles.specs.Doors.{Passed}
 use Rattle.link_roles.proofs.Roles.{others_make, others_none}
 use Rattle.lone_work.specs.Servings.{by_server}
 use Rattle.gathering.specs.Posts.{makes, works}
-use Rattle.lone_work.specs.Works.{claimed_task}
-use Rattle.crew_work.specs.Crews.{Did, answers_by, by_task, claims_by, post_of}
+use Rattle.gathering.specs.Tasks.{claimed_turn, turns_by}
+use Rattle.gathering.proofs.Turning.{turns_by-append}
+use Rattle.journal_model.proofs.Unbounded.{Within}
+use Rattle.lone_work.proofs.Serving.{server_within}
+use Rattle.lone_work.proofs.Working.{turns_by-none}
+use Rattle.crew_work.specs.Crews.{Did, by_task, post_of}
 use Rattle.crew_work.specs.Jobs.{by_jobs}
 
 -- ---- the kinds
@@ -30,6 +30,11 @@ jobs_serve c t (Ask child job task line) h = h
 jobs_serve c t (Lost child task) h = h
 jobs_serve c t (Note task chunk count) h = h
 jobs_serve c t w h = absurd cc
+
+pub jobs_within : (c t : ℕ) → Within (by_jobs c t) t
+jobs_within c t =
+    let s : Within (by_server c t) t = server_within c t in
+    record { unclaimed = λ w h. s.unclaimed w (jobs_serve c t w h); unclosed = λ w h. s.unclosed w (jobs_serve c t w h) }
 
 pub task_serves : (owns : Bool) (c t : ℕ) (w : What) → by_task owns c t w ≡ true → by_server c t w ≡ true
 task_serves true c t w h = h
@@ -59,13 +64,9 @@ pub works_posted : (owns : Bool) (c : ℕ) (w : What) → works c w ≡ true →
 works_posted true c w h = or_right (by_link c w) (works c w) h
 works_posted false c w h = h
 
-server_claims : (c t : ℕ) (w : What) → by_server c t w ≡ true → claimed_task w ≡ None
-server_claims c t (Claim task child) h = absurd cc
-server_claims c t w h = refl
-
-server_answers : (c t : ℕ) (w : What) → by_server c t w ≡ true → answer_in w ≡ None
-server_answers c t (Answered task answer) h = absurd cc
-server_answers c t w h = refl
+server_claims : (c t : ℕ) (past : List Entry) (w : What) → by_server c t w ≡ true → claimed_turn past w ≡ None
+server_claims c t past (Claim task child) h = absurd cc
+server_claims c t past w h = refl
 
 -- ---- what one number made of a list
 
@@ -79,37 +80,21 @@ wider_made p q f n (e ∷ xs) h =
     one true k = f e.what k
     one false k = refl
 
--- a number that makes nothing that gives an X gives none
-each_none : {X : Type 0} (p : What → Bool) (f : What → Option X) → ((w : What) → p w ≡ true → f w ≡ None) → (n : ℕ) (xs : List Entry) → makes_only p n xs ≡ true
-    → each_of f (made_by_number n xs) ≡ []
-each_none p f none n [] h = refl
-each_none {X} p f none n (e ∷ xs) h =
-    let s = both (not (e.by == n) || p e.what) (makes_only p n xs) h in
-    go (e.by == n) s.0 (each_none p f none n xs s.1)
-  where
-    go : (b : Bool) → (not b || p e.what) ≡ true → each_of f (made_by_number n xs) ≡ [] → each_of f (cond b (e ∷ made_by_number n xs) (made_by_number n xs)) ≡ []
-    go true k r = ap (λ (o : Option X). cons_option o (each_of f (made_by_number n xs))) (none e.what k) ∙ r
-    go false k r = r
+never_claims : (past : List Entry) (w : What) → never w ≡ true → claimed_turn past w ≡ None
+never_claims past w h = absurd cc
 
-each_both : {X : Type 0} (f : What → Option X) (n : ℕ) (xs ys : List Entry) → each_of f (made_by_number n (xs ++ ys)) ≡ each_of f (made_by_number n xs) ++ each_of f (made_by_number n ys)
-each_both f n xs ys = ap (each_of f) (filter-append (λ (e : Entry). e.by == n) xs ys) ∙ each_of-append f (made_by_number n xs) (made_by_number n ys)
-
-never_gives : {X : Type 0} (f : What → Option X) (w : What) → never w ≡ true → f w ≡ None
-never_gives f w h = absurd cc
-
--- others give none, and one entry of its own gives what it says
-each_one : {X : Type 0} (f : What → Option X) (n : ℕ) (others : List Entry) (w : What) → makes_only never n others ≡ true
-    → each_of f (made_by_number n (others ++ entry n w ∷ [])) ≡ cons_option (f w) []
-each_one {X} f n others w h =
-    each_both f n others (entry n w ∷ []) ∙ ap (λ (l : List X). l ++ each_of f (made_by_number n (entry n w ∷ []))) (each_none never f (never_gives f) n others h)
+-- others claim nothing by this number, and one entry of its own claims what it says
+turns_one : (n : ℕ) (past others : List Entry) (w : What) → makes_only never n others ≡ true → turns_by n past (others ++ entry n w ∷ []) ≡ cons_option (claimed_turn (past ++ others) w) []
+turns_one n past others w h =
+    turns_by-append n past others (entry n w ∷ []) ∙ ap (λ (l : List (ℕ × ℕ)). l ++ turns_by n (past ++ others) (entry n w ∷ [])) (turns_by-none never never_claims n past others h)
     ∙ (rw (same n) refl)
 
 -- ---- what was done
 
 module _ {owns : Bool} {n : ℕ} {a : Bool} {c : ℕ} where
-  pub did_both : {x y z : List Entry} {P Q R : Type 0} {ts us : List ℕ} {vs ws : List (ℕ × Answer)} → Did owns n a c x y P Q ts vs → Did owns n a c y z Q R us ws
-      → Did owns n a c x z P R (ts ++ us) (vs ++ ws)
-  did_both {x = x} {ts = ts} {us = us} {vs = vs} {ws = ws} s k = record {
+  pub did_both : {x y z : List Entry} {P Q R : Type 0} {ts us : List (ℕ × ℕ)} → Did owns n a c x y P Q ts → Did owns n a c y z Q R us
+      → Did owns n a c x z P R (ts ++ us)
+  did_both {x = x} {y = y} {ts = ts} {us = us} s k = record {
     moved = record {
       more = s.moved.more ++ k.moved.more;
       is = k.moved.is ∙ ap (λ (l : List Entry). l ++ k.moved.more) s.moved.is ∙ append_assoc x s.moved.more k.moved.more;
@@ -118,21 +103,20 @@ module _ {owns : Bool} {n : ℕ} {a : Bool} {c : ℕ} where
       kept = λ h p. k.moved.kept (all-split (λ (e : Entry). not (is_of_child c e.what) || e.by == n) s.moved.more k.moved.more h).1
           (s.moved.kept (all-split (λ (e : Entry). not (is_of_child c e.what) || e.by == n) s.moved.more k.moved.more h).0 p);
     };
-    claimed = each_both claimed_task n s.moved.more k.moved.more ∙ ap (λ (l : List ℕ). l ++ claims_by n k.moved.more) s.claimed ∙ ap (λ (l : List ℕ). ts ++ l) k.claimed;
-    answered = each_both answer_in n s.moved.more k.moved.more ∙ ap (λ (l : List (ℕ × Answer)). l ++ answers_by n k.moved.more) s.answered
-        ∙ ap (λ (l : List (ℕ × Answer)). vs ++ l) k.answered;
+    claimed = turns_by-append n x s.moved.more k.moved.more
+        ∙ ap (λ (l : List (ℕ × ℕ)). l ++ turns_by n (x ++ s.moved.more) k.moved.more) s.claimed
+        ∙ ap (λ (l : List (ℕ × ℕ)). ts ++ l) (ap (λ (p : List Entry). turns_by n p k.moved.more) (sym s.moved.is) ∙ k.claimed);
   }
 
-  -- what it made for a task claims and answers nothing
-  pub did_run : {x y : List Entry} {P Q : Type 0} (t : ℕ) → Moved n a (by_task owns c t) (is_of_child c) x y P Q → Did owns n a c x y P Q [] []
-  did_run t s = record {
+  -- what it made for a task claims nothing
+  pub did_run : {x y : List Entry} {P Q : Type 0} (t : ℕ) → Moved n a (by_task owns c t) (is_of_child c) x y P Q → Did owns n a c x y P Q []
+  did_run {x} t s = record {
     moved = record { more = s.more; is = s.is; own = wider_made (by_task owns c t) (makes (post_of owns c)) (task_posted owns c t) n s.more s.own; lone = s.lone; kept = s.kept };
-    claimed = each_none (by_task owns c t) claimed_task (λ w h. server_claims c t w (task_serves owns c t w h)) n s.more s.own;
-    answered = each_none (by_task owns c t) answer_in (λ w h. server_answers c t w (task_serves owns c t w h)) n s.more s.own;
+    claimed = turns_by-none (by_task owns c t) (λ past w h. server_claims c t past w (task_serves owns c t w h)) n x s.more s.own;
   }
 
   module _ (X : List Entry → Type 0) (stays : (past more : List Entry) → any (is_of_child c) more ≡ false → X past → X (past ++ more)) where
-    pub did_pass : {x y : List Entry} → Passed n a x y → Did owns n a c x y (X x) (X y) [] []
+    pub did_pass : {x y : List Entry} → Passed n a x y → Did owns n a c x y (X x) (X y) []
     did_pass {x} {y} s = record {
       moved = record {
         more = s.others;
@@ -141,13 +125,12 @@ module _ {owns : Bool} {n : ℕ} {a : Bool} {c : ℕ} where
         lone = λ h. subst (λ (l : List Entry). are_by n l ≡ true) (sym (s.none h)) refl;
         kept = λ h p. subst X (sym s.is) (stays x s.others (others_none (is_of_child c) n s.others s.apart h) p);
       };
-      claimed = each_none never claimed_task (never_gives claimed_task) n s.others (others_make never n s.others s.apart);
-      answered = each_none never answer_in (never_gives answer_in) n s.others (others_make never n s.others s.apart);
+      claimed = turns_by-none never never_claims n x s.others (others_make never n s.others s.apart);
     }
 
     -- after others, an entry that a worker makes, and that isn't the child's
     pub did_make : {x p y : List Entry} (w : What) → Passed n a x p → y ≡ p ++ entry n w ∷ [] → works c w ≡ true → is_of_child c w ≡ false
-        → Did owns n a c x y (X x) (X y) (cons_option (claimed_task w) []) (cons_option (answer_in w) [])
+        → Did owns n a c x y (X x) (X y) (cons_option (claimed_turn p w) [])
     did_make {x} {p} {y} w s is works_so apart = record {
       moved = record {
         more = s.others ++ one;
@@ -157,8 +140,7 @@ module _ {owns : Bool} {n : ℕ} {a : Bool} {c : ℕ} where
         lone = λ h. subst (λ (l : List Entry). are_by n (l ++ one) ≡ true) (sym (s.none h)) (rw (same n) refl);
         kept = λ h q. subst X (sym whole) (stays x (s.others ++ one) (none h) q);
       };
-      claimed = each_one claimed_task n s.others w (others_make never n s.others s.apart);
-      answered = each_one answer_in n s.others w (others_make never n s.others s.apart);
+      claimed = turns_one n x s.others w (others_make never n s.others s.apart) ∙ ap (λ (q : List Entry). cons_option (claimed_turn q w) []) (sym s.is);
     }
       where
         one : List Entry

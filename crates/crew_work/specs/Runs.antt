@@ -7,6 +7,7 @@ use Rattle.journal_model.specs.declared.opening.Opening.{Opening}
 use Rattle.link_roles.specs.Moves.{IsSameLink}
 use Rattle.link_roles.specs.Writings.{LoneWired, is_written_first}
 use Rattle.gathering.specs.Posts.{Post, makes}
+use Rattle.gathering.specs.Tasks.{IsThrough}
 use Rattle.gathering.specs.Rounds.{CorePass, LinkValue, IsWired, LoneEnds, WorkerEnds}
 use Rattle.task_run.specs.declared.setup.Setup.{Setup}
 use Rattle.gathering.specs.JournalRuns.{HasJournalRun}
@@ -17,16 +18,16 @@ use Rattle.crew_work.specs.Crews.{Worked, calls_of, post_of}
 -- makes, is what a worker promises at its end, where the calls that are told of its number are those of its desk.
 abbrev pub WorkersEnd : Type 0
 WorkersEnd =
-    (o : Opening) (setup : Setup) (calls : ℕ → ℕ → List Call) (c : ℕ) (crew : ℕ → Post) (p : CorePass) (desk desk' : DeskTells)
-    → (w : Worked o setup false p.number false c p.start (seen_of p) (Unit {0}) (Unit {0}) desk desk') → 0 < p.number → ((t : ℕ) → calls p.number t ≡ calls_of w.done t)
+    (o : Opening) (setup : Setup) (calls : ℕ → ℕ → ℕ → List Call) (c : ℕ) (crew : ℕ → Post) (p : CorePass) (desk desk' : DeskTells)
+    → (w : Worked o setup false p.number false c p.start (seen_of p) (Unit {0}) (Unit {0}) desk desk') → IsThrough o (seen_of p) c → 0 < p.number → ((t k : ℕ) → calls p.number t k ≡ calls_of w.done t k)
     → ((w : What) → makes (post_of false c) w ≡ true → makes (crew p.number) w ≡ true)
-    → WorkerEnds (HasJournalRun o setup calls) crew p
+    → WorkerEnds o (HasJournalRun o setup calls) crew c p
 
 -- the same of a worker that has its child for itself
 abbrev pub LonesEnd : Type 0
 LonesEnd =
-    (o : Opening) (setup : Setup) (calls : ℕ → ℕ → List Call) (crew : ℕ → Post) (p : CorePass) (old new : LinkValue) (desk desk' : DeskTells)
+    (o : Opening) (setup : Setup) (calls : ℕ → ℕ → ℕ → List Call) (crew : ℕ → Post) (p : CorePass) (old new : LinkValue) (desk desk' : DeskTells)
     → (w : Worked o setup true p.number false old.ear.child p.start (seen_of p) (LoneWired p.start old.ear old.mouth) (LoneWired (seen_of p) new.ear new.mouth) desk desk')
-    → IsSameLink old.ear new.ear old.mouth new.mouth → IsWired p.start old → is_written_first p.start old.ear.child ≡ true → 0 < p.number → ((t : ℕ) → calls p.number t ≡ calls_of w.done t)
+    → IsSameLink old.ear new.ear old.mouth new.mouth → IsWired p.start old → is_written_first p.start old.ear.child ≡ true → IsThrough o (seen_of p) old.ear.child → 0 < p.number → ((t k : ℕ) → calls p.number t k ≡ calls_of w.done t k)
     → ((w : What) → makes (post_of true old.ear.child) w ≡ true → makes (crew p.number) w ≡ true)
-    → LoneEnds (HasJournalRun o setup calls) crew new p
+    → LoneEnds o (HasJournalRun o setup calls) crew new p

@@ -1,18 +1,18 @@
 // The events of a worker: a claim, and an answer.
 ghost use Rattle.std.specs.Prelude.{◌≡◌};
-ghost use Rattle.journal_model.specs.declared.entry.What.TheVariants.{Answer as Answered};
-ghost use Rattle.link_roles.specs.Doors.{Appended, IsSameDoor};
+ghost use Rattle.link_roles.specs.Doors.{IsSameDoor};
 ghost use Rattle.lone_work.specs.AtTasks.{AtTask};
-ghost use Rattle.crew_work.specs.Crews.{CanServe, HasClaimed, claimed_of};
+ghost use Rattle.crew_work.specs.Crews.{CanServe, Given, HasClaimed, claimed_of};
 
 use ann_key::NoMemory;
 use host_core::{Event, Reply};
 use journal_model::Answer;
 use link_roles::Door;
+use task_run::TaskTurn;
 
 // What a claim came to.
 pub(crate) enum Claimed {
-    Task(u32),
+    Task(TaskTurn),
     // Others hold what is left, and there may be more to do after them.
     Wait,
     // There is nothing more to do for the child.
@@ -23,13 +23,13 @@ fn claimed_of(reply: Reply) -> Claimed
     ensures { result ≡ claimed_of reply }
 {
     match reply {
-        Reply::Task(task) => Claimed::Task(task),
+        Reply::Task { task, turn } => Claimed::Task(TaskTurn { task, turn }),
         Reply::Wait => Claimed::Wait,
         _ => Claimed::Over,
     }
 }
 
-/// Claims the next task for the child.
+/// Claims the next task for the child, for the turn of it that comes next.
 pub(crate) fn claim<D: Door>(door: &mut D, child: u32) -> Claimed
     requires { CanServe (D.opening door.old) child (D.seen door.old) }
     ensures claims { HasClaimed (D.opening door.old) (D.number door.old) (D.alone door.old) child (D.seen door.old) (D.seen door.new) result }
@@ -41,10 +41,10 @@ pub(crate) fn claim<D: Door>(door: &mut D, child: u32) -> Claimed
     }
 }
 
-/// Gives the answer of a task that the door's number holds.
+/// Gives the answer of a task that the door's number holds, which may be run again in its place.
 pub(crate) fn give<D: Door>(door: &mut D, task: u32, answer: Answer)
     requires { AtTask (D.opening door.old) (D.number door.old) task (D.seen door.old) }
-    ensures given { Appended (D.opening door.old) (D.number door.old) (D.alone door.old) (D.seen door.old) (D.seen door.new) (Answered task answer) (AtTask (D.opening door.old) (D.number door.old) task) }
+    ensures given { Given (D.opening door.old) (D.number door.old) (D.alone door.old) task answer (D.seen door.old) (D.seen door.new) }
     ensures door { IsSameDoor D.opening D.number D.seen D.alone D.loans D.home door.old door.new }
 {
     let _done = door.step(Event::Answer { task, answer });

@@ -13,7 +13,7 @@ use ann_outside::Desk;
 use journal_model::Answer;
 use link_roles::Door;
 use std::alloc::Global;
-use task_run::Setup;
+use task_run::{Setup, TaskTurn};
 use task_text::Task;
 
 // The task of that number, counted from 1.
@@ -34,11 +34,11 @@ fn answer_of(outcome: Result<Answer, NoMemory>) -> Answer
     }
 }
 
-/// Runs a task that was just claimed for the child, and answers it.
+/// Runs a task that was just claimed for the child, and answers it, or leaves it to be run again.
 pub(crate) fn do_task<W: Way, D: Door, K: Desk>(
     alloc: Global,
     tasks: &[Task],
-    number: u32,
+    turn: TaskTurn,
     setup: &Setup,
     way: &mut W,
     door: &mut D,
@@ -47,13 +47,13 @@ pub(crate) fn do_task<W: Way, D: Door, K: Desk>(
     requires shared { D.alone door.old ≡ false }
     requires tasks { ((D.opening door.old).tasks ≡ tasks.now) × AreTasks tasks.now }
     requires folder { has_newline setup.now.work ≡ false }
-    requires begun { CrewBegun (D.opening door.old) (D.number door.old) (W.serves way.old) number (D.seen door.old) }
-    ensures does { CrewDoes (D.opening door.old) setup.now (W.owns way.old) (D.number door.old) (D.alone door.old) (W.serves way.old) number (D.seen door.old) (D.seen door.new) (W.wired way.old (D.seen door.old)) (W.wired way.new (D.seen door.new)) (desk_tells (K.log desk.old) (K.counts desk.old)) (desk_tells (K.log desk.new) (K.counts desk.new)) }
+    requires begun { CrewBegun (D.opening door.old) (D.number door.old) (W.serves way.old) turn (D.seen door.old) }
+    ensures does { CrewDoes (D.opening door.old) setup.now (W.owns way.old) (D.number door.old) (D.alone door.old) (W.serves way.old) turn (D.seen door.old) (D.seen door.new) (W.wired way.old (D.seen door.old)) (W.wired way.new (D.seen door.new)) (desk_tells (K.log desk.old) (K.counts desk.old)) (desk_tells (K.log desk.new) (K.counts desk.new)) }
     ensures can { CanServe (D.opening door.new) (W.serves way.new) (D.seen door.new) }
     ensures way { (W.serves way.new ≡ W.serves way.old) × (W.owns way.new ≡ W.owns way.old) × W.same way.old way.new }
     ensures door { IsSameDoor D.opening D.number D.seen D.alone D.loans D.home door.old door.new }
 {
-    let task = task_at(tasks, number);
-    let outcome = way.run(alloc, task, number, setup, door, desk);
-    give(door, number, answer_of(outcome));
+    let task = task_at(tasks, turn.task);
+    let outcome = way.run(alloc, task, turn, setup, door, desk);
+    give(door, turn.task, answer_of(outcome));
 }

@@ -37,8 +37,8 @@ fn turn<W: Way, D: Door, K: Desk>(
 {
     let child = way.child();
     match claim(door, child) {
-        Claimed::Task(number) => {
-            do_task(alloc, tasks, number, setup, way, door, desk);
+        Claimed::Task(turn) => {
+            do_task(alloc, tasks, turn, setup, way, door, desk);
             Turn::Again
         }
         Claimed::Wait => Turn::Rest,

@@ -24,7 +24,7 @@ use link_roles::{Door, Lone};
 use lone_work::LoneAsker;
 use std::alloc::Global;
 use std::sync::Wait;
-use task_run::Setup;
+use task_run::{Setup, TaskTurn};
 use task_text::Task;
 use task_works::run_task;
 
@@ -45,12 +45,12 @@ pub trait Way {
     fn child(&self) -> u32
         ensures { result ≡ serves self.now };
 
-    /// Runs a task that the door's number holds.
+    /// Runs this turn of a task that the door's number holds.
     fn run<D: Door, K: Desk>(
         &mut self,
         alloc: Global,
         task: &Task,
-        number: u32,
+        turn: TaskTurn,
         setup: &Setup,
         door: &mut D,
         desk: &mut K,
@@ -58,14 +58,14 @@ pub trait Way {
         requires shared { D.alone door.old ≡ false }
         requires task { IsTask task.now }
         requires folder { has_newline setup.now.work ≡ false }
-        requires named { task_of (D.opening door.old) number ≡ Some task.now }
-        requires at { AtTask (D.opening door.old) (D.number door.old) number (D.seen door.old) }
+        requires named { task_of (D.opening door.old) turn.task ≡ Some task.now }
+        requires at { AtTask (D.opening door.old) (D.number door.old) turn.task (D.seen door.old) }
         requires book { IsBook (D.opening door.old).notes }
         requires started { is_started (D.seen door.old) (serves self.old) ≡ true }
-        ensures ran { Ran task.now number setup.now (known_layouts (D.opening door.old) (D.seen door.old) number) (askings (D.seen door.old) number) (askings (D.seen door.new) number) (notings (D.seen door.old) number) (notings (D.seen door.new) number) (K.log desk.old) (K.log desk.new) result }
+        ensures ran { Ran task.now turn setup.now (known_layouts (D.opening door.old) (D.seen door.old) turn.task) (askings (D.seen door.old) turn.task) (askings (D.seen door.new) turn.task) (notings (D.seen door.old) turn.task) (notings (D.seen door.new) turn.task) (K.log desk.old) (K.log desk.new) result }
         ensures causes { HasTaskCauses (K.counts desk.old) (K.counts desk.new) result }
-        ensures at { AtTask (D.opening door.old) (D.number door.old) number (D.seen door.new) }
-        ensures moved { Moved (D.number door.old) (D.alone door.old) (by_task (owns self.old) (serves self.old) number) (is_of_child (serves self.old)) (D.seen door.old) (D.seen door.new) (wired self.old (D.seen door.old)) (wired self.new (D.seen door.new)) }
+        ensures at { AtTask (D.opening door.old) (D.number door.old) turn.task (D.seen door.new) }
+        ensures moved { Moved (D.number door.old) (D.alone door.old) (by_task (owns self.old) (serves self.old) turn.task) (is_of_child (serves self.old)) (D.seen door.old) (D.seen door.new) (wired self.old (D.seen door.old)) (wired self.new (D.seen door.new)) }
         ensures child { (serves self.new ≡ serves self.old) × (owns self.new ≡ owns self.old) }
         ensures same { same self.old self.new }
         ensures door { IsSameDoor D.opening D.number D.seen D.alone D.loans D.home door.old door.new };
@@ -90,7 +90,7 @@ fn run_jobs<D: Door, K: Desk, R: Wait>(
     rt: &R,
     alloc: Global,
     task: &Task,
-    number: u32,
+    turn: TaskTurn,
     setup: &Setup,
     child: u32,
     door: &mut D,
@@ -98,20 +98,20 @@ fn run_jobs<D: Door, K: Desk, R: Wait>(
 ) -> Result<Answer, NoMemory>
     requires task { IsTask task.now }
     requires folder { has_newline setup.now.work ≡ false }
-    requires named { task_of (D.opening door.old) number ≡ Some task.now }
-    requires may { MayAsk (D.opening door.old) (D.number door.old) number (D.seen door.old) }
-    ensures ran { Ran task.now number setup.now (known_layouts (D.opening door.old) (D.seen door.old) number) (askings (D.seen door.old) number) (askings (D.seen door.new) number) (notings (D.seen door.old) number) (notings (D.seen door.new) number) (K.log desk.old) (K.log desk.new) result }
+    requires named { task_of (D.opening door.old) turn.task ≡ Some task.now }
+    requires may { MayAsk (D.opening door.old) (D.number door.old) turn.task (D.seen door.old) }
+    ensures ran { Ran task.now turn setup.now (known_layouts (D.opening door.old) (D.seen door.old) turn.task) (askings (D.seen door.old) turn.task) (askings (D.seen door.new) turn.task) (notings (D.seen door.old) turn.task) (notings (D.seen door.new) turn.task) (K.log desk.old) (K.log desk.new) result }
     ensures causes { HasTaskCauses (K.counts desk.old) (K.counts desk.new) result }
-    ensures on { JobsOn (D.opening door.old) (D.number door.old) (D.alone door.old) child number (D.seen door.old) (D.seen door.new) }
+    ensures on { JobsOn (D.opening door.old) (D.number door.old) (D.alone door.old) child turn.task (D.seen door.old) (D.seen door.new) }
     ensures door { IsSameDoor D.opening D.number D.seen D.alone D.loans D.home door.old door.new }
 {
     let mut asker = JobAsker {
         rt,
         child,
         door,
-        task: number,
+        task: turn.task,
     };
-    run_task(alloc, task, number, setup, &mut asker, desk)
+    run_task(alloc, task, turn.task, turn.turn, setup, &mut asker, desk)
 }
 
 impl<'r, R: Wait> Way for Shared<'r, R> {
@@ -139,12 +139,12 @@ impl<'r, R: Wait> Way for Shared<'r, R> {
         &mut self,
         alloc: Global,
         task: &Task,
-        number: u32,
+        turn: TaskTurn,
         setup: &Setup,
         door: &mut D,
         desk: &mut K,
     ) -> Result<Answer, NoMemory> {
-        run_jobs(self.rt, alloc, task, number, setup, self.child, door, desk)
+        run_jobs(self.rt, alloc, task, turn, setup, self.child, door, desk)
     }
 }
 
@@ -174,7 +174,7 @@ impl<I: Sink, O: Source> Way for Lone<I, O> {
         &mut self,
         alloc: Global,
         task: &Task,
-        number: u32,
+        turn: TaskTurn,
         setup: &Setup,
         door: &mut D,
         desk: &mut K,
@@ -182,8 +182,8 @@ impl<I: Sink, O: Source> Way for Lone<I, O> {
         let mut asker = LoneAsker {
             link: self,
             door,
-            task: number,
+            task: turn.task,
         };
-        run_task(alloc, task, number, setup, &mut asker, desk)
+        run_task(alloc, task, turn.task, turn.turn, setup, &mut asker, desk)
     }
 }

@@ -6,7 +6,7 @@ use Rattle.journal_model.specs.declared.verdict.Why.{Why}
 use Rattle.journal_model.specs.declared.verdict.Verdict.{Verdict}
 use Rattle.journal_model.specs.declared.verdict.Verdict.TheVariants.{Ended}
 use Rattle.journal_model.specs.declared.entry.What.{What}
-use Rattle.journal_model.specs.declared.entry.What.TheVariants.{Claim, Start, NoStart, Lead, Ask, Put, Sent, Mute, Got, End, Verdict as Settled, Lost, Answer as Answered, Note as Noted}
+use Rattle.journal_model.specs.declared.entry.What.TheVariants.{Claim, Start, NoStart, Lead, Ask, Put, Sent, Mute, Got, End, Verdict as Settled, Lost, Answer as Answered, Note as Noted, Again}
 use Rattle.journal_model.specs.declared.entry.Entry.{Entry}
 use Rattle.journal_model.specs.declared.opening.Opening.{Opening}
 use Rattle.annex_model.specs.Messages.{host_reading}
@@ -106,6 +106,7 @@ group_settles o past c j by (Sent child) e = absurd cc
 group_settles o past c j by (Settled child job verdict) e = absurd cc
 group_settles o past c j by (Lost child task) e = absurd cc
 group_settles o past c j by (Answered task answer) e = absurd cc
+group_settles o past c j by (Again task answer) e = absurd cc
 group_settles o past c j by (Noted task chunk count) e = absurd cc
 
 -- ---- nothing is asked of a child that has ended
@@ -148,6 +149,7 @@ group_asks o past c by (Sent child) may e = refl
 group_asks o past c by (Settled child job verdict) may e = refl
 group_asks o past c by (Lost child task) may e = refl
 group_asks o past c by (Answered task answer) may e = refl
+group_asks o past c by (Again task answer) may e = refl
 group_asks o past c by (Noted task chunk count) may e = refl
 
 -- nor by the group that ends it
@@ -166,6 +168,7 @@ ending_asks o past c by (Sent child) e = refl
 ending_asks o past c by (Settled child job verdict) e = refl
 ending_asks o past c by (Lost child task) e = refl
 ending_asks o past c by (Answered task answer) e = refl
+ending_asks o past c by (Again task answer) e = refl
 ending_asks o past c by (Noted task chunk count) e = refl
 
 -- each job of a child that has ended is settled

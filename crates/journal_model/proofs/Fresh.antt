@@ -9,7 +9,7 @@ use Rattle.journal_model.specs.declared.verdict.Verdict.TheVariants.{Ended, Unse
 use Rattle.annex_model.specs.Lines.{has_newline}
 use Rattle.annex_model.specs.Messages.{host_reading}
 use Rattle.journal_model.specs.declared.entry.What.{What}
-use Rattle.journal_model.specs.declared.entry.What.TheVariants.{Claim, Start, NoStart, Lead, Ask, Put, Sent, Mute, Got, End, Verdict as Settled, Lost, Answer as Answered, Note as Noted}
+use Rattle.journal_model.specs.declared.entry.What.TheVariants.{Claim, Start, NoStart, Lead, Ask, Put, Sent, Mute, Got, End, Verdict as Settled, Lost, Answer as Answered, Note as Noted, Again}
 use Rattle.journal_model.specs.declared.entry.Entry.{Entry}
 use Rattle.journal_model.specs.declared.opening.Opening.{Opening}
 use Rattle.journal_model.specs.Journal.{each_of, writes, sends, starts, why_of, is_started, is_live, is_ended, is_mute, open_jobs, is_unsent, addressed, unsent, asked_jobs, is_full}
@@ -66,6 +66,7 @@ apart_why c d by (Got child line ∷ ws) n h = apart_why c d by ws n h
 apart_why c d by (Settled child job verdict ∷ ws) n h = apart_why c d by ws n h
 apart_why c d by (Lost child task ∷ ws) n h = apart_why c d by ws n h
 apart_why c d by (Answered task answer ∷ ws) n h = apart_why c d by ws n h
+apart_why c d by (Again task answer ∷ ws) n h = apart_why c d by ws n h
 apart_why c d by (Noted task chunk count ∷ ws) n h = apart_why c d by ws n h
 
 -- and no line to it
@@ -122,6 +123,7 @@ other_child o past c by (End child why) n =
 other_child o past c by (Settled child job verdict) n = record { got = refl; written = refl; covers = refl; mutes = refl; ends = refl }
 other_child o past c by (Lost child task) n = record { got = refl; written = refl; covers = refl; mutes = refl; ends = refl }
 other_child o past c by (Answered task answer) n = record { got = refl; written = refl; covers = refl; mutes = refl; ends = refl }
+other_child o past c by (Again task answer) n = record { got = refl; written = refl; covers = refl; mutes = refl; ends = refl }
 other_child o past c by (Noted task chunk count) n = record { got = refl; written = refl; covers = refl; mutes = refl; ends = refl }
 
 -- ---- a child that wasn't started
@@ -166,6 +168,7 @@ unstarted o past c by w may off n = go (concerns c w) refl
     by_kind (Settled child job verdict) may e = absurd cc
     by_kind (Lost child task) may e = absurd cc
     by_kind (Answered task answer) may e = absurd cc
+    by_kind (Again task answer) may e = absurd cc
     by_kind (Noted task chunk count) may e = absurd cc
 
     go : (b : Bool) → concerns c w ≡ b → concerns c w ≡ false

@@ -27,6 +27,13 @@ found_past p a (suc n) k pos h = go (p a) h (found_past p (a + 1) n k (omega (ar
     go true h r = (let eq : a ≡ k = cc in omega (arith, pos, eq))
     go false h r = r h
 
+-- the least free task is one
+pub free_positive : (o : Opening) (past : List Entry) (task : ℕ) (f : Option ℕ) → least_free o past ≡ f → is_number task f ≡ true → (task == 0) ≡ false
+free_positive o past task None e h = absurd cc
+free_positive o past task (Some k) e h =
+    let pos : 0 < k = found_past (is_free o past) 1 (length o.tasks) k (omega arith) e in
+    differ task 0 (λ z. omega (arith, pos, same_number k task h, z))
+
 zero_near : (o : Opening) (journal : List Entry) → Near o journal → is_claimed journal 0 ≡ false
 zero_near o journal l =
     Near-induction o (λ past. is_claimed past 0 ≡ false) refl (λ past e legal before may. step past e.by e.what before may) journal l
@@ -35,16 +42,10 @@ zero_near o journal l =
     step past by w before may =
         claimed_group o past by w 0 ∙ first w may
       where
-        number : (task : ℕ) (f : Option ℕ) → least_free o past ≡ f → is_number task f ≡ true → (task == 0) ≡ false
-        number task None e h = absurd cc
-        number task (Some k) e h =
-            let pos : 0 < k = found_past (is_free o past) 1 (length o.tasks) k (omega arith) e in
-            differ task 0 (λ z. omega (arith, pos, same_number k task h, z))
-
         first : (v : What) → may_come o past by v ≡ true → claimed_after 0 (is_claimed past 0) v ≡ false
         first (Claim task child) m =
             neither (is_claimed past 0) (task == 0) before
-            (number task (least_free o past) refl
+            (free_positive o past task (least_free o past) refl
             (both (is_number task (least_free o past)) ((child == 0 && by == 0) || (is_prepared past child && is_live past child && not (is_mute past child))) m).0)
         first (Again task answer) m = rw before refl
         first v m = before

@@ -535,6 +535,14 @@ invariant o journal legal =
       verdicts = verdicts_step o p e.by e.what inv.verdicts may;
     }) journal legal
 
+-- no more claims than tasks may be run
+pub claims_few : (o : Opening) (journal : List Entry) → Legal o journal → length (each_of claimed journal) ≤ (1 + o.again) * length o.tasks
+claims_few o journal legal =
+    let tasks = length-range_with_len 1 (length o.tasks) in
+    let claims = AtMost-length same_nat nat_is_same (each_of claimed journal) (copies (1 + o.again) (numbers_of o)) (invariant o journal legal).claims in
+    let times : length (copies (1 + o.again) (numbers_of o)) ≡ (1 + o.again) * length o.tasks = copies_long (1 + o.again) (numbers_of o) ∙ ap (λ (n : ℕ). (1 + o.again) * n) tasks in
+    omega (arith, claims, times)
+
 pub room_suffices : (o : Opening) (journal : List Entry) → Legal o journal → length journal ≤ room_of o journal
 room_suffices o journal legal =
     let inv = invariant o journal legal in

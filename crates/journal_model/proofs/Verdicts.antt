@@ -10,7 +10,7 @@ use Rattle.annex_model.specs.declared.final_line.Final.{Final}
 use Rattle.annex_model.specs.declared.final_line.Final.TheVariants.{Done}
 use Rattle.annex_model.specs.Talks.{Item}
 use Rattle.journal_model.specs.declared.entry.What.{What}
-use Rattle.journal_model.specs.declared.entry.What.TheVariants.{Claim, Start, NoStart, Lead, Ask, Put, Sent, Mute, Got, End, Verdict as Settled, Lost, Answer as Answered, Note as Noted}
+use Rattle.journal_model.specs.declared.entry.What.TheVariants.{Claim, Start, NoStart, Lead, Ask, Put, Sent, Mute, Got, End, Verdict as Settled, Lost, Answer as Answered, Note as Noted, Again}
 use Rattle.journal_model.specs.declared.entry.Entry.{Entry}
 use Rattle.journal_model.specs.declared.opening.Opening.{Opening}
 use Rattle.journal_model.specs.Journal.{first_of, on_wire, verdict_of, ends, mutes, is_ended, is_mute, is_live, is_unsent, open_jobs}
@@ -146,6 +146,7 @@ caused_group o past by (Put child job line) may = λ c k v h. absurd cc
 caused_group o past by (Sent child) may = λ c k v h. absurd cc
 caused_group o past by (Lost child task) may = λ c k v h. absurd cc
 caused_group o past by (Answered task answer) may = λ c k v h. absurd cc
+caused_group o past by (Again task answer) may = λ c k v h. absurd cc
 caused_group o past by (Noted task chunk count) may = λ c k v h. absurd cc
 
 -- ---- the journal

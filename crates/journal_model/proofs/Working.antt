@@ -281,7 +281,7 @@ takes o past by t (Settled child job verdict) pos may of = absurd cc
 
 -- ---- an entry of a task claims it, or is its holder's
 
-are_by_holder-append : (t : ℕ) (h : Option Holder) (xs ys : List Entry) → are_by_holder t h (xs ++ ys) ≡ (are_by_holder t h xs && are_by_holder t (fold (turned t) h xs) ys)
+pub are_by_holder-append : (t : ℕ) (h : Option Holder) (xs ys : List Entry) → are_by_holder t h (xs ++ ys) ≡ (are_by_holder t h xs && are_by_holder t (fold (turned t) h xs) ys)
 are_by_holder-append t h [] ys = refl
 are_by_holder-append t h (e ∷ xs) ys =
     ap (λ (b : Bool). is_by_holder t h e && b) (are_by_holder-append t (turned t h e) xs ys)

@@ -4,25 +4,26 @@ use Rattle.std.specs.Prelude.{◌&&◌, find, Result, Ok, Err}
 use Rattle.std.specs.Result.{IsOk}
 use Rattle.ann_key.specs.declared.bytes.NoMemory.{NoMemory}
 use Rattle.std.specs.List.{list_all, list_any, range_with_len}
-use Rattle.journal_model.specs.declared.entry.What.TheVariants.{Claim, Answer as Answered}
+use Rattle.journal_model.specs.declared.entry.What.TheVariants.{Claim}
 use Rattle.journal_model.specs.declared.entry.Entry.{Entry}
 use Rattle.journal_model.specs.declared.opening.Opening.{Opening}
 use Rattle.journal_model.specs.Journal.{any, is_open, is_started, starts}
-use Rattle.journal_model.specs.Legality.{Legal, both_conflict, claims, has_open_job, is_busy, is_claimed, is_free, is_held_by, is_held_for, least_free, numbers_of, task_of}
-use Rattle.journal_model.specs.Makers.{is_of_task}
-use Rattle.journal_model.proofs.Holding.{holder_append, not_true}
+use Rattle.journal_model.specs.Legality.{Legal, both_conflict, has_open_job, is_busy, is_claimed, is_free, is_held_by, is_held_for, is_run_again, least_free, numbers_of, task_of, turn_of_task}
+use Rattle.journal_model.proofs.Holding.{claimed_append, holder_append, not_true}
 use Rattle.journal_model.proofs.Idling.{claimed_positive}
 use Rattle.journal_model.proofs.Looks.{any-append, both, differ, entry, same}
-use Rattle.journal_model.proofs.Testing.{or_left, or_right}
-use Rattle.journal_model.proofs.Working.{find_holds, jobs_stay_closed, no_jobs_in, tasks_kept}
+use Rattle.journal_model.proofs.Testing.{or_left, or_true}
+use Rattle.journal_model.proofs.Working.{find_holds, idle_shut, jobs_stay_closed}
 use Rattle.host_core.specs.declared.event.Event.TheVariants.{Claim as ClaimEvent, Answer as AnswerEvent}
 use Rattle.host_core.specs.declared.event.Reply.{Reply}
 use Rattle.host_core.specs.declared.event.Reply.TheVariants.{NoTask, Done}
 use Rattle.journal_model.specs.declared.answer.Answer.{Answer}
 use Rattle.lone_work.specs.AtTasks.{AtTask}
-use Rattle.host_core.specs.Steps.{Step, step_of, claim, only, append, gone, is_gone, are_all_claimed}
+use Rattle.host_core.specs.Steps.{Step, step_of, claim, only, append, closing as closing_of, gone, is_gone, are_all_claimed}
 use Rattle.link_roles.specs.Doors.{Made, Stepped}
 use Rattle.lone_work.proofs.Serving.{idle_on, prepared_on}
+use Rattle.task_run.specs.Askings.{closing}
+use Rattle.task_run.specs.declared.turn.TaskTurn.{TaskTurn}
 use Rattle.lone_work.specs.Works.{LoneBegun, CanWork, ClaimsNext, task_in}
 
 -- ---- tasks that are free
@@ -74,22 +75,18 @@ module _ (o : Opening) (n c : ℕ) (old : List Entry) (can : CanWork o c old) wh
     positive : 0 < t
     positive =
         let new : List Entry = old ++ entry n (Claim t c) ∷ [] in
-        let named : is_claimed (entry n (Claim t c) ∷ []) t ≡ true = rw (same t) refl in
-        claimed_positive o new legal t (any-append (claims t) old (entry n (Claim t c) ∷ []) ∙ or_right (is_claimed old t) (is_claimed (entry n (Claim t c) ∷ []) t) named)
-
-    none : any (is_of_task t) old ≡ false
-    none = (tasks_kept o old can.legal).none t positive (free_unclaimed o old t least)
+        claimed_positive o new legal t (claimed_append old (entry n (Claim t c) ∷ []) t ∙ (rw (same t) (or_true (is_claimed old t))))
 
     unopened : has_open_job old t ≡ false
-    unopened = ap (list_any (λ (q : ℕ × ℕ). is_open old q.0 q.1)) (no_jobs_in t old none)
+    unopened = idle_shut o old can.legal t positive (can.rest t)
 
-    pub begins : LoneBegun o n c t (old ++ entry n (Claim t c) ∷ [])
+    pub begins : LoneBegun o n c (record { task = t; turn = turn_of_task old t }) (old ++ entry n (Claim t c) ∷ [])
     begins = record {
       past = old;
       is = refl;
       could = can;
       least = least;
-      fresh = none;
+      turn = refl;
       serves = record {
         at = record {
           legal = legal;
@@ -128,9 +125,10 @@ module _ (o : Opening) (n c : ℕ) (old : List Entry) (can : CanWork o c old) wh
       by_least : (f : Option ℕ) → least_free o old ≡ f → step_of o old n (ClaimEvent c) ≡ claim o old n c f → ClaimsNext o n c old new (task_in reply)
       by_least (Some t) least is =
           let is_new : new ≡ old ++ entry n (Claim t c) ∷ [] = grown (claim o old n c (Some t)) is in
-          let b : LoneBegun o n c t (old ++ entry n (Claim t c) ∷ []) = begins t least (subst (Legal o) is_new legal) in
+          let u : TaskTurn = record { task = t; turn = turn_of_task old t } in
+          let b : LoneBegun o n c u (old ++ entry n (Claim t c) ∷ []) = begins t least (subst (Legal o) is_new legal) in
           subst (λ (x : Reply). ClaimsNext o n c old new (task_in x)) (sym (said (claim o old n c (Some t)) is))
-          (subst (λ (x : List Entry). (w : LoneBegun o n c t x) × (w.past ≡ old)) (sym is_new) (b, refl))
+          (subst (λ (x : List Entry). (w : LoneBegun o n c u x) × (w.past ≡ old)) (sym is_new) (b, refl))
       by_least None least is =
           let all : are_all_claimed o old ≡ true = claimed_all o old can.rest (numbers_of o) least in
           let done : step_of o old n (ClaimEvent c) ≡ only NoTask = is ∙ (rw all refl) in
@@ -145,14 +143,18 @@ module _ (o : Opening) (n c : ℕ) (old : List Entry) (can : CanWork o c old) wh
 -- ---- an answer
 
 pub answers_now : {o : Opening} {n t : ℕ} {a : Bool} {old new : List Entry} {reply : Reply} (answer : Answer) → AtTask o n t old → a ≡ true → Made o n a old new (AnswerEvent t answer) reply
-    → new ≡ old ++ entry n (Answered t answer) ∷ []
+    → new ≡ old ++ entry n (closing (is_run_again o old t answer) t answer) ∷ []
 answers_now {o} {n} {t} {a} {old} {new} {reply} answer at lone m =
     let here : m.past ≡ old = m.passed.is ∙ ap (λ (l : List Entry). old ++ l) (m.passed.none lone) ∙ append-nil old in
-    let step : step_of o old n (AnswerEvent t answer) ≡ append o old n (Answered t answer) Done = rw (at.held, at.shut) refl in
-    m.is ∙ ap (λ (x : List Entry). x ++ (step_of o x n (AnswerEvent t answer)).group) here ∙ ap (λ (s : Step). old ++ s.group) step
+    let step : step_of o old n (AnswerEvent t answer) ≡ append o old n (closing_of o old t answer) Done = rw (at.held, at.shut) refl in
+    m.is ∙ ap (λ (x : List Entry). x ++ (step_of o x n (AnswerEvent t answer)).group) here ∙ ap (λ (s : Step). old ++ s.group) step ∙ by_again (is_run_again o old t answer) refl
+  where
+    by_again : (b : Bool) → is_run_again o old t answer ≡ b → old ++ (append o old n (closing_of o old t answer) Done).group ≡ old ++ entry n (closing b t answer) ∷ []
+    by_again true e = rw e refl
+    by_again false e = rw e refl
 
 -- the answer takes no memory, so it is given
 pub answers_so : {o : Opening} {n t : ℕ} {a : Bool} {old new : List Entry} (answer : Answer) (result : Result Reply NoMemory) → AtTask o n t old → a ≡ true → IsOk result
-    → Stepped o n a old new (AnswerEvent t answer) result → new ≡ old ++ entry n (Answered t answer) ∷ []
+    → Stepped o n a old new (AnswerEvent t answer) result → new ≡ old ++ entry n (closing (is_run_again o old t answer) t answer) ∷ []
 answers_so answer (Ok reply) at lone ok m = answers_now answer at lone m
 answers_so answer (Err e) at lone ok m = (let bad : false ≡ true = ok in absurd cc)

@@ -16,15 +16,15 @@ use Rattle.chunk_log.proofs.Newest.{layouts_current}
 use Rattle.task_text.specs.declared.task.Task.{Task}
 use Rattle.journal_model.specs.declared.holder.Holder.{Holder}
 use Rattle.journal_model.specs.declared.entry.What.{What}
-use Rattle.journal_model.specs.declared.entry.What.TheVariants.{Claim, Note, Answer as Answered}
+use Rattle.journal_model.specs.declared.entry.What.TheVariants.{Claim, Note, Answer as Answered, Again}
 use Rattle.journal_model.specs.declared.entry.Entry.{Entry}
 use Rattle.journal_model.specs.declared.opening.Opening.{Opening}
 use Rattle.journal_model.specs.Journal.{any, each_of, is_live, is_mute}
 use Rattle.journal_model.specs.Due.{due_after}
-use Rattle.journal_model.specs.Legality.{Legal, answers, claims, is_busy, is_claimed, is_claimed_by, is_free, is_number, least_free, numbers_of, task_of, both_conflict, conflicts, clashes, share_name, holder, turned_by, may_come, may_note, has_open_job, is_prepared}
+use Rattle.journal_model.specs.Legality.{Legal, claims, closes, is_busy, is_claimed, is_claimed_by, is_free, is_number, least_free, numbers_of, task_of, both_conflict, conflicts, clashes, share_name, holder, turned_by, may_come, may_note, has_open_job, is_prepared}
 use Rattle.journal_model.specs.Notes.{noted, note_of, with_notes, AreCurrentAt}
 use Rattle.journal_model.proofs.Looks.{entry, both, same, same_number, either_left, either_right, true_not_false, each_of-append}
-use Rattle.journal_model.proofs.Holding.{claimed, answered, due_names, holder_append, unturned, held_busy}
+use Rattle.journal_model.proofs.Holding.{claimed, closed, due_names, holder_append, unturned, held_busy}
 use Rattle.journal_model.proofs.Working.{find_holds, busy_stays, claim_busy}
 use Rattle.journal_model.proofs.Growing.{Legal-induction}
 use Rattle.journal_model.proofs.Noting.{current_of_book}
@@ -45,7 +45,7 @@ busy_before o past by w t n b = was (holder past t) w n (sym (ap is_some after) 
     after =
         holder_append past (entry by w ∷ due_after o past (entry by w)) t
         ∙ unturned t (turned_by t (holder past t) by w) (due_after o past (entry by w)) (due_names claimed (λ c j v. refl) (λ c why. refl) (λ c j l. refl) o past by w)
-        (due_names answered (λ c j v. refl) (λ c why. refl) (λ c j l. refl) o past by w)
+        (due_names closed (λ c j v. refl) (λ c why. refl) (λ c j l. refl) o past by w)
 
     left_busy : (x : Bool) (h : Option Holder) → is_some (cond x None h) ≡ true → is_some h ≡ true
     left_busy true h b = absurd cc
@@ -54,6 +54,7 @@ busy_before o past by w t n b = was (holder past t) w n (sym (ap is_some after) 
     was : (h : Option Holder) (w : What) → claims t w ≡ false → is_some (turned_by t h by w) ≡ true → is_some h ≡ true
     was h (Claim task child) n b = rw n at b
     was h (Answered task answer) n b = left_busy (task == t) h b
+    was h (Again task answer) n b = left_busy (task == t) h b
     was h w n b = b
 
 -- a task that is claimed was free
@@ -174,15 +175,15 @@ busy_keys_differ o journal l t u s r bt bu et eu k = (stands o journal l).0.diff
 
 -- ---- what others note while a task is busy
 
-others_note : (o : Opening) (past more : List Entry) (t : ℕ) (s : Task) → NotesStand o past more → is_busy past t ≡ true → any (answers t) more ≡ false → any (by_noting t) more ≡ false → task_of o t ≡ Some s
+others_note : (o : Opening) (past more : List Entry) (t : ℕ) (s : Task) → NotesStand o past more → is_busy past t ≡ true → any (closes t) more ≡ false → any (by_noting t) more ≡ false → task_of o t ≡ Some s
     → list_all (λ (n : NoteLine). not (bytes_eq n.key s.key)) (each_of (noted o) more) ≡ true
 others_note o past [] t s st b a n e = refl
 others_note o past (x ∷ more) t s st b a n e =
     by_what x.what st.0 (either_left (by_noting t x.what) (any (by_noting t) more) n)
-    (others_note o (past ++ x ∷ []) more t s st.1 (busy_stays past (x ∷ []) t b one) (either_right (answers t x.what) (any (answers t) more) a) (either_right (by_noting t x.what) (any (by_noting t) more) n) e)
+    (others_note o (past ++ x ∷ []) more t s st.1 (busy_stays past (x ∷ []) t b one) (either_right (closes t x.what) (any (closes t) more) a) (either_right (by_noting t x.what) (any (by_noting t) more) n) e)
   where
-    one : any (answers t) (x ∷ []) ≡ false
-    one = rw (either_left (answers t x.what) (any (answers t) more) a) refl
+    one : any (closes t) (x ∷ []) ≡ false
+    one = rw (either_left (closes t x.what) (any (closes t) more) a) refl
 
     by_key : (u : ℕ) (r : Task) → task_of o u ≡ Some r → NoTwo o past → is_busy past u ≡ true → (u == t) ≡ false → (k : Bool) → bytes_eq r.key s.key ≡ k → not k ≡ true
     by_key u r eu two bu d true k = absurd (apart d (two.differ u t r s bu b eu e ((bytes_eq-Decides r.key s.key).0 k)))
@@ -238,7 +239,7 @@ notes_append : (o : Opening) (past more : List Entry) → notes_after o (past ++
 notes_append o past more =
     ap (λ (l : List NoteLine). with_notes o.notes l) (each_of-append (noted o) past more) ∙ fold-append (λ b n. inserted n b) o.notes (each_of (noted o) past) (each_of (noted o) more)
 
-stay : (o : Opening) (past more : List Entry) (t : ℕ) → NotesStand o past more → is_busy past t ≡ true → any (answers t) more ≡ false → any (by_noting t) more ≡ false → known_layouts o (past ++ more) t ≡ known_layouts o past t
+stay : (o : Opening) (past more : List Entry) (t : ℕ) → NotesStand o past more → is_busy past t ≡ true → any (closes t) more ≡ false → any (by_noting t) more ≡ false → known_layouts o (past ++ more) t ≡ known_layouts o past t
 stay o past more t st b a n = by_task (task_of o t) refl
   where
     by_task : (q : Option Task) → task_of o t ≡ q → layouts_at o (past ++ more) q ≡ layouts_at o past q

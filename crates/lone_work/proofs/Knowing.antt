@@ -11,10 +11,14 @@ use Rattle.journal_model.specs.declared.entry.What.TheVariants.{Note}
 use Rattle.journal_model.specs.declared.entry.Entry.{Entry}
 use Rattle.journal_model.specs.declared.opening.Opening.{Opening}
 use Rattle.journal_model.specs.Journal.{any}
-use Rattle.journal_model.specs.Legality.{Legal, answers, holder, is_answered, is_claimed, is_claimed_by, task_of}
-use Rattle.journal_model.specs.Shares.{Moved}
-use Rattle.journal_model.proofs.Looks.{any-append, both, either_right}
-use Rattle.journal_model.proofs.Holding.{held_busy, held_unanswered}
+use Rattle.journal_model.specs.Legality.{Legal, claims, closes, holder, is_claimed_by, task_of}
+use Rattle.journal_model.specs.Shares.{Moved, makes_only}
+use Rattle.journal_model.proofs.Looks.{either_right}
+use Rattle.journal_model.proofs.Holding.{held_busy}
+use Rattle.journal_model.proofs.Testing.{neither}
+use Rattle.journal_model.proofs.Unbounded.{Within, bounds, held_positive, none_by, unbounded}
+use Rattle.link_roles.specs.Asks.{never}
+use Rattle.link_roles.proofs.Roles.{others_make}
 use Rattle.host_core.specs.declared.event.Event.TheVariants.{Layouts as LayoutsEvent}
 use Rattle.host_core.specs.declared.event.Reply.{Reply}
 use Rattle.host_core.specs.Steps.{Step, step_of, layouts_for}
@@ -47,23 +51,11 @@ none_noted j t past behind (e ∷ xs) h =
         rw p.0 (next p.1)
     by_what w h next = next h
 
--- whoever holds the task has noted nothing of it since
-pub known_stay : (o : Opening) (n t : ℕ) (old more : List Entry) → AtTask o n t old → AtTask o n t (old ++ more) → notings (old ++ more) t ≡ notings old t
+-- whoever holds the task has noted nothing of it since, where its run wasn't closed
+pub known_stay : (o : Opening) (n t : ℕ) (old more : List Entry) → AtTask o n t old → Legal o (old ++ more) → any (closes t) more ≡ false → notings (old ++ more) t ≡ notings old t
     → known_layouts o (old ++ more) t ≡ known_layouts o old t
-known_stay o n t old more before after same = layouts_stay o old more t after.legal (held_busy n (holder old t) before.held) unanswered unnoted
+known_stay o n t old more before legal unclosed same = layouts_stay o old more t legal (held_busy n (holder old t) before.held) unclosed unnoted
   where
-    turned_off : (x : Bool) → not x ≡ true → x ≡ false
-    turned_off true e = absurd cc
-    turned_off false e = refl
-
-    not_answered : is_answered (old ++ more) t ≡ false
-    not_answered =
-        turned_off (is_answered (old ++ more) t)
-        (both (is_claimed (old ++ more) t) (not (is_answered (old ++ more) t)) (sym (held_unanswered o (old ++ more) after.legal t) ∙ held_busy n (holder (old ++ more) t) after.held)).1
-
-    unanswered : any (answers t) more ≡ false
-    unanswered = either_right (any (answers t) old) (any (answers t) more) (sym (any-append (answers t) old more) ∙ not_answered)
-
     no_more : (xs ys : List Noting) → xs ++ ys ≡ xs → ys ≡ []
     no_more xs [] e = refl
     no_more xs (y ∷ ys) e = absurd (omega (arith, ap length e, length-append xs (y ∷ ys)))
@@ -73,17 +65,27 @@ known_stay o n t old more before after same = layouts_stay o old more t after.le
         none_noted (old ++ more) t old (length (askings old t)) more
         (no_more (notings old t) (notings_from (old ++ more) t old (length (askings old t)) more) (sym (notings-append old more t before.shut) ∙ same))
 
+-- a role that closes no run of a task that it holds closes none, nor do others
+unclosed_on : (o : Opening) (n t : ℕ) (makes : What → Bool) → Within makes t → (old more : List Entry) → AtTask o n t old → Legal o (old ++ more) → makes_only makes n more ≡ true → any (closes t) more ≡ false
+unclosed_on o n t makes within old more before legal own =
+    (unbounded o old more n t (held_positive o old more n t legal before.held) legal before.held
+    (none_by makes (bounds t) (λ w made. neither (claims t w) (closes t w) (within.unclaimed w made) (within.unclosed w made)) n more own)).1
+
 pub known_same : (o : Opening) (n t : ℕ) {a : Bool} {old new : List Entry} → AtTask o n t old → SameTask o n t old new → Passed n a old new → known_layouts o new t ≡ known_layouts o old t
 known_same o n t {a} {old} {new} at same p =
+    let legal = subst (Legal o) p.is same.at.legal in
     ap (λ (j : List Entry). known_layouts o j t) p.is
-    ∙ known_stay o n t old p.others at (subst (λ (j : List Entry). AtTask o n t j) p.is same.at) (ap (λ (j : List Entry). notings j t) (sym p.is) ∙ same.noted)
+    ∙ known_stay o n t old p.others at legal (unclosed_on o n t never (record { unclaimed = λ w h. absurd cc; unclosed = λ w h. absurd cc }) old p.others at legal (others_make never n p.others p.apart))
+    (ap (λ (j : List Entry). notings j t) (sym p.is) ∙ same.noted)
 
 -- a request and a note of nothing leave them
-pub known_grown : {P Q : Type 0} (o : Opening) (n t : ℕ) {a : Bool} {makes mine : What → Bool} {old new : List Entry} → AtTask o n t old → AtTask o n t new → notings new t ≡ notings old t
+pub known_grown : {P Q : Type 0} (o : Opening) (n t : ℕ) {a : Bool} {makes mine : What → Bool} {old new : List Entry} → Within makes t → AtTask o n t old → AtTask o n t new → notings new t ≡ notings old t
     → Moved n a makes mine old new P Q → known_layouts o new t ≡ known_layouts o old t
-known_grown o n t {a} {makes} {mine} {old} {new} before after same s =
+known_grown o n t {a} {makes} {mine} {old} {new} within before after same s =
+    let legal = subst (Legal o) s.is after.legal in
     ap (λ (j : List Entry). known_layouts o j t) s.is
-    ∙ known_stay o n t old s.more before (subst (λ (j : List Entry). AtTask o n t j) s.is after) (ap (λ (j : List Entry). notings j t) (sym s.is) ∙ same)
+    ∙ known_stay o n t old s.more before legal (unclosed_on o n t makes within old s.more before legal s.own)
+    (ap (λ (j : List Entry). notings j t) (sym s.is) ∙ same)
 
 noted_asked : (o : Opening) (n t : ℕ) (old new : List Entry) (name : Option (List ℕ)) (q : HostMessage) (result : Result Verdict NoMemory) → AskedFor o n t old new name q result → notings new t ≡ notings old t
 noted_asked o n t old new name q (Ok v) h = h.noted
@@ -91,22 +93,22 @@ noted_asked o n t old new name q (Err e) h = h.noted
 
 -- the same of an asker, whose door has the same opening and whose task is the same
 module _ {P Q : Type 0} (o o' : Opening) (n t u : ℕ) {a : Bool} {makes mine : What → Bool} {old new : List Entry} (same_opening : o' ≡ o) (same_task : t ≡ u)
-    (before : AtTask o n t old) (s : Moved n a makes mine old new P Q) where
+    (before : AtTask o n t old) (s : Moved n a makes mine old new P Q) (within : Within makes t) where
   known_now : known_layouts o new t ≡ known_layouts o old t → known_layouts o' new u ≡ known_layouts o old u
   known_now is =
       ap (λ (w : Opening). known_layouts w new u) same_opening
       ∙ subst (λ (k : ℕ). known_layouts o new k ≡ known_layouts o old k) same_task is
 
   pub known_asked : (name : Option (List ℕ)) (q : HostMessage) (result : Result Verdict NoMemory) → AskedFor o n t old new name q result → known_layouts o' new u ≡ known_layouts o old u
-  known_asked name q result h = known_now (known_grown o n t before (at_asked o n t old new name q result h) (noted_asked o n t old new name q result h) s)
+  known_asked name q result h = known_now (known_grown o n t within before (at_asked o n t old new name q result h) (noted_asked o n t old new name q result h) s)
 
   -- without memory nothing was noted
   pub known_noted : (chunk count : ℕ) (result : Result (Unit {0}) NoMemory) → NotedFor o n t old new chunk count result → OnErr result (known_layouts o' new u ≡ known_layouts o old u)
   known_noted chunk count (Ok done) h = tt
-  known_noted chunk count (Err e) h = known_now (known_grown o n t before h.at h.noted s)
+  known_noted chunk count (Err e) h = known_now (known_grown o n t within before h.at h.noted s)
 
   pub known_told : SameTask o n t old new → known_layouts o' new u ≡ known_layouts o old u
-  known_told h = known_now (known_grown o n t before h.at h.noted s)
+  known_told h = known_now (known_grown o n t within before h.at h.noted s)
 
 -- what the core tells
 pub told_so : (o : Opening) (n t : ℕ) {a : Bool} {old new : List Entry} {reply : Reply} → AtTask o n t old → Legal o new → Made o n a old new (LayoutsEvent t) reply

@@ -24,7 +24,8 @@ use Rattle.journal_model.proofs.Looks.{entry, same, each_of-append, settled_none
 use Rattle.journal_model.proofs.Named.{same_addressed}
 use Rattle.journal_model.proofs.PartsGrow.{and_right}
 use Rattle.journal_model.proofs.Testing.{or_left, neither, by_either, all-split}
-use Rattle.journal_model.proofs.Working.{all_asked, closed_all, held_taken, holder_apart, jobs_stay_closed, no_jobs_in, settled_closed, taken_by-append, taken_claimed, tasks_kept}
+use Rattle.journal_model.proofs.Working.{all_asked, closed_all, held_alone, holder_apart, jobs_stay_closed, no_jobs_in, settled_closed}
+use Rattle.journal_model.proofs.Unbounded.{held_positive, none_by}
 use Rattle.host_core.proofs.Wiring.{wired_text}
 use Rattle.host_core.specs.Steps.{Step, step_of, append, asking, may_request, next_job, next_on_wire}
 use Rattle.host_core.specs.declared.event.Event.TheVariants.{Note as NoteEvent}
@@ -98,10 +99,7 @@ module _ (o : Opening) (n t : ℕ) where
   pub apart : (makes : What → Bool) → ((w : What) → makes w ≡ true → is_of_task t w ≡ false) → (seen more : List Entry) → Legal o (seen ++ more)
       → is_claimed_by seen n t ≡ true → makes_only makes n more ≡ true → any (is_of_task t) more ≡ false
   apart makes none seen more legal held own =
-      let taken : is_taken_by (seen ++ more) n t ≡ true = taken_by-append seen more n t ∙ or_left (is_taken_by seen n t) (is_taken_by more n t) (held_taken seen n t held) in
-      let pos = claimed_positive o (seen ++ more) legal t (taken_claimed (seen ++ more) n t taken) in
-      let all : are_own (is_of_task t) n (seen ++ more) ≡ true = (tasks_kept o (seen ++ more) legal).own t n pos taken in
-      none_made makes (is_of_task t) none n more own (all-split (λ (e : Entry). not (is_of_task t e.what) || e.by == n) seen more all).1
+      held_alone o seen more n t (held_positive o seen more n t legal held) legal held (none_by makes (is_of_task t) none n more own)
 
   pub at_on : (past more : List Entry) → AtTask o n t past → Legal o (past ++ more) → any (is_of_task t) more ≡ false → AtTask o n t (past ++ more)
   at_on past more at legal none = record {

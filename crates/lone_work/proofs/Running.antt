@@ -1,6 +1,8 @@
--- A task that was claimed, run and answered has its run in the journal.
+-- A task that was claimed, run and answered, or left to be run again, has its run in the journal.
 use Rattle.std.proofs.Common.{◌≡◌, ℕ, ◌+◌, List, [], ◌∷◌, ◌++◌, refl, sym, ap, subst, ◌∙◌, Bool, true, false, not, ◌==◌, cond, Some, None, Option, arith, append_assoc, append-nil, length}
 use Rattle.std.specs.Prelude.{◌||◌, map, Result, Ok, Err, is_some}
+use Rattle.std.specs.List.{cons_option}
+use Rattle.std.proofs.lemmas.List.{append_cancel_left}
 use Rattle.ann_key.specs.declared.bytes.NoMemory.{NoMemory}
 use Rattle.task_text.specs.declared.task.Task.{Task}
 use Rattle.ann_outside.specs.declared.file_desk.Call.{Call}
@@ -8,48 +10,53 @@ use Rattle.ann_outside.specs.DeskCauses.{Counts}
 use Rattle.journal_model.specs.declared.answer.Answer.{Answer}
 use Rattle.journal_model.specs.declared.holder.Holder.{Holder}
 use Rattle.journal_model.specs.declared.entry.What.{What}
-use Rattle.journal_model.specs.declared.entry.What.TheVariants.{Claim, Ask, Lost, Note, Answer as Answered}
+use Rattle.journal_model.specs.declared.entry.What.TheVariants.{Claim, Note, Answer as Answered, Again}
 use Rattle.journal_model.specs.declared.entry.Entry.{Entry}
 use Rattle.journal_model.specs.declared.opening.Opening.{Opening}
-use Rattle.journal_model.specs.Journal.{any, is_started, starts}
-use Rattle.journal_model.specs.Legality.{Legal, has_open_job, holder, is_busy, task_of}
-use Rattle.journal_model.specs.Makers.{is_of_task}
+use Rattle.journal_model.specs.Journal.{any, asked_jobs, is_started, starts}
+use Rattle.journal_model.specs.Legality.{Legal, has_open_job, holder, is_busy, job_for, task_of, turn_of_task, turned_by}
 use Rattle.journal_model.specs.Notes.{AreCurrentAt}
 use Rattle.journal_model.specs.Shares.{are_by, makes_only}
-use Rattle.journal_model.proofs.Holding.{claimed, answered as answered_task, holder_append}
+use Rattle.journal_model.proofs.Holding.{claimed, closed, holder_append}
 use Rattle.journal_model.proofs.Looks.{any-append, both, entry}
 use Rattle.journal_model.proofs.Testing.{or_left}
+use Rattle.journal_model.proofs.Working.{jobs_stay_closed}
 use Rattle.task_run.specs.Askers.{Asking, Noting}
 use Rattle.task_run.specs.declared.setup.Setup.{Setup}
-use Rattle.task_run.specs.Askings.{TaskStretch, askings, askings_from, bounds_run, notings_from, run_askings, run_notings}
+use Rattle.task_run.specs.Askings.{TaskStretch, asking_of, askings, askings_from, bounds_run, closing, noting_of, notings_from, run_askings, run_notings, run_turn}
+use Rattle.task_run.specs.declared.turn.TaskTurn.{TaskTurn}
 use Rattle.task_run.specs.Ran.{Ran, HasTaskCauses, answered, behind_more}
 use Rattle.task_run.specs.Runs.{TaskRun}
-use Rattle.task_run.proofs.Askings.{asks_for, askings_from-append, askings_from-none, askings-unasked}
-use Rattle.link_roles.proofs.Linked.{any_narrower}
+use Rattle.task_run.proofs.Askings.{asks_for, askings-append, askings_from-append, askings_from-none, askings-unasked}
 use Rattle.lone_work.specs.AtTasks.{notings}
 use Rattle.lone_work.specs.KnownLayouts.{known_layouts}
 use Rattle.lone_work.specs.Servings.{HasTurn, ServesOn, by_server}
 use Rattle.lone_work.proofs.KeyNotes.{layouts_since_claim}
-use Rattle.lone_work.proofs.Noted.{notes_for, notings_from-append, notings_from-none, notings-unnoted}
-use Rattle.lone_work.proofs.Serving.{gives_none, held_on, idle_on, prepared_on, server_answers, server_claims}
+use Rattle.lone_work.proofs.Noted.{notes_for, notings-append, notings_from-append, notings_from-none, notings-unnoted}
+use Rattle.lone_work.proofs.Serving.{gives_none, held_on, idle_on, prepared_on, server_claims, server_closes}
 use Rattle.gathering.specs.JournalRuns.{JournalRun}
+use Rattle.gathering.proofs.Lasting.{run_shut}
 use Rattle.lone_work.specs.Works.{LoneBegun, CanWork, DeskTells, LoneDoes, RanFor}
 
 -- ---- entries of a task
 
-asks_of : (t : ℕ) (w : What) → asks_for t w ≡ true → is_of_task t w ≡ true
-asks_of t (Ask child job task line) h = h
-asks_of t (Lost child task) h = h
-asks_of t w h = absurd cc
-
-notes_of : (t : ℕ) (w : What) → notes_for t w ≡ true → is_of_task t w ≡ true
-notes_of t (Note task chunk count) h = h
-notes_of t w h = absurd cc
-
-server_bounds : (c t : ℕ) (w : What) → by_server c t w ≡ true → bounds_run t w ≡ false
+pub server_bounds : (c t : ℕ) (w : What) → by_server c t w ≡ true → bounds_run t w ≡ false
 server_bounds c t (Claim task child) h = absurd cc
 server_bounds c t (Answered task answer) h = absurd cc
+server_bounds c t (Again task answer) h = absurd cc
 server_bounds c t w h = refl
+
+closing_asks : (again : Bool) (t : ℕ) (answer : Answer) → asks_for t (closing again t answer) ≡ false
+closing_asks true t answer = refl
+closing_asks false t answer = refl
+
+closing_notes : (again : Bool) (t : ℕ) (answer : Answer) → notes_for t (closing again t answer) ≡ false
+closing_notes true t answer = refl
+closing_notes false t answer = refl
+
+closing_no_job : (again : Bool) (t : ℕ) (answer : Answer) → job_for t (closing again t answer) ≡ None
+closing_no_job true t answer = refl
+closing_no_job false t answer = refl
 
 -- a role that is alone, and makes none of a kind
 none_in : (makes p : What → Bool) → ((w : What) → makes w ≡ true → p w ≡ false) → (n : ℕ) (more : List Entry) → makes_only makes n more ≡ true → are_by n more ≡ true → any p more ≡ false
@@ -63,139 +70,184 @@ none_in makes p none n (e ∷ more) own by =
     go true i h = h
     go false i h = absurd cc
 
-behind_none : (notes : List Noting) → map (behind_more 0) notes ≡ notes
-behind_none [] = refl
-behind_none (note ∷ notes) =
-    let zero_more : 0 + note.behind ≡ note.behind = omega arith in
-    ap (λ (b : ℕ). record { chunk = note.chunk; count = note.count; behind = b } ∷ map (behind_more 0) notes) zero_more
-    ∙ ap (λ (l : List Noting). note ∷ l) (behind_none notes)
+-- ---- notes after more requests
+
+-- notes that are counted from another begin
+behind_again : (j : List Entry) (t : ℕ) (past : List Entry) (n behind : ℕ) (xs : List Entry) → notings_from j t past (n + behind) xs ≡ map (behind_more n) (notings_from j t past behind xs)
+behind_again j t past n behind [] = refl
+behind_again j t past n behind (e ∷ xs) =
+    let k : ℕ = length (cons_option (asking_of j t past e.what) []) in
+    let so : (n + behind) + k ≡ n + (behind + k) = omega arith in
+    ap (λ (b : ℕ). cons_option (noting_of t (n + behind) e.what) (notings_from j t (past ++ e ∷ []) b xs)) so
+    ∙ ap (cons_option (noting_of t (n + behind) e.what)) (behind_again j t (past ++ e ∷ []) n (behind + k) xs)
+    ∙ one e.what (notings_from j t (past ++ e ∷ []) (behind + k) xs)
+  where
+    by_test : (b : Bool) (chunk count : ℕ) (rest : List Noting)
+        → cons_option (cond b (Some (record { chunk = chunk; count = count; behind = n + behind })) None) (map (behind_more n) rest)
+        ≡ map (behind_more n) (cons_option (cond b (Some (record { chunk = chunk; count = count; behind = behind })) None) rest)
+    by_test true chunk count rest = refl
+    by_test false chunk count rest = refl
+
+    one : (w : What) (rest : List Noting) → cons_option (noting_of t (n + behind) w) (map (behind_more n) rest) ≡ map (behind_more n) (cons_option (noting_of t behind w) rest)
+    one (Note task chunk count) rest = by_test (task == t) chunk count rest
+    one w rest = refl
+
+same_behind : (n : ℕ) (xs ys : List Noting) → map (behind_more n) xs ≡ map (behind_more n) ys → xs ≡ ys
+same_behind n [] [] h = refl
+same_behind n [] (y ∷ ys) h = absurd cc
+same_behind n (x ∷ xs) [] h = absurd cc
+same_behind n (x ∷ xs) (y ∷ ys) h =
+    let e : behind_more n x ∷ map (behind_more n) xs ≡ behind_more n y ∷ map (behind_more n) ys = h in
+    let first : behind_more n x ≡ behind_more n y = cc in
+    let rest : map (behind_more n) xs ≡ map (behind_more n) ys = cc in
+    let chunk : x.chunk ≡ y.chunk = ap (λ (r : Noting). r.chunk) first in
+    let count : x.count ≡ y.count = ap (λ (r : Noting). r.count) first in
+    let sum : n + x.behind ≡ n + y.behind = ap (λ (r : Noting). r.behind) first in
+    let behind : x.behind ≡ y.behind = omega (arith, sum) in
+    let tail : xs ≡ ys = same_behind n xs ys rest in
+    ap (λ (k : ℕ). record { chunk = k; count = x.count; behind = x.behind } ∷ xs) chunk
+    ∙ ap (λ (k : ℕ). record { chunk = y.chunk; count = k; behind = x.behind } ∷ xs) count
+    ∙ ap (λ (k : ℕ). record { chunk = y.chunk; count = y.count; behind = k } ∷ xs) behind
+    ∙ ap (λ (l : List Noting). y ∷ l) tail
 
 -- ---- the run
 
-module _ (o : Opening) (setup : Setup) (task : Task) (n c t : ℕ) (past within : List Entry) (result : Result Answer NoMemory)
-    (is : task_of o t ≡ Some task) (fresh : any (is_of_task t) past ≡ false) where
+module _ (o : Opening) (setup : Setup) (task : Task) (n c : ℕ) (u : TaskTurn) (past within : List Entry) (again : Bool) (answer : Answer) where
   abbrev begun : List Entry
-  begun = past ++ entry n (Claim t c) ∷ []
+  begun = past ++ entry n (Claim u.task c) ∷ []
 
   abbrev came : List Entry
   came = begun ++ within
 
+  abbrev last : List Entry
+  last = entry n (closing again u.task answer) ∷ []
+
   abbrev ended : List Entry
-  ended = came ++ entry n (Answered t (answered result)) ∷ []
+  ended = came ++ last
 
-  unasked : any (asks_for t) begun ≡ false
-  unasked = any-append (asks_for t) past (entry n (Claim t c) ∷ []) ∙ ap (λ (b : Bool). b || false) (any_narrower (asks_for t) (is_of_task t) (asks_of t) past fresh)
-
-  unnoted : any (notes_for t) begun ≡ false
-  unnoted = any-append (notes_for t) past (entry n (Claim t c) ∷ []) ∙ ap (λ (b : Bool). b || false) (any_narrower (notes_for t) (is_of_task t) (notes_of t) past fresh)
-
-  -- the run asked what the journal has of the task
-  asked_all : has_open_job came t ≡ false → askings_from ended t begun within ≡ askings came t
-  asked_all shut =
-      let last : List Entry = entry n (Answered t (answered result)) ∷ [] in
-      sym (
-      sym (askings-unasked came last t shut refl)
-      ∙ askings_from-append ended t [] came last
-      ∙ append-nil (askings_from ended t [] came)
-      ∙ askings_from-append ended t [] begun within
-      ∙ ap (λ (l : List Asking). l ++ askings_from ended t begun within) (askings_from-none ended t [] begun unasked)
-      )
-
-  noted_all : has_open_job came t ≡ false → notings_from ended t begun 0 within ≡ notings came t
-  noted_all shut =
-      let last : List Entry = entry n (Answered t (answered result)) ∷ [] in
-      let none : length (askings_from ended t [] begun) ≡ 0 = ap length (askings_from-none ended t [] begun unasked) in
-      let zero_more : 0 + length (askings_from ended t [] begun) ≡ 0 = omega (arith, none) in
-      sym (
-      sym (notings-unnoted came last t shut refl)
-      ∙ notings_from-append ended t [] 0 came last
-      ∙ append-nil (notings_from ended t [] 0 came)
-      ∙ notings_from-append ended t [] 0 begun within
-      ∙ ap (λ (l : List Noting). l ++ notings_from ended t begun (0 + length (askings_from ended t [] begun)) within) (notings_from-none ended t [] 0 begun unnoted)
-      ∙ ap (λ (b : ℕ). notings_from ended t begun b within) zero_more
-      )
-
-  pub journal_run : (layouts : List (ℕ × ℕ)) (asked : List Asking) (calls : List Call) (noted : List Noting) → AreCurrentAt o past task.key layouts → askings came t ≡ askings begun t ++ asked
-      → notings came t ≡ notings begun t ++ map (behind_more (length (askings begun t))) noted → TaskRun task t setup layouts asked calls noted (answered result)
-      → has_open_job came t ≡ false → makes_only (by_server c t) n within ≡ true → are_by n within ≡ true → RanFor o setup calls n c t (answered result) ended
-  journal_run layouts asked calls noted known pairs_are notes_are ran shut own by = record { run = whole; child = refl; answer_is = refl }
+  -- the run asked what the journal has of the task more than when it was claimed
+  asked_since : (asked : List Asking) → has_open_job begun u.task ≡ false → has_open_job came u.task ≡ false → askings came u.task ≡ askings begun u.task ++ asked → askings_from ended u.task begun within ≡ asked
+  asked_since asked unopened shut pairs_are =
+      append_cancel_left (askings begun u.task) (askings_from ended u.task begun within) asked
+      (sym (askings-append begun (within ++ last) u.task unopened
+      ∙ ap (λ (x : List Asking). askings begun u.task ++ x) split)
+      ∙ ap (λ (x : List Entry). askings x u.task) (sym (append_assoc begun within last))
+      ∙ askings-unasked came last u.task shut (rw (closing_asks again u.task answer) refl)
+      ∙ pairs_are)
     where
-      run : TaskStretch ended t
+      split : askings_from (begun ++ (within ++ last)) u.task begun (within ++ last) ≡ askings_from ended u.task begun within
+      split = ap (λ (x : List Entry). askings_from x u.task begun (within ++ last)) (sym (append_assoc begun within last))
+          ∙ askings_from-append ended u.task begun within last
+          ∙ ap (λ (x : List Asking). askings_from ended u.task begun within ++ x) (askings_from-none ended u.task (begun ++ within) last (rw (closing_asks again u.task answer) refl))
+          ∙ append-nil (askings_from ended u.task begun within)
+
+  noted_since : (noted : List Noting) → has_open_job begun u.task ≡ false → has_open_job came u.task ≡ false
+      → notings came u.task ≡ notings begun u.task ++ map (behind_more (length (askings begun u.task))) noted → notings_from ended u.task begun 0 within ≡ noted
+  noted_since noted unopened shut notes_are =
+      same_behind (length (askings begun u.task)) (notings_from ended u.task begun 0 within) noted
+      (sym (behind_again ended u.task begun (length (askings begun u.task)) 0 within)
+      ∙ ap (λ (b : ℕ). notings_from ended u.task begun b within) more
+      ∙ append_cancel_left (notings begun u.task) (notings_from ended u.task begun (length (askings begun u.task)) within) (map (behind_more (length (askings begun u.task))) noted)
+      (sym (notings-append begun (within ++ last) u.task unopened
+      ∙ ap (λ (x : List Noting). notings begun u.task ++ x) split)
+      ∙ ap (λ (x : List Entry). notings x u.task) (sym (append_assoc begun within last))
+      ∙ notings-unnoted came last u.task shut (rw (closing_notes again u.task answer) refl)
+      ∙ notes_are))
+    where
+      more : length (askings begun u.task) + 0 ≡ length (askings begun u.task)
+      more = omega arith
+
+      split : notings_from (begun ++ (within ++ last)) u.task begun (length (askings begun u.task)) (within ++ last) ≡ notings_from ended u.task begun (length (askings begun u.task)) within
+      split = ap (λ (x : List Entry). notings_from x u.task begun (length (askings begun u.task)) (within ++ last)) (sym (append_assoc begun within last))
+          ∙ notings_from-append ended u.task begun (length (askings begun u.task)) within last
+          ∙ ap (λ (x : List Noting). notings_from ended u.task begun (length (askings begun u.task)) within ++ x)
+          (notings_from-none ended u.task (begun ++ within) (length (askings begun u.task) + length (askings_from ended u.task begun within)) last (rw (closing_notes again u.task answer) refl))
+          ∙ append-nil (notings_from ended u.task begun (length (askings begun u.task)) within)
+
+  -- since its claim, where no job of the task was open, the task asked and noted what its run did, and no run of it was begun or closed
+  pub journal_run : task_of o u.task ≡ Some task → turn_of_task past u.task ≡ u.turn → (layouts : List (ℕ × ℕ)) (asked : List Asking) (calls : List Call) (noted : List Noting) → AreCurrentAt o past task.key layouts
+      → askings came u.task ≡ askings begun u.task ++ asked → notings came u.task ≡ notings begun u.task ++ map (behind_more (length (askings begun u.task))) noted → TaskRun task u setup layouts asked calls noted answer
+      → has_open_job begun u.task ≡ false → has_open_job came u.task ≡ false → any (bounds_run u.task) within ≡ false → RanFor o setup calls n c u answer ended
+  journal_run is turn layouts asked calls noted known pairs_are notes_are ran unopened shut one = record { run = whole; child = refl; answer_is = refl }
+    where
+      run : TaskStretch ended u.task
       run = record {
         past = past;
         by = n;
         child = c;
         within = within;
-        answered_by = n;
-        answer = answered result;
+        closed_by = n;
+        renewed = again;
+        answer = answer;
         rest = [];
-        is = ap (λ (x : List Entry). x ++ entry n (Answered t (answered result)) ∷ []) (append_assoc past (entry n (Claim t c) ∷ []) within);
-        one = none_in (by_server c t) (bounds_run t) (server_bounds c t) n within own by;
+        is = ap (λ (x : List Entry). x ++ last) (append_assoc past (entry n (Claim u.task c) ∷ []) within);
+        one = one;
       }
 
-      none_before : askings begun t ≡ []
-      none_before = askings_from-none begun t [] begun unasked
+      of_turn : u ≡ run_turn run
+      of_turn = ap (λ (k : ℕ). record { task = u.task; turn = k }) (sym turn)
 
-      its_askings : run_askings run ≡ asked
-      its_askings = asked_all shut ∙ pairs_are ∙ ap (λ (l : List Asking). l ++ asked) none_before
-
-      its_notings : run_notings run ≡ noted
-      its_notings =
-          noted_all shut ∙ notes_are
-          ∙ ap (λ (l : List Noting). l ++ map (behind_more (length (askings begun t))) noted) (notings_from-none begun t [] 0 begun unnoted)
-          ∙ ap (λ (l : List Asking). map (behind_more (length l)) noted) none_before
-          ∙ behind_none noted
-
-      whole : JournalRun o setup calls n t ended
+      whole : JournalRun o setup calls n u.task u.turn ended
       whole = record {
         task = task;
         is = is;
         run = run;
         by_it = refl;
+        turn = turn;
         layouts = layouts;
         known = known;
-        ran = subst (λ (xs : List Asking). TaskRun task t setup layouts xs calls (run_notings run) (answered result)) (sym its_askings)
-            (subst (λ (xs : List Noting). TaskRun task t setup layouts asked calls xs (answered result)) (sym its_notings) ran);
+        ran = subst (λ (v : TaskTurn). TaskRun task v setup layouts (run_askings run) calls (run_notings run) answer) of_turn
+            (subst (λ (xs : List Asking). TaskRun task u setup layouts xs calls (run_notings run) answer) (sym (asked_since asked unopened shut pairs_are))
+            (subst (λ (xs : List Noting). TaskRun task u setup layouts asked calls xs answer) (sym (noted_since noted unopened shut notes_are)) ran));
+        shut = run_shut ended u.task run (jobs_stay_closed came last u.task (rw (closing_no_job again u.task answer) refl) shut);
       }
 
--- ---- after the answer
+-- ---- after the run
 
-module _ (o : Opening) (n c t : ℕ) (past within : List Entry) (answer : Answer) (could : CanWork o c past) (own : makes_only (by_server c t) n within ≡ true) (by : are_by n within ≡ true) where
+module _ (o : Opening) (n c t : ℕ) (past within : List Entry) (renewed : Bool) (answer : Answer) (could : CanWork o c past) (own : makes_only (by_server c t) n within ≡ true) (by : are_by n within ≡ true) where
   abbrev claimed_now : List Entry
   claimed_now = past ++ entry n (Claim t c) ∷ []
 
   abbrev ran_now : List Entry
   ran_now = claimed_now ++ within
 
-  abbrev answered_now : List Entry
-  answered_now = ran_now ++ entry n (Answered t answer) ∷ []
+  abbrev closed_now : List Entry
+  closed_now = ran_now ++ entry n (closing renewed t answer) ∷ []
 
   -- no task is busy
-  rests : (u : ℕ) → is_busy answered_now u ≡ false
-  rests u = ap is_some (holder_append ran_now (entry n (Answered t answer) ∷ []) u) ∙ go (t == u) refl
+  rests : (v : ℕ) → is_busy closed_now v ≡ false
+  rests v = ap is_some (holder_append ran_now (entry n (closing renewed t answer) ∷ []) v) ∙ by_renewed renewed
     where
-      held : holder ran_now u ≡ holder claimed_now u
-      held = held_on claimed_now within u (gives_none (by_server c t) claimed (server_claims c t) n within own by) (gives_none (by_server c t) answered_task (server_answers c t) n within own by)
+      held : holder ran_now v ≡ holder claimed_now v
+      held = held_on claimed_now within v (gives_none (by_server c t) claimed (server_claims c t) n within own by) (gives_none (by_server c t) closed (server_closes c t) n within own by)
 
-      go : (b : Bool) → (t == u) ≡ b → is_some (cond {A = Option Holder} b None (holder ran_now u)) ≡ false
+      go : (b : Bool) → (t == v) ≡ b → is_some (cond {A = Option Holder} b None (holder ran_now v)) ≡ false
       go true e = refl
-      go false e = ap is_some held ∙ ap is_some (holder_append past (entry n (Claim t c) ∷ []) u) ∙ (rw e (could.rest u))
+      go false e = ap is_some held ∙ ap is_some (holder_append past (entry n (Claim t c) ∷ []) v) ∙ (rw e (could.rest v))
 
-  pub can_again : Legal o answered_now → is_started ran_now c ≡ true → HasTurn ran_now c t → CanWork o c answered_now
+      by_renewed : (b : Bool) → is_some (turned_by v (holder ran_now v) n (closing b t answer)) ≡ false
+      by_renewed true = go (t == v) refl
+      by_renewed false = go (t == v) refl
+
+  pub can_again : Legal o closed_now → is_started ran_now c ≡ true → HasTurn ran_now c t → CanWork o c closed_now
   can_again legal started turn = record {
     legal = legal;
     number = could.number;
-    started = any-append (starts c) ran_now (entry n (Answered t answer) ∷ []) ∙ or_left (is_started ran_now c) (is_started (entry n (Answered t answer) ∷ []) c) started;
-    prepared = prepared_on ran_now (entry n (Answered t answer) ∷ []) c turn.prepared;
-    idle = idle_on ran_now (entry n (Answered t answer) ∷ []) c refl turn.idle;
+    started = any-append (starts c) ran_now (entry n (closing renewed t answer) ∷ []) ∙ or_left (is_started ran_now c) (is_started (entry n (closing renewed t answer) ∷ []) c) started;
+    prepared = prepared_on ran_now (entry n (closing renewed t answer) ∷ []) c turn.prepared;
+    idle = idle_on ran_now (entry n (closing renewed t answer) ∷ []) c (closing_asks_none renewed) turn.idle;
     rest = rests;
     book = could.book;
   }
+    where
+      closing_asks_none : (b : Bool) → asked_jobs (entry n (closing b t answer) ∷ []) c ≡ []
+      closing_asks_none true = refl
+      closing_asks_none false = refl
 
 -- ---- the whole task
 
 -- running out of memory is an answer that no refusal of the desk gives
-causes_answered : (old new : Counts) (result : Result Answer NoMemory) → HasTaskCauses old new result → HasTaskCauses old new (Ok (answered result))
+pub causes_answered : (old new : Counts) (result : Result Answer NoMemory) → HasTaskCauses old new result → HasTaskCauses old new (Ok (answered result))
 causes_answered old new (Ok answer) h = h
 causes_answered old new (Err e) h = record {
   faults_later = h.faults_later;
@@ -205,55 +257,56 @@ causes_answered old new (Err e) h = record {
   untold = λ is. h.untold refl;
 }
 
-module _ (o : Opening) (setup : Setup) (task : Task) (n c t : ℕ) (old ran new : List Entry) (desk desk' : DeskTells) (result : Result Answer NoMemory) where
-  pub does : {P Q : Type 0} (b : LoneBegun o n c t old) → task_of o t ≡ Some task → (s : ServesOn o n true c t old ran P Q)
-      → Ran task t setup (known_layouts o old t) (askings old t) (askings ran t) (notings old t) (notings ran t) desk.log desk'.log result → HasTaskCauses desk.counts desk'.counts result
-      → new ≡ ran ++ entry n (Answered t (answered result)) ∷ [] → LoneDoes o setup n c t old new desk desk'
-  does b is s r causes given = record {
+module _ (o : Opening) (setup : Setup) (task : Task) (n c : ℕ) (u : TaskTurn) (old ran new : List Entry) (desk desk' : DeskTells) (result : Result Answer NoMemory) where
+  pub does : {P Q : Type 0} (b : LoneBegun o n c u old) → task_of o u.task ≡ Some task → (s : ServesOn o n true c u.task old ran P Q)
+      → Ran task u setup (known_layouts o old u.task) (askings old u.task) (askings ran u.task) (notings old u.task) (notings ran u.task) desk.log desk'.log result → HasTaskCauses desk.counts desk'.counts result
+      → (again : Bool) → new ≡ ran ++ entry n (closing again u.task (answered result)) ∷ [] → LoneDoes o setup n c u old new desk desk'
+  does b is s r causes again given = record {
     within = s.moved.more;
+    renewed = again;
     answer = answered result;
     calls = r.calls;
-    is = new_is;
+    is = given ∙ ap (λ (x : List Entry). x ++ entry n (closing again u.task (answered result)) ∷ []) s.moved.is;
     only = s.moved.own;
     own = s.moved.lone refl;
-    run = subst (RanFor o setup r.calls n c t (answered result)) (sym (given ∙ ap (λ (x : List Entry). x ++ entry n (Answered t (answered result)) ∷ []) came)) whole;
+    run = subst (RanFor o setup r.calls n c u (answered result)) (sym (given ∙ ap (λ (x : List Entry). x ++ entry n (closing again u.task (answered result)) ∷ []) came_is)) whole;
     log_is = r.log_is;
     caused = causes_answered desk.counts desk'.counts result causes;
   }
     where
-      came : ran ≡ (b.past ++ entry n (Claim t c) ∷ []) ++ s.moved.more
-      came = s.moved.is ∙ ap (λ (x : List Entry). x ++ s.moved.more) b.is
+      came_is : ran ≡ (b.past ++ entry n (Claim u.task c) ∷ []) ++ s.moved.more
+      came_is = s.moved.is ∙ ap (λ (x : List Entry). x ++ s.moved.more) b.is
 
-      new_is : new ≡ (old ++ s.moved.more) ++ entry n (Answered t (answered result)) ∷ []
-      new_is = given ∙ ap (λ (x : List Entry). x ++ entry n (Answered t (answered result)) ∷ []) s.moved.is
+      pairs : askings ((b.past ++ entry n (Claim u.task c) ∷ []) ++ s.moved.more) u.task ≡ askings (b.past ++ entry n (Claim u.task c) ∷ []) u.task ++ r.asked
+      pairs = ap (λ (x : List Entry). askings x u.task) (sym came_is) ∙ r.pairs_are ∙ ap (λ (x : List Entry). askings x u.task ++ r.asked) b.is
 
-      pairs : askings ((b.past ++ entry n (Claim t c) ∷ []) ++ s.moved.more) t ≡ askings (b.past ++ entry n (Claim t c) ∷ []) t ++ r.asked
-      pairs = ap (λ (x : List Entry). askings x t) (sym came) ∙ r.pairs_are ∙ ap (λ (x : List Entry). askings x t ++ r.asked) b.is
-
-      notes : notings ((b.past ++ entry n (Claim t c) ∷ []) ++ s.moved.more) t ≡ notings (b.past ++ entry n (Claim t c) ∷ []) t ++ map (behind_more (length (askings (b.past ++ entry n (Claim t c) ∷ []) t))) r.noted
+      notes : notings ((b.past ++ entry n (Claim u.task c) ∷ []) ++ s.moved.more) u.task
+          ≡ notings (b.past ++ entry n (Claim u.task c) ∷ []) u.task ++ map (behind_more (length (askings (b.past ++ entry n (Claim u.task c) ∷ []) u.task))) r.noted
       notes =
-          ap (λ (x : List Entry). notings x t) (sym came) ∙ r.notes_are
-          ∙ ap (λ (x : List Entry). notings x t ++ map (behind_more (length (askings x t))) r.noted) b.is
+          ap (λ (x : List Entry). notings x u.task) (sym came_is) ∙ r.notes_are
+          ∙ ap (λ (x : List Entry). notings x u.task ++ map (behind_more (length (askings x u.task))) r.noted) b.is
 
       -- what is known of the key, since the claim
-      known : AreCurrentAt o b.past task.key (known_layouts o old t)
+      known : AreCurrentAt o b.past task.key (known_layouts o old u.task)
       known =
-          subst (λ (x : List Entry). AreCurrentAt o b.past task.key (known_layouts o x t)) (sym b.is)
-          (layouts_since_claim o b.past [] n c t task b.serves.book.order is (subst (Legal o) b.is b.serves.at.legal) refl refl)
+          subst (λ (x : List Entry). AreCurrentAt o b.past task.key (known_layouts o x u.task)) (sym b.is)
+          (layouts_since_claim o b.past [] n c u.task task b.serves.book.order is (subst (Legal o) b.is b.serves.at.legal) refl refl)
 
-      whole : RanFor o setup r.calls n c t (answered result) (((b.past ++ entry n (Claim t c) ∷ []) ++ s.moved.more) ++ entry n (Answered t (answered result)) ∷ [])
-      whole = journal_run o setup task n c t b.past s.moved.more result is b.fresh (known_layouts o old t) r.asked r.calls r.noted known pairs notes r.run
-          (subst (λ (x : List Entry). has_open_job x t ≡ false) came s.serves.at.shut) s.moved.own (s.moved.lone refl)
+      whole : RanFor o setup r.calls n c u (answered result) (((b.past ++ entry n (Claim u.task c) ∷ []) ++ s.moved.more) ++ entry n (closing again u.task (answered result)) ∷ [])
+      whole = journal_run o setup task n c u b.past s.moved.more again (answered result) is b.turn (known_layouts o old u.task) r.asked r.calls r.noted known pairs notes r.run
+          (subst (λ (x : List Entry). has_open_job x u.task ≡ false) b.is b.serves.at.shut)
+          (subst (λ (x : List Entry). has_open_job x u.task ≡ false) came_is s.serves.at.shut)
+          (none_in (by_server c u.task) (bounds_run u.task) (server_bounds c u.task) n s.moved.more s.moved.own (s.moved.lone refl))
 
-  pub again : {P Q : Type 0} (b : LoneBegun o n c t old) → (s : ServesOn o n true c t old ran P Q) → (answer : Answer)
-      → new ≡ ran ++ entry n (Answered t answer) ∷ [] → Legal o new → CanWork o c new
-  again b s answer given legal =
+  pub again : {P Q : Type 0} (b : LoneBegun o n c u old) → (s : ServesOn o n true c u.task old ran P Q) → (renewed : Bool) (answer : Answer)
+      → new ≡ ran ++ entry n (closing renewed u.task answer) ∷ [] → Legal o new → CanWork o c new
+  again b s renewed answer given legal =
       subst (CanWork o c) (sym new_is)
-      (can_again o n c t b.past s.moved.more answer b.could s.moved.own (s.moved.lone refl) (subst (Legal o) new_is legal)
-      (subst (λ (x : List Entry). is_started x c ≡ true) came s.serves.started) (subst (λ (x : List Entry). HasTurn x c t) came (s.serves.turn refl)))
+      (can_again o n c u.task b.past s.moved.more renewed answer b.could s.moved.own (s.moved.lone refl) (subst (Legal o) new_is legal)
+      (subst (λ (x : List Entry). is_started x c ≡ true) came_is s.serves.started) (subst (λ (x : List Entry). HasTurn x c u.task) came_is (s.serves.turn refl)))
     where
-      came : ran ≡ (b.past ++ entry n (Claim t c) ∷ []) ++ s.moved.more
-      came = s.moved.is ∙ ap (λ (x : List Entry). x ++ s.moved.more) b.is
+      came_is : ran ≡ (b.past ++ entry n (Claim u.task c) ∷ []) ++ s.moved.more
+      came_is = s.moved.is ∙ ap (λ (x : List Entry). x ++ s.moved.more) b.is
 
-      new_is : new ≡ ((b.past ++ entry n (Claim t c) ∷ []) ++ s.moved.more) ++ entry n (Answered t answer) ∷ []
-      new_is = given ∙ ap (λ (x : List Entry). x ++ entry n (Answered t answer) ∷ []) came
+      new_is : new ≡ ((b.past ++ entry n (Claim u.task c) ∷ []) ++ s.moved.more) ++ entry n (closing renewed u.task answer) ∷ []
+      new_is = given ∙ ap (λ (x : List Entry). x ++ entry n (closing renewed u.task answer) ∷ []) came_is

@@ -12,15 +12,16 @@ use Rattle.annex_model.specs.Turns.{turn_of}
 use Rattle.annex_model.specs.declared.turn.Turn.TheVariants.{Later}
 use Rattle.journal_model.specs.declared.verdict.Verdict.{Verdict}
 use Rattle.journal_model.specs.declared.entry.What.{What}
-use Rattle.journal_model.specs.declared.entry.What.TheVariants.{Claim, Ask, Put, Sent, Mute, Got, End, Verdict as Settled, Lost, Note, Answer as Answered}
+use Rattle.journal_model.specs.declared.entry.What.TheVariants.{Claim, Ask, Put, Sent, Mute, Got, End, Verdict as Settled, Lost, Note, Answer as Answered, Again}
 use Rattle.journal_model.specs.declared.entry.Entry.{Entry}
 use Rattle.journal_model.specs.declared.opening.Opening.{Opening}
 use Rattle.journal_model.specs.Journal.{any, asks, asked_jobs, each_of, is_settled, is_tagged, open_jobs, settles, verdict_of}
-use Rattle.journal_model.specs.Legality.{Legal, has_open_job, holder, is_busy_with, is_claimed_by, is_done, is_empty, is_greeted, is_held_for, is_in_turn, is_prepared, may_ask, may_work, prepares, suits_child}
+use Rattle.journal_model.specs.Legality.{Legal, claims, closes, has_open_job, holder, is_busy_with, is_claimed_by, is_done, is_empty, is_greeted, is_held_for, is_in_turn, is_prepared, may_ask, may_work, prepares, suits_child}
 use Rattle.journal_model.specs.Shares.{Moved, are_by, are_own, is_of_child, makes_only, by_link}
 use Rattle.journal_model.specs.Halves.{EarValue, MouthValue}
 use Rattle.link_roles.specs.Writings.{LoneWired}
-use Rattle.journal_model.proofs.Holding.{claimed, answered, holder_append, unturned}
+use Rattle.journal_model.proofs.Holding.{claimed, closed, holder_append, unturned}
+use Rattle.journal_model.proofs.Unbounded.{Within}
 use Rattle.journal_model.proofs.Looks.{both, same, differ, any-append, each_of-append, is_asked, settled_none, verdict_of-append}
 use Rattle.journal_model.proofs.Projecting.{invariant}
 use Rattle.journal_model.proofs.Testing.{or_left}
@@ -59,9 +60,29 @@ pub server_claims : (c t : ℕ) (w : What) → by_server c t w ≡ true → clai
 server_claims c t (Claim task child) h = absurd cc
 server_claims c t w h = refl
 
-pub server_answers : (c t : ℕ) (w : What) → by_server c t w ≡ true → answered w ≡ None
-server_answers c t (Answered task answer) h = absurd cc
-server_answers c t w h = refl
+pub server_closes : (c t : ℕ) (w : What) → by_server c t w ≡ true → closed w ≡ None
+server_closes c t (Answered task answer) h = absurd cc
+server_closes c t (Again task answer) h = absurd cc
+server_closes c t w h = refl
+
+-- who serves a task makes no claim of any, and closes no run of any
+unclaiming : (c t u : ℕ) (w : What) → by_server c t w ≡ true → claims u w ≡ false
+unclaiming c t u (Claim task child) h = absurd cc
+unclaiming c t u w h = refl
+
+unclosing : (c t u : ℕ) (w : What) → by_server c t w ≡ true → closes u w ≡ false
+unclosing c t u (Answered task answer) h = absurd cc
+unclosing c t u (Again task answer) h = absurd cc
+unclosing c t u w h = refl
+
+pub server_within : (c t : ℕ) → Within (by_server c t) t
+server_within c t = record { unclaimed = unclaiming c t t; unclosed = unclosing c t t }
+
+pub noting_within : (t : ℕ) → Within (by_noting t) t
+noting_within t = record { unclaimed = λ w h. unclaiming 0 t t w (note_serves 0 t w h); unclosed = λ w h. unclosing 0 t t w (note_serves 0 t w h) }
+
+pub never_within : (t : ℕ) → Within never t
+never_within t = record { unclaimed = λ w h. absurd cc; unclosed = λ w h. absurd cc }
 
 link_asks : (c : ℕ) (w : What) → by_link c w ≡ true → asks c w ≡ None
 link_asks c (Ask child job task line) h = absurd cc
@@ -121,8 +142,8 @@ prepared_on past more c h = rw (done, asked) refl
     asked : any (prepares c) (past ++ more) ≡ true
     asked = any-append (prepares c) past more ∙ or_left (any (prepares c) past) (any (prepares c) more) s.1
 
--- who holds the task stays, where it is neither claimed nor answered
-pub held_on : (past more : List Entry) (t : ℕ) → each_of claimed more ≡ [] → each_of answered more ≡ [] → holder (past ++ more) t ≡ holder past t
+-- who holds the task stays, where it is neither claimed nor closed
+pub held_on : (past more : List Entry) (t : ℕ) → each_of claimed more ≡ [] → each_of closed more ≡ [] → holder (past ++ more) t ≡ holder past t
 held_on past more t c a = holder_append past more t ∙ unturned t (holder past t) more c a
 
 settled_on : (old more : List Entry) (c k : ℕ) → is_settled old c k ≡ true → is_settled (old ++ more) c k ≡ true
@@ -191,7 +212,7 @@ module _ {n : ℕ} {old new : List Entry} (c t : ℕ) where
   turn_on lone s idle h =
       let by : are_by n s.more ≡ true = s.lone lone in
       let kept : holder (old ++ s.more) t ≡ holder old t =
-      held_on old s.more t (gives_none (by_server c t) claimed (server_claims c t) n s.more s.own by) (gives_none (by_server c t) answered (server_answers c t) n s.more s.own by) in
+      held_on old s.more t (gives_none (by_server c t) claimed (server_claims c t) n s.more s.own by) (gives_none (by_server c t) closed (server_closes c t) n s.more s.own by) in
       record {
         prepared = subst (λ (x : List Entry). is_prepared x c ≡ true) (sym s.is) (prepared_on old s.more c h.prepared);
         busy = ap (λ (x : List Entry). is_busy_with x c t) s.is ∙ ap (is_held_for c) kept ∙ h.busy;

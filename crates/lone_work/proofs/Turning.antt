@@ -5,16 +5,18 @@ use Rattle.ann_key.specs.declared.bytes.NoMemory.{NoMemory}
 use Rattle.task_text.specs.declared.task.Task.{Task}
 use Rattle.task_text.specs.TaskLines.{IsTask}
 use Rattle.journal_model.specs.declared.answer.Answer.{Answer}
-use Rattle.journal_model.specs.declared.entry.What.TheVariants.{Claim, Answer as Answered}
+use Rattle.journal_model.specs.declared.entry.What.TheVariants.{Claim}
 use Rattle.journal_model.specs.declared.entry.Entry.{Entry}
 use Rattle.journal_model.specs.declared.opening.Opening.{Opening}
 use Rattle.journal_model.specs.Halves.{EarValue, MouthValue}
 use Rattle.link_roles.specs.Writings.{LoneWired}
 use Rattle.journal_model.specs.Legality.{Legal, is_free, least_free, task_of}
 use Rattle.journal_model.proofs.Looks.{differ, entry}
-use Rattle.host_core.specs.Steps.{unclaimed}
+use Rattle.journal_model.specs.Journal.{any}
+use Rattle.journal_model.specs.Room.{claims_left}
 use Rattle.task_run.specs.declared.setup.Setup.{Setup}
-use Rattle.task_run.specs.Askings.{askings}
+use Rattle.task_run.specs.Askings.{askings, closing}
+use Rattle.task_run.specs.declared.turn.TaskTurn.{TaskTurn}
 use Rattle.task_run.specs.Ran.{Ran, HasTaskCauses, answered}
 use Rattle.link_roles.specs.Alone.{KeepsLink}
 use Rattle.link_roles.specs.Moves.{IsSameLink}
@@ -26,7 +28,7 @@ use Rattle.lone_work.specs.Servings.{Serves, ServesOn}
 use Rattle.journal_model.specs.Shares.{is_of_child}
 use Rattle.lone_work.specs.Works.{AreTasks, LoneBegun, CanWork, DeskTells, LoneDoes, Worked}
 use Rattle.lone_work.proofs.Claiming.{found_between}
-use Rattle.lone_work.proofs.Running.{does, again}
+use Rattle.lone_work.proofs.Running.{does, again as again_can}
 use Rattle.gathering.specs.Tasks.{IsThrough}
 use Rattle.lone_work.proofs.Working.{worked_both, worked_one, worked_still, fewer_left}
 
@@ -59,56 +61,62 @@ at_now {o} {p} {n} {m} {t} {seen} eo en at = subst (λ (w : Opening). AtTask w m
 pub can_now : {o p : Opening} {c d : ℕ} {seen : List Entry} → p ≡ o → d ≡ c → CanWork o c seen → CanWork p d seen
 can_now {o} {p} {c} {d} {seen} eo ec can = subst (λ (w : Opening). CanWork w d seen) (sym eo) (subst (λ (w : ℕ). CanWork o w seen) (sym ec) can)
 
-pub begun_now : {o p : Opening} {n m c d t : ℕ} {seen : List Entry} → p ≡ o → m ≡ n → d ≡ c → LoneBegun o n c t seen → LoneBegun p m d t seen
-begun_now {o} {p} {n} {m} {c} {d} {t} {seen} eo en ec b =
-    subst (λ (w : Opening). LoneBegun w m d t seen) (sym eo) (subst (λ (w : ℕ). LoneBegun o w d t seen) (sym en) (subst (λ (w : ℕ). LoneBegun o n w t seen) (sym ec) b))
+pub begun_now : {o p : Opening} {n m c d : ℕ} {u : TaskTurn} {seen : List Entry} → p ≡ o → m ≡ n → d ≡ c → LoneBegun o n c u seen → LoneBegun p m d u seen
+begun_now {o} {p} {n} {m} {c} {d} {u} {seen} eo en ec b =
+    subst (λ (w : Opening). LoneBegun w m d u seen) (sym eo) (subst (λ (w : ℕ). LoneBegun o w d u seen) (sym en) (subst (λ (w : ℕ). LoneBegun o n w u seen) (sym ec) b))
 
 -- ---- one task
 
-module _ (o : Opening) (setup : Setup) (task : Task) (n c t : ℕ) (a : Bool) (old ran new : List Entry) (desk desk' : DeskTells) (result : Result Answer NoMemory) (answer : Answer) (m : ℕ)
-    {P Q : Type 0} (lone : a ≡ true) (b : LoneBegun o n c t old) (s : ServesOn o n a c t old ran P Q) (same : m ≡ n) (is : answer ≡ answered result)
-    (given : new ≡ ran ++ record { by = m; what = Answered t answer } ∷ []) where
-  on : ServesOn o n true c t old ran P Q
-  on = subst (λ (x : Bool). ServesOn o n x c t old ran P Q) lone s
+module _ (o : Opening) (setup : Setup) (task : Task) (n c : ℕ) (u : TaskTurn) (a : Bool) (old ran new : List Entry) (desk desk' : DeskTells) (result : Result Answer NoMemory) (answer : Answer) (m : ℕ) (again : Bool)
+    {P Q : Type 0} (lone : a ≡ true) (b : LoneBegun o n c u old) (s : ServesOn o n a c u.task old ran P Q) (same : m ≡ n) (is : answer ≡ answered result)
+    (given : new ≡ ran ++ record { by = m; what = closing again u.task answer } ∷ []) where
+  on : ServesOn o n true c u.task old ran P Q
+  on = subst (λ (x : Bool). ServesOn o n x c u.task old ran P Q) lone s
 
-  given_so : new ≡ ran ++ entry n (Answered t (answered result)) ∷ []
-  given_so = given ∙ ap (λ (k : ℕ). ran ++ entry k (Answered t answer) ∷ []) same ∙ ap (λ (x : Answer). ran ++ entry n (Answered t x) ∷ []) is
+  given_so : new ≡ ran ++ entry n (closing again u.task (answered result)) ∷ []
+  given_so = given ∙ ap (λ (k : ℕ). ran ++ entry k (closing again u.task answer) ∷ []) same ∙ ap (λ (x : Answer). ran ++ entry n (closing again u.task x) ∷ []) is
 
-  pub does_so : task_of o t ≡ Some task → Ran task t setup (known_layouts o old t) (askings old t) (askings ran t) (notings old t) (notings ran t) desk.log desk'.log result → HasTaskCauses desk.counts desk'.counts result → LoneDoes o setup n c t old new desk desk'
-  does_so there r causes = does o setup task n c t old ran new desk desk' result b there on r causes given_so
+  pub does_so : task_of o u.task ≡ Some task → Ran task u setup (known_layouts o old u.task) (askings old u.task) (askings ran u.task) (notings old u.task) (notings ran u.task) desk.log desk'.log result
+      → HasTaskCauses desk.counts desk'.counts result → LoneDoes o setup n c u old new desk desk'
+  does_so there r causes = does o setup task n c u old ran new desk desk' result b there on r causes again given_so
 
   pub again_so : Legal o new → CanWork o c new
-  again_so legal = again o setup task n c t old ran new desk desk' result b on (answered result) given_so legal
+  again_so legal = again_can o setup task n c u old ran new desk desk' result b on again (answered result) given_so legal
 
 -- ---- the link
 
-module _ (n c t : ℕ) (a : Bool) (o : Opening) (old ran new : List Entry) (e e' : EarValue) (m m' : MouthValue) (number : ℕ) (answer : Answer) where
+closing_apart : (again : Bool) (t : ℕ) (answer : Answer) (number c : ℕ) → any (is_of_child c) (record { by = number; what = closing again t answer } ∷ []) ≡ false
+closing_apart true t answer number c = refl
+closing_apart false t answer number c = refl
+
+module _ (n c t : ℕ) (a : Bool) (o : Opening) (old ran new : List Entry) (e e' : EarValue) (m m' : MouthValue) (number : ℕ) (again : Bool) (answer : Answer) where
   pub link_kept : a ≡ true → e.child ≡ c → m'.child ≡ e'.child → ServesOn o n a c t old ran (LoneWired old e m) (LoneWired ran e' m') → IsSameLink e e' m m'
-      → new ≡ ran ++ record { by = number; what = Answered t answer } ∷ [] → KeepsLink old new e e' m m'
+      → new ≡ ran ++ record { by = number; what = closing again t answer } ∷ [] → KeepsLink old new e e' m m'
   link_kept lone child one s same given = record {
     wired = λ w. subst (λ (x : List Entry). LoneWired x e' m') (sym given)
-        (lone_apart ran (record { by = number; what = Answered t answer } ∷ []) e' m' one refl (s.moved.kept (by_own (is_of_child c) n s.moved.more (s.moved.lone lone)) w));
+        (lone_apart ran (record { by = number; what = closing again t answer } ∷ []) e' m' one (closing_apart again t answer number e'.child) (s.moved.kept (by_own (is_of_child c) n s.moved.more (s.moved.lone lone)) w));
     same_ear = same.0;
     same_mouth = same.1;
   }
 
 -- ---- a turn
 
-module _ (o p : Opening) (setup : Setup) (n k c d t : ℕ) (old mid new : List Entry) (desk desk' : DeskTells) (eo : p ≡ o) (en : k ≡ n) (ec : d ≡ c)
-    (b : LoneBegun o n c t mid) (from : b.past ≡ old) (done : LoneDoes p setup k d t mid new desk desk') where
-  its : LoneDoes o setup n c t mid new desk desk'
-  its = subst (λ (w : Opening). LoneDoes w setup n c t mid new desk desk') eo (subst (λ (w : ℕ). LoneDoes p setup w c t mid new desk desk') en (subst (λ (w : ℕ). LoneDoes p setup k w t mid new desk desk') ec done))
+module _ (o p : Opening) (setup : Setup) (n k c d : ℕ) (u : TaskTurn) (old mid new : List Entry) (desk desk' : DeskTells) (eo : p ≡ o) (en : k ≡ n) (ec : d ≡ c)
+    (b : LoneBegun o n c u mid) (from : b.past ≡ old) (done : LoneDoes p setup k d u mid new desk desk') where
+  its : LoneDoes o setup n c u mid new desk desk'
+  its = subst (λ (w : Opening). LoneDoes w setup n c u mid new desk desk') eo (subst (λ (w : ℕ). LoneDoes p setup w c u mid new desk desk') en (subst (λ (w : ℕ). LoneDoes p setup k w u mid new desk desk') ec done))
 
-  some : (t == 0) ≡ false
-  some = (let s : (1 ≤ t) × (t < 1 + length o.tasks) = found_between (is_free o b.past) 1 (length o.tasks) t b.least in differ t 0 (λ e. absurd (omega (arith, e, s.0))))
+  some : (u.task == 0) ≡ false
+  some = (let s : (1 ≤ u.task) × (u.task < 1 + length o.tasks) = found_between (is_free o b.past) 1 (length o.tasks) u.task b.least in differ u.task 0 (λ e. absurd (omega (arith, e, s.0))))
 
   pub worked_turn : Worked o setup n c old new desk desk'
-  worked_turn = subst (λ (x : List Entry). Worked o setup n c x new desk desk') from (worked_one o setup n c t b.past mid new desk desk' some b.is its)
+  worked_turn = subst (λ (x : List Entry). Worked o setup n c x new desk desk') from (worked_one o setup n c u b.past mid new desk desk' some b.turn b.is its)
 
-  pub fewer_turn : length (unclaimed o new) < length (unclaimed o old)
-  fewer_turn = subst (λ (x : List Entry). length (unclaimed o new) < length (unclaimed o x)) from
-      (fewer_left o b.past new (its.within ++ entry n (Answered t its.answer) ∷ []) n c t b.least
-      (its.is ∙ ap (λ (x : List Entry). (x ++ its.within) ++ entry n (Answered t its.answer) ∷ []) b.is ∙ append_assoc (b.past ++ entry n (Claim t c) ∷ []) its.within (entry n (Answered t its.answer) ∷ [])))
+  pub fewer_turn : Legal o new → claims_left o new < claims_left o old
+  fewer_turn legal = subst (λ (x : List Entry). claims_left o new < claims_left o x) from
+      (fewer_left o b.past new (its.within ++ entry n (closing its.renewed u.task its.answer) ∷ []) n c u.task legal
+      (its.is ∙ ap (λ (x : List Entry). (x ++ its.within) ++ entry n (closing its.renewed u.task its.answer) ∷ []) b.is
+      ∙ append_assoc (b.past ++ entry n (Claim u.task c) ∷ []) its.within (entry n (closing its.renewed u.task its.answer) ∷ [])))
 
 -- the claim is of no child's input or output
 pub link_claimed : (n c t : ℕ) (past old mid new : List Entry) (e e' : EarValue) (m m' : MouthValue) → m.child ≡ e.child → mid ≡ past ++ entry n (Claim t c) ∷ [] → past ≡ old
@@ -137,9 +145,9 @@ module _ (old new : List Entry) (is : new ≡ old) where
 -- ---- turn by turn
 
 module _ (o p : Opening) (setup : Setup) (n k c d : ℕ) (x y z : List Entry) (a b e : DeskTells) (eo : p ≡ o) (en : k ≡ n) (ec : d ≡ c) where
-  pub worked_then : CanWork p d y → Worked o setup n c x y a b → Worked p setup k d y z b e → Worked o setup n c x z a e
-  worked_then can s t =
-      worked_both o setup n c x y z a b e (subst (λ (w : Opening). Legal w y) eo can.legal) can.rest s
+  pub worked_then : Worked o setup n c x y a b → Worked p setup k d y z b e → Worked o setup n c x z a e
+  worked_then s t =
+      worked_both o setup n c x y z a b e s
       (subst (λ (w : Opening). Worked w setup n c y z b e) eo (subst (λ (w : ℕ). Worked p setup w c y z b e) en (subst (λ (w : ℕ). Worked p setup k w y z b e) ec t)))
 
   pub through_then : IsThrough p z d → IsThrough o z c

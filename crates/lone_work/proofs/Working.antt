@@ -1,96 +1,98 @@
 -- What a worker did, task by task.
-use Rattle.std.proofs.Common.{◌≡◌, ℕ, ◌<◌, ◌≤◌, List, [], ◌∷◌, ◌++◌, refl, sym, ap, subst, ◌∙◌, Bool, true, false, not, ◌==◌, cond, Some, None, arith, append_assoc, append-nil, length}
-use Rattle.std.specs.Prelude.{◌||◌, map, filter, find}
-use Rattle.std.specs.List.{list_all, list_any}
+use Rattle.std.proofs.Common.{◌≡◌, ℕ, ◌<◌, List, [], ◌∷◌, ◌++◌, refl, sym, ap, subst, ◌∙◌, Bool, true, false, not, ◌==◌, cond, Some, None, Option, arith, append_assoc, append-nil}
+use Rattle.std.specs.Prelude.{◌&&◌, ◌||◌, if◌then◌else◌, map}
+use Rattle.std.specs.List.{list_all, list_any, cons_option}
 use Rattle.ann_outside.specs.Calls.{Gained}
 use Rattle.ann_outside.specs.DeskCauses.{Counts}
 use Rattle.ann_outside.specs.declared.file_desk.Call.{Call}
 use Rattle.journal_model.specs.declared.answer.Answer.{Answer}
 use Rattle.journal_model.specs.declared.entry.What.{What}
-use Rattle.journal_model.specs.declared.entry.What.TheVariants.{Claim, Lead, Ask, Lost, Note, Answer as Answered}
+use Rattle.journal_model.specs.declared.entry.What.TheVariants.{Claim, Lead, Ask, Lost, Note, Answer as Answered, Again}
 use Rattle.journal_model.specs.declared.entry.Entry.{Entry}
 use Rattle.journal_model.specs.declared.opening.Opening.{Opening}
-use Rattle.journal_model.specs.Legality.{Legal, claims, is_busy, is_claimed, is_free, least_free, numbers_of}
-use Rattle.journal_model.specs.Output.{answer_in, answers_in}
+use Rattle.journal_model.specs.Legality.{Legal, claims, turn_of_task}
+use Rattle.journal_model.specs.Makers.{is_taken_by}
+use Rattle.journal_model.specs.Room.{claims_left}
 use Rattle.journal_model.specs.Shares.{are_by, by_link, makes_only}
-use Rattle.journal_model.proofs.Idling.{claimed_positive}
-use Rattle.journal_model.proofs.Looks.{any-append, both, each_of-append, entry, same, same_number}
-use Rattle.journal_model.proofs.Testing.{or_left, or_right, all-join}
-use Rattle.journal_model.proofs.Working.{idle_shut}
-use Rattle.host_core.specs.Steps.{unclaimed}
+use Rattle.journal_model.proofs.ClaimsLeft.{claims_left_less}
+use Rattle.journal_model.proofs.Looks.{both, either_left, either_right, entry, same, same_number}
+use Rattle.journal_model.proofs.Testing.{all-join, neither}
 use Rattle.task_run.specs.declared.setup.Setup.{Setup}
+use Rattle.task_run.specs.declared.turn.TaskTurn.{TaskTurn}
+use Rattle.task_run.specs.Askings.{closing}
 use Rattle.fetch_copy.proofs.CopyLaws.{gained_nothing, gained_more}
 use Rattle.lone_work.specs.Servings.{by_server}
-use Rattle.lone_work.proofs.Serving.{gives_none}
-use Rattle.gathering.specs.JournalRuns.{JournalRun}
+use Rattle.gathering.specs.Tasks.{claimed_turn, turns_by}
 use Rattle.gathering.proofs.Lasting.{run_stays}
-use Rattle.lone_work.specs.Works.{AllRan, CausedInTurn, DeskTells, LoneDoes, RanFor, TaskDone, Worked, all_calls, by_worker, claimed_task, claims_in, ends_answered}
-use Rattle.lone_work.proofs.Claiming.{free_unclaimed}
+use Rattle.gathering.proofs.Turning.{turns_by-append}
+use Rattle.lone_work.specs.Works.{AllRan, CausedInTurn, DeskTells, LoneDoes, RanFor, TaskDone, Worked, all_calls, by_worker, ends_closed, is_closing, turns_of}
 
 -- ---- lists
 
-calls_both : (xs ys : List TaskDone) → all_calls (xs ++ ys) ≡ all_calls xs ++ all_calls ys
+pub calls_both : (xs ys : List TaskDone) → all_calls (xs ++ ys) ≡ all_calls xs ++ all_calls ys
 calls_both [] ys = refl
 calls_both (r ∷ xs) ys = ap (λ (l : List Call). r.calls ++ l) (calls_both xs ys) ∙ sym (append_assoc r.calls (all_calls xs) (all_calls ys))
 
-tasks_both : (xs ys : List TaskDone) → map (λ (r : TaskDone). r.task) (xs ++ ys) ≡ map (λ (r : TaskDone). r.task) xs ++ map (λ (r : TaskDone). r.task) ys
-tasks_both [] ys = refl
-tasks_both (r ∷ xs) ys = ap (λ (l : List ℕ). r.task ∷ l) (tasks_both xs ys)
+pub turns_both : (xs ys : List TaskDone) → turns_of (xs ++ ys) ≡ turns_of xs ++ turns_of ys
+turns_both [] ys = refl
+turns_both (r ∷ xs) ys = ap (λ (l : List (ℕ × ℕ)). (r.task, r.turn) ∷ l) (turns_both xs ys)
 
-abbrev told : TaskDone → ℕ × Answer
-told r = (r.task, r.answer)
+-- entries of a role that claims nothing, by its number, claim nothing by it
+pub turns_by-none : (makes : What → Bool) → ((past : List Entry) (w : What) → makes w ≡ true → claimed_turn past w ≡ None) → (n : ℕ) (past xs : List Entry) → makes_only makes n xs ≡ true
+    → turns_by n past xs ≡ []
+turns_by-none makes none n past [] own = refl
+turns_by-none makes none n past (e ∷ xs) own =
+    let s : ((not (e.by == n) || makes e.what) ≡ true) × (makes_only makes n xs ≡ true) = both (not (e.by == n) || makes e.what) (makes_only makes n xs) own in
+    ap (λ (o : Option (ℕ × ℕ)). cons_option o (turns_by n (past ++ e ∷ []) xs)) (go (e.by == n) s.0) ∙ turns_by-none makes none n (past ++ e ∷ []) xs s.1
+  where
+    go : (b : Bool) → (not b || makes e.what) ≡ true → (if b then claimed_turn past e.what else None) ≡ None
+    go true h = none past e.what h
+    go false h = refl
 
-answers_both : (xs ys : List TaskDone) → map told (xs ++ ys) ≡ map told xs ++ map told ys
-answers_both [] ys = refl
-answers_both (r ∷ xs) ys = ap (λ (l : List (ℕ × Answer)). (r.task, r.answer) ∷ l) (answers_both xs ys)
+-- a task of which no turn was taken is not taken
+pub turns_untaken : (n v : ℕ) (past xs : List Entry) → list_any (λ (u : ℕ × ℕ). u.0 == v) (turns_by n past xs) ≡ false → is_taken_by xs n v ≡ false
+turns_untaken n v past [] h = refl
+turns_untaken n v past (e ∷ xs) h = go (e.by == n) e.what h (turns_untaken n v (past ++ e ∷ []) xs)
+  where
+    go : (b : Bool) (w : What) → list_any (λ (u : ℕ × ℕ). u.0 == v) (cons_option (cond b (claimed_turn past w) None) (turns_by n (past ++ e ∷ []) xs)) ≡ false
+        → (list_any (λ (u : ℕ × ℕ). u.0 == v) (turns_by n (past ++ e ∷ []) xs) ≡ false → is_taken_by xs n v ≡ false) → ((b && claims v w) || is_taken_by xs n v) ≡ false
+    go false w k r = r k
+    go true (Claim task child) k r = neither (task == v) (is_taken_by xs n v) (either_left (task == v) (list_any (λ (u : ℕ × ℕ). u.0 == v) (turns_by n (past ++ e ∷ []) xs)) k)
+        (r (either_right (task == v) (list_any (λ (u : ℕ × ℕ). u.0 == v) (turns_by n (past ++ e ∷ []) xs)) k))
+    go true w k r = r k
 
--- an answer is the last of what stands after others
-pub ends_behind : (xs : List Entry) (y : Entry) (ys : List Entry) → ends_answered (y ∷ ys) ≡ true → ends_answered (xs ++ y ∷ ys) ≡ true
+-- what closes a run is the last of what stands after others
+pub ends_behind : (xs : List Entry) (y : Entry) (ys : List Entry) → ends_closed (y ∷ ys) ≡ true → ends_closed (xs ++ y ∷ ys) ≡ true
 ends_behind [] y ys h = h
 ends_behind (x ∷ []) y ys h = h
 ends_behind (x ∷ z ∷ xs) y ys h = ends_behind (z ∷ xs) y ys h
 
-ends_both : (xs ys : List Entry) → ends_answered xs ≡ true → ends_answered ys ≡ true → ends_answered (xs ++ ys) ≡ true
-ends_both xs [] h k = ap ends_answered (append-nil xs) ∙ h
+ends_both : (xs ys : List Entry) → ends_closed xs ≡ true → ends_closed ys ≡ true → ends_closed (xs ++ ys) ≡ true
+ends_both xs [] h k = ap ends_closed (append-nil xs) ∙ h
 ends_both xs (y ∷ ys) h k = ends_behind xs y ys k
 
-caused_both : (a b d : Counts) (xs ys : List TaskDone) → CausedInTurn a xs b → CausedInTurn b ys d → CausedInTurn a (xs ++ ys) d
+pub caused_both : (a b d : Counts) (xs ys : List TaskDone) → CausedInTurn a xs b → CausedInTurn b ys d → CausedInTurn a (xs ++ ys) d
 caused_both a b d [] ys h k = subst (λ (w : Counts). CausedInTurn w ys d) h k
 caused_both a b d (r ∷ xs) ys h k = (h.0, caused_both r.counts b d xs ys h.1 k)
 
-ran_both : (o : Opening) (setup : Setup) (n c : ℕ) (journal : List Entry) (xs ys : List TaskDone) → AllRan o setup n c journal xs → AllRan o setup n c journal ys → AllRan o setup n c journal (xs ++ ys)
+pub ran_both : (o : Opening) (setup : Setup) (n c : ℕ) (journal : List Entry) (xs ys : List TaskDone) → AllRan o setup n c journal xs → AllRan o setup n c journal ys → AllRan o setup n c journal (xs ++ ys)
 ran_both o setup n c journal [] ys h k = k
 ran_both o setup n c journal (r ∷ xs) ys h k = (h.0, ran_both o setup n c journal xs ys h.1 k)
 
 -- ---- what stays
 
--- a task that has a run was claimed
-ran_claimed : (o : Opening) (setup : Setup) (calls : List Call) (n t : ℕ) (journal : List Entry) → JournalRun o setup calls n t journal → is_claimed journal t ≡ true
-ran_claimed o setup calls n t journal r =
-    let head : List Entry = r.run.past ++ entry r.run.by (Claim t r.run.child) ∷ r.run.within in
-    let tail : List Entry = entry r.run.answered_by (Answered t r.run.answer) ∷ r.run.rest in
-    let begun : is_claimed (entry r.run.by (Claim t r.run.child) ∷ r.run.within) t ≡ true = rw (same t) refl in
-    ap (λ (x : List Entry). is_claimed x t) r.run.is
-    ∙ any-append (claims t) head tail
-    ∙ or_left (is_claimed head t) (is_claimed tail t)
-    (any-append (claims t) r.run.past (entry r.run.by (Claim t r.run.child) ∷ r.run.within)
-    ∙ or_right (is_claimed r.run.past t) (is_claimed (entry r.run.by (Claim t r.run.child) ∷ r.run.within) t) begun)
-
--- a run so far stays while no task is busy
-pub run_lasts : (o : Opening) (setup : Setup) (calls : List Call) (n c t : ℕ) (answer : Answer) (past more : List Entry) → Legal o past → ((t : ℕ) → is_busy past t ≡ false)
-    → RanFor o setup calls n c t answer past → RanFor o setup calls n c t answer (past ++ more)
-run_lasts o setup calls n c t answer past more legal rest h =
-    let pos : 0 < t = claimed_positive o past legal t (ran_claimed o setup calls n t past h.run) in
-    let still = run_stays o setup calls n t past more (idle_shut o past legal t pos (rest t)) h.run in
+-- a run so far stays
+pub run_lasts : (o : Opening) (setup : Setup) (calls : List Call) (n c : ℕ) (u : TaskTurn) (answer : Answer) (past more : List Entry) → RanFor o setup calls n c u answer past → RanFor o setup calls n c u answer (past ++ more)
+run_lasts o setup calls n c u answer past more h =
+    let still = run_stays o setup calls n u.task u.turn past more h.run in
     record { run = still.0; child = still.1 ∙ h.child; answer_is = still.2 ∙ h.answer_is }
 
 -- and so does each
-pub runs_last : (o : Opening) (setup : Setup) (n c : ℕ) (past more : List Entry) (runs : List TaskDone) → Legal o past → ((t : ℕ) → is_busy past t ≡ false)
-    → AllRan o setup n c past runs → AllRan o setup n c (past ++ more) runs
-runs_last o setup n c past more [] legal rest h = tt
-runs_last o setup n c past more (r ∷ runs) legal rest h = (
-  run_lasts o setup r.calls n c r.task r.answer past more legal rest h.0,
-  runs_last o setup n c past more runs legal rest h.1,
+pub runs_last : (o : Opening) (setup : Setup) (n c : ℕ) (past more : List Entry) (runs : List TaskDone) → AllRan o setup n c past runs → AllRan o setup n c (past ++ more) runs
+runs_last o setup n c past more [] h = tt
+runs_last o setup n c past more (r ∷ runs) h = (
+  run_lasts o setup r.calls n c (record { task = r.task; turn = r.turn }) r.answer past more h.0,
+  runs_last o setup n c past more runs h.1,
 )
 
 -- ---- one thing after another
@@ -105,26 +107,22 @@ module _ (o : Opening) (setup : Setup) (n c : ℕ) where
     last = refl;
     done = [];
     claimed = refl;
-    answered = refl;
     ran = tt;
     log_is = gained_nothing desk.log;
     caused = refl;
   }
 
-  pub worked_both : (x y z : List Entry) (a b d : DeskTells) → Legal o y → ((t : ℕ) → is_busy y t ≡ false)
-      → Worked o setup n c x y a b → Worked o setup n c y z b d → Worked o setup n c x z a d
-  worked_both x y z a b d legal rest s k = record {
+  pub worked_both : (x y z : List Entry) (a b d : DeskTells) → Worked o setup n c x y a b → Worked o setup n c y z b d → Worked o setup n c x z a d
+  worked_both x y z a b d s k = record {
     more = s.more ++ k.more;
     is = k.is ∙ ap (λ (l : List Entry). l ++ k.more) s.is ∙ append_assoc x s.more k.more;
     only = all-join (λ (e : Entry). by_worker c e.what) s.more k.more s.only k.only;
     own = all-join (λ (e : Entry). e.by == n) s.more k.more s.own k.own;
     last = ends_both s.more k.more s.last k.last;
     done = s.done ++ k.done;
-    claimed = tasks_both s.done k.done ∙ ap (λ (l : List ℕ). l ++ map (λ (r : TaskDone). r.task) k.done) s.claimed
-        ∙ ap (λ (l : List ℕ). claims_in s.more ++ l) k.claimed ∙ sym (each_of-append claimed_task s.more k.more);
-    answered = answers_both s.done k.done ∙ ap (λ (l : List (ℕ × Answer)). l ++ map told k.done) s.answered
-        ∙ ap (λ (l : List (ℕ × Answer)). answers_in s.more ++ l) k.answered ∙ sym (each_of-append answer_in s.more k.more);
-    ran = ran_both o setup n c z s.done k.done (subst (λ (j : List Entry). AllRan o setup n c j s.done) (sym k.is) (runs_last o setup n c y k.more s.done legal rest s.ran)) k.ran;
+    claimed = turns_both s.done k.done ∙ ap (λ (l : List (ℕ × ℕ)). l ++ turns_of k.done) s.claimed
+        ∙ ap (λ (l : List (ℕ × ℕ)). turns_by n x s.more ++ l) (k.claimed ∙ ap (λ (p : List Entry). turns_by n p k.more) s.is) ∙ sym (turns_by-append n x s.more k.more);
+    ran = ran_both o setup n c z s.done k.done (subst (λ (j : List Entry). AllRan o setup n c j s.done) (sym k.is) (runs_last o setup n c y k.more s.done s.ran)) k.ran;
     log_is = subst (Gained a.log d.log) (sym (calls_both s.done k.done)) (gained_more a.log b.log d.log (all_calls s.done) (all_calls k.done) s.log_is k.log_is);
     caused = caused_both a.counts b.counts d.counts s.done k.done s.caused k.caused;
   }
@@ -138,6 +136,7 @@ link_works c (Ask child job task line) h = absurd cc
 link_works c (Lost child task) h = absurd cc
 link_works c (Note task chunk count) h = absurd cc
 link_works c (Answered task answer) h = absurd cc
+link_works c (Again task answer) h = absurd cc
 link_works c w h = h
 
 -- who serves a task that is one works
@@ -153,6 +152,7 @@ server_works c t some (Lost child task) h =
 server_works c t some (Note task chunk count) h = refl
 server_works c t some (Claim task child) h = absurd cc
 server_works c t some (Answered task answer) h = absurd cc
+server_works c t some (Again task answer) h = absurd cc
 server_works c t some w h = h
 
 all_made : (makes p : What → Bool) → ((w : What) → makes w ≡ true → p w ≡ true) → (n : ℕ) (more : List Entry) → makes_only makes n more ≡ true → are_by n more ≡ true → list_all (λ (e : Entry). p e.what) more ≡ true
@@ -166,99 +166,53 @@ all_made makes p wide n (e ∷ more) own by =
     go true i h = h
     go false i h = absurd cc
 
-server_claims_none : (c t : ℕ) (w : What) → by_server c t w ≡ true → claimed_task w ≡ None
-server_claims_none c t (Claim task child) h = absurd cc
-server_claims_none c t w h = refl
+server_claims_none : (c t : ℕ) (past : List Entry) (w : What) → by_server c t w ≡ true → claimed_turn past w ≡ None
+server_claims_none c t past (Claim task child) h = absurd cc
+server_claims_none c t past w h = refl
 
-server_answers_none : (c t : ℕ) (w : What) → by_server c t w ≡ true → answer_in w ≡ None
-server_answers_none c t (Answered task answer) h = absurd cc
-server_answers_none c t w h = refl
+closing_works : (c : ℕ) (renewed : Bool) (t : ℕ) (answer : Answer) → by_worker c (closing renewed t answer) ≡ true
+closing_works c true t answer = refl
+closing_works c false t answer = refl
 
-module _ (o : Opening) (setup : Setup) (n c t : ℕ) (past old new : List Entry) (desk desk' : DeskTells) where
-  pub worked_one : (t == 0) ≡ false → old ≡ past ++ entry n (Claim t c) ∷ [] → LoneDoes o setup n c t old new desk desk' → Worked o setup n c past new desk desk'
-  worked_one some is d = record {
+closing_closes : (renewed : Bool) (t : ℕ) (answer : Answer) → is_closing (closing renewed t answer) ≡ true
+closing_closes true t answer = refl
+closing_closes false t answer = refl
+
+closing_claims : (past : List Entry) (renewed : Bool) (t : ℕ) (answer : Answer) → claimed_turn past (closing renewed t answer) ≡ None
+closing_claims past true t answer = refl
+closing_claims past false t answer = refl
+
+module _ (o : Opening) (setup : Setup) (n c : ℕ) (u : TaskTurn) (past old new : List Entry) (desk desk' : DeskTells) where
+  pub worked_one : (u.task == 0) ≡ false → turn_of_task past u.task ≡ u.turn → old ≡ past ++ entry n (Claim u.task c) ∷ [] → LoneDoes o setup n c u old new desk desk' → Worked o setup n c past new desk desk'
+  worked_one some turn is d = record {
     more = one ++ (d.within ++ last);
     is = d.is ∙ ap (λ (x : List Entry). (x ++ d.within) ++ last) is ∙ append_assoc (past ++ one) d.within last ∙ append_assoc past one (d.within ++ last);
-    only = rw (same c) (all-join (λ (e : Entry). by_worker c e.what) d.within last (all_made (by_server c t) (by_worker c) (server_works c t some) n d.within d.only d.own) refl);
+    only = rw (same c) (all-join (λ (e : Entry). by_worker c e.what) d.within last (all_made (by_server c u.task) (by_worker c) (server_works c u.task some) n d.within d.only d.own) (rw (closing_works c d.renewed u.task d.answer) refl));
     own = rw (same n) (all-join (λ (e : Entry). e.by == n) d.within last d.own (rw (same n) refl));
-    last = ends_behind (one ++ d.within) (entry n (Answered t d.answer)) [] refl;
-    done = record { task = t; calls = d.calls; answer = d.answer; counts = desk'.counts } ∷ [];
-    claimed = sym (ap (λ (l : List ℕ). t ∷ l) (each_of-append claimed_task d.within last ∙ ap (λ (l : List ℕ). l ++ []) (gives_none (by_server c t) claimed_task (server_claims_none c t) n d.within d.only d.own)));
-    answered = sym (each_of-append answer_in d.within last ∙ ap (λ (l : List (ℕ × Answer)). l ++ (t, d.answer) ∷ []) (gives_none (by_server c t) answer_in (server_answers_none c t) n d.within d.only d.own));
+    last = ends_behind (one ++ d.within) (entry n (closing d.renewed u.task d.answer)) [] (closing_closes d.renewed u.task d.answer);
+    done = record { task = u.task; turn = u.turn; calls = d.calls; answer = d.answer; counts = desk'.counts } ∷ [];
+    claimed = sym (rw (same n) (ap (λ (k : ℕ). (u.task, k) ∷ turns_by n (past ++ one) (d.within ++ last)) turn ∙ ap (λ (l : List (ℕ × ℕ)). (u.task, u.turn) ∷ l) none_later));
     ran = (d.run, tt);
     log_is = subst (Gained desk.log desk'.log) (sym (append-nil d.calls)) d.log_is;
     caused = (d.caused, refl);
   }
     where
       one : List Entry
-      one = entry n (Claim t c) ∷ []
+      one = entry n (Claim u.task c) ∷ []
 
       last : List Entry
-      last = entry n (Answered t d.answer) ∷ []
+      last = entry n (closing d.renewed u.task d.answer) ∷ []
 
--- ---- fewer tasks are left
+      none_later : turns_by n (past ++ one) (d.within ++ last) ≡ []
+      none_later =
+          turns_by-append n (past ++ one) d.within last
+          ∙ ap (λ (l : List (ℕ × ℕ)). l ++ turns_by n ((past ++ one) ++ d.within) last) (turns_by-none (by_server c u.task) (server_claims_none c u.task) n (past ++ one) d.within d.only)
+          ∙ (rw (same n, closing_claims ((past ++ one) ++ d.within) d.renewed u.task d.answer) refl)
 
-pub filter_fewer : (p q : ℕ → Bool) → ((x : ℕ) → q x ≡ true → p x ≡ true) → (xs : List ℕ) → length (filter q xs) ≤ length (filter p xs)
-filter_fewer p q sub [] = omega arith
-filter_fewer p q sub (x ∷ xs) = go (p x) (q x) refl refl (filter_fewer p q sub xs)
-  where
-    go : (a b : Bool) → p x ≡ a → q x ≡ b → length (filter q xs) ≤ length (filter p xs) → length (cond b (x ∷ filter q xs) (filter q xs)) ≤ length (cond a (x ∷ filter p xs) (filter p xs))
-    go true true e f r = omega (arith, r)
-    go true false e f r = omega (arith, r)
-    go false true e f r = (let bad : false ≡ true = sym e ∙ sub x f in absurd cc)
-    go false false e f r = r
+-- ---- fewer claims are left
 
-filter_less : (p q : ℕ → Bool) → ((x : ℕ) → q x ≡ true → p x ≡ true) → (t : ℕ) → p t ≡ true → q t ≡ false → (xs : List ℕ) → list_any (λ (x : ℕ). x == t) xs ≡ true
-    → length (filter q xs) < length (filter p xs)
-filter_less p q sub t is isnt [] h = absurd cc
-filter_less p q sub t is isnt (x ∷ xs) h = by_here (x == t) refl h (filter_less p q sub t is isnt xs)
-  where
-    step : (a b : Bool) → p x ≡ a → q x ≡ b → length (filter q xs) < length (filter p xs) → length (cond b (x ∷ filter q xs) (filter q xs)) < length (cond a (x ∷ filter p xs) (filter p xs))
-    step true true e f less = omega (arith, less)
-    step true false e f less = omega (arith, less)
-    step false true e f less = (let bad : false ≡ true = sym e ∙ sub x f in absurd cc)
-    step false false e f less = less
-
-    by_here : (b : Bool) → (x == t) ≡ b → (b || list_any (λ (x : ℕ). x == t) xs) ≡ true → (list_any (λ (x : ℕ). x == t) xs ≡ true → length (filter q xs) < length (filter p xs))
-        → length (filter q (x ∷ xs)) < length (filter p (x ∷ xs))
-    by_here true e k r =
-        let here : x ≡ t = same_number x t e in
-        let a : p x ≡ true = ap p here ∙ is in
-        let b : q x ≡ false = ap q here ∙ isnt in
-        rw (a, b) (omega (arith, filter_fewer p q sub xs))
-    by_here false e k r = step (p x) (q x) refl refl (r k)
-
-found_in : (p : ℕ → Bool) (xs : List ℕ) (t : ℕ) → find p xs ≡ Some t → list_any (λ (x : ℕ). x == t) xs ≡ true
-found_in p [] t h = absurd cc
-found_in p (x ∷ xs) t h = go (p x) h (found_in p xs t)
-  where
-    go : (b : Bool) → cond b (Some x) (find p xs) ≡ Some t → (find p xs ≡ Some t → list_any (λ (x : ℕ). x == t) xs ≡ true) → ((x == t) || list_any (λ (x : ℕ). x == t) xs) ≡ true
-    go true k r = (let e : x ≡ t = cc in or_left (x == t) (list_any (λ (x : ℕ). x == t) xs) (subst (λ (y : ℕ). (x == y) ≡ true) e (same x)))
-    go false k r = or_right (x == t) (list_any (λ (x : ℕ). x == t) xs) (r k)
-
-pub fewer_left : (o : Opening) (past new more : List Entry) (n c t : ℕ) → least_free o past ≡ Some t → new ≡ (past ++ entry n (Claim t c) ∷ []) ++ more
-    → length (unclaimed o new) < length (unclaimed o past)
-fewer_left o past new more n c t least is =
-    filter_less (λ (u : ℕ). not (is_claimed past u)) (λ (u : ℕ). not (is_claimed new u)) sub t yes no (numbers_of o) (found_in (is_free o past) (numbers_of o) t least)
-  where
-    one : List Entry
-    one = entry n (Claim t c) ∷ []
-
-    grown : (u : ℕ) → is_claimed new u ≡ (is_claimed past u || is_claimed one u) || is_claimed more u
-    grown u = ap (λ (x : List Entry). is_claimed x u) is ∙ any-append (claims u) (past ++ one) more ∙ ap (λ (b : Bool). b || is_claimed more u) (any-append (claims u) past one)
-
-    sub : (u : ℕ) → not (is_claimed new u) ≡ true → not (is_claimed past u) ≡ true
-    sub u h = go (is_claimed past u) (is_claimed one u) (is_claimed more u) (sym (ap not (grown u)) ∙ h)
-      where
-        go : (a b d : Bool) → not ((a || b) || d) ≡ true → not a ≡ true
-        go true b d h = absurd cc
-        go false b d h = refl
-
-    yes : not (is_claimed past t) ≡ true
-    yes = ap not (free_unclaimed o past t least)
-
-    named : is_claimed one t ≡ true
-    named = rw (same t) refl
-
-    no : not (is_claimed new t) ≡ false
-    no = ap not (grown t ∙ or_left (is_claimed past t || is_claimed one t) (is_claimed more t) (or_right (is_claimed past t) (is_claimed one t) named))
+pub fewer_left : (o : Opening) (past new more : List Entry) (n c t : ℕ) → Legal o new → new ≡ (past ++ entry n (Claim t c) ∷ []) ++ more → claims_left o new < claims_left o past
+fewer_left o past new more n c t legal is =
+    let so : new ≡ past ++ entry n (Claim t c) ∷ more = is ∙ append_assoc past (entry n (Claim t c) ∷ []) more in
+    subst (λ (x : List Entry). claims_left o x < claims_left o past) (sym so)
+    (claims_left_less o past (entry n (Claim t c) ∷ more) (subst (Legal o) so legal) (omega arith))

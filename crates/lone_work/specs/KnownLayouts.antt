@@ -9,7 +9,7 @@ use Rattle.journal_model.specs.declared.entry.What.TheVariants.{Claim}
 use Rattle.journal_model.specs.declared.entry.Entry.{Entry}
 use Rattle.journal_model.specs.declared.opening.Opening.{Opening}
 use Rattle.journal_model.specs.Journal.{any}
-use Rattle.journal_model.specs.Legality.{Legal, answers, is_busy, task_of}
+use Rattle.journal_model.specs.Legality.{Legal, closes, is_busy, task_of}
 use Rattle.journal_model.specs.Notes.{AreCurrentAt}
 use Rattle.host_core.specs.Books.{notes_after}
 use Rattle.host_core.specs.declared.event.Reply.{Reply}
@@ -48,13 +48,13 @@ BusyKeysDiffer =
 -- while a task is busy and notes nothing, whatever others note, its layouts stay
 abbrev pub LayoutsStay : Type 0
 LayoutsStay =
-    (o : Opening) (past more : List Entry) (t : ℕ) → Legal o (past ++ more) → is_busy past t ≡ true → any (answers t) more ≡ false → any (by_noting t) more ≡ false
+    (o : Opening) (past more : List Entry) (t : ℕ) → Legal o (past ++ more) → is_busy past t ≡ true → any (closes t) more ≡ false → any (by_noting t) more ≡ false
     → known_layouts o (past ++ more) t ≡ known_layouts o past t
 
--- Since its claim, as long as it noted nothing and isn't answered, its layouts are those in which the remote was known to have its key
+-- Since its claim, as long as it noted nothing and its run isn't closed, its layouts are those in which the remote was known to have its key
 -- when it was claimed. A book that a run begins with is in order.
 abbrev pub LayoutsSinceClaim : Type 0
 LayoutsSinceClaim =
     (o : Opening) (past within : List Entry) (by c t : ℕ) (task : Task) → IsTrue (in_order o.notes) → task_of o t ≡ Some task
-    → Legal o (past ++ record { by = by; what = Claim t c } ∷ within) → any (answers t) within ≡ false → any (by_noting t) within ≡ false
+    → Legal o (past ++ record { by = by; what = Claim t c } ∷ within) → any (closes t) within ≡ false → any (by_noting t) within ≡ false
     → AreCurrentAt o past task.key (known_layouts o (past ++ record { by = by; what = Claim t c } ∷ within) t)

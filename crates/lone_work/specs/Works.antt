@@ -1,5 +1,5 @@
 -- How a worker stands between two tasks and in one, and what it leaves.
-use Rattle.std.specs.Prelude.{ℕ, ◌≡◌, ◌<◌, ◌==◌, ◌&&◌, not, Bool, true, false, List, [], ◌∷◌, ◌++◌, map, Option, Some, None, is_some, Ok}
+use Rattle.std.specs.Prelude.{ℕ, ◌≡◌, ◌<◌, ◌==◌, ◌&&◌, not, Bool, true, false, List, [], ◌∷◌, ◌++◌, map, Option, Some, None, Ok}
 use Rattle.std.specs.List.{list_all}
 use Rattle.task_text.specs.declared.task.Task.{Task}
 use Rattle.task_text.specs.TaskLines.{IsTask}
@@ -8,21 +8,21 @@ use Rattle.ann_outside.specs.DeskCauses.{Counts}
 use Rattle.ann_outside.specs.declared.file_desk.Call.{Call}
 use Rattle.journal_model.specs.declared.answer.Answer.{Answer}
 use Rattle.journal_model.specs.declared.entry.What.{What}
-use Rattle.journal_model.specs.declared.entry.What.TheVariants.{Claim, Lead, Ask, Lost, Answer as Answered, Note}
+use Rattle.journal_model.specs.declared.entry.What.TheVariants.{Claim, Lead, Ask, Lost, Answer as Answered, Note, Again}
 use Rattle.journal_model.specs.declared.entry.Entry.{Entry}
 use Rattle.journal_model.specs.declared.opening.Opening.{Opening}
-use Rattle.journal_model.specs.Journal.{any, each_of, is_started, open_jobs}
-use Rattle.journal_model.specs.Legality.{Legal, is_busy, is_prepared, least_free}
-use Rattle.journal_model.specs.Makers.{is_of_task}
-use Rattle.journal_model.specs.Output.{answer_in, answers_in}
+use Rattle.journal_model.specs.Journal.{is_started, open_jobs}
+use Rattle.journal_model.specs.Legality.{Legal, is_busy, is_prepared, least_free, turn_of_task}
 use Rattle.journal_model.specs.Shares.{are_by, by_link, makes_only}
 use Rattle.host_core.specs.declared.event.Reply.{Reply}
 use Rattle.host_core.specs.declared.event.Reply.TheVariants.{Task as TaskReply}
 use Rattle.lone_work.specs.KnownLayouts.{IsBook}
 use Rattle.lone_work.specs.Servings.{Serves, by_server}
-use Rattle.gathering.specs.Tasks.{IsThrough}
+use Rattle.gathering.specs.Tasks.{IsThrough, turns_by}
 use Rattle.task_run.specs.declared.setup.Setup.{Setup}
+use Rattle.task_run.specs.Askings.{closing}
 use Rattle.task_run.specs.Ran.{HasTaskCauses}
+use Rattle.task_run.specs.declared.turn.TaskTurn.{TaskTurn}
 use Rattle.gathering.specs.JournalRuns.{JournalRun}
 
 -- ---- between two tasks
@@ -44,23 +44,23 @@ AreTasks (task ∷ more) = IsTask task × AreTasks more
 
 -- ---- a claim
 
--- the task that the core claimed
-abbrev pub task_in : Reply → Option ℕ
-task_in (TaskReply task) = Some task
+-- the task that the core claimed, and the turn of it that begins
+abbrev pub task_in : Reply → Option TaskTurn
+task_in (TaskReply task turn) = Some (record { task = task; turn = turn })
 task_in reply = None
 
--- the task was just claimed for the child, by a number that could work, and nothing else was made of it
-pub record LoneBegun (o : Opening) (number c t : ℕ) (seen : List Entry) : Type 0 where
+-- this turn of the task was just claimed for the child, by a number that could work
+pub record LoneBegun (o : Opening) (number c : ℕ) (u : TaskTurn) (seen : List Entry) : Type 0 where
   pub past : List Entry
-  pub is : seen ≡ past ++ record { by = number; what = Claim t c } ∷ []
+  pub is : seen ≡ past ++ record { by = number; what = Claim u.task c } ∷ []
   pub could : CanWork o c past
-  pub least : least_free o past ≡ Some t
-  pub fresh : any (is_of_task t) past ≡ false
-  pub serves : Serves o number true c t seen
+  pub least : least_free o past ≡ Some u.task
+  pub turn : turn_of_task past u.task ≡ u.turn
+  pub serves : Serves o number true c u.task seen
 
 -- the least free task was claimed; or nothing was done, and there is nothing more to do for the child
-abbrev pub ClaimsNext : Opening → ℕ → ℕ → List Entry → List Entry → Option ℕ → Type 0
-ClaimsNext o number c old new (Some t) = (b : LoneBegun o number c t new) × (b.past ≡ old)
+abbrev pub ClaimsNext : Opening → ℕ → ℕ → List Entry → List Entry → Option TaskTurn → Type 0
+ClaimsNext o number c old new (Some u) = (b : LoneBegun o number c u new) × (b.past ≡ old)
 ClaimsNext o number c old new None = (new ≡ old) × IsThrough o old c
 
 -- ---- what was done
@@ -73,22 +73,19 @@ pub record DeskTells : Type 0 where
 abbrev pub desk_tells : Option Log → Counts → DeskTells
 desk_tells log counts = record { log = log; counts = counts }
 
--- a task, the calls of its desk, its answer, and the desk's counts then
+-- a run of a task: which turn of it, the calls of its desk, its answer, and the desk's counts then
 pub record TaskDone : Type 0 where
   pub task : ℕ
+  pub turn : ℕ
   pub calls : List Call
   pub answer : Answer
   pub counts : Counts
 
-abbrev pub claimed_task : What → Option ℕ
-claimed_task (Claim task child) = Some task
-claimed_task w = None
+-- the turns of tasks that were run, in order
+abbrev pub turns_of : List TaskDone → List (ℕ × ℕ)
+turns_of done = map (λ (r : TaskDone). (r.task, r.turn)) done
 
--- the tasks that the entries claim, in order
-abbrev pub claims_in : List Entry → List ℕ
-claims_in entries = each_of claimed_task entries
-
--- what a worker of c makes: claims for it, requests of tasks with the names before them, notes and answers, and what its link does
+-- what a worker of c makes: claims for it, requests of tasks with the names before them, notes, answers and Agains, and what its link does
 abbrev pub by_worker : ℕ → What → Bool
 by_worker c (Claim task child) = child == c
 by_worker c (Lead child job line) = child == c
@@ -96,18 +93,19 @@ by_worker c (Ask child job task line) = child == c && not (task == 0)
 by_worker c (Lost child task) = child == c && not (task == 0)
 by_worker c (Note task chunk count) = true
 by_worker c (Answered task answer) = true
+by_worker c (Again task answer) = true
 by_worker c w = by_link c w
 
--- the journal has a run of the task by this number, claimed for c, with these calls and this answer
-pub record RanFor (o : Opening) (setup : Setup) (calls : List Call) (number c t : ℕ) (answer : Answer) (journal : List Entry) : Type 0 where
-  pub run : JournalRun o setup calls number t journal
+-- the journal has a run of this turn of the task by this number, claimed for c, with these calls and this answer
+pub record RanFor (o : Opening) (setup : Setup) (calls : List Call) (number c : ℕ) (u : TaskTurn) (answer : Answer) (journal : List Entry) : Type 0 where
+  pub run : JournalRun o setup calls number u.task u.turn journal
   pub child : run.run.child ≡ c
   pub answer_is : run.run.answer ≡ answer
 
 -- the journal has such a run of each of the tasks
 abbrev pub AllRan : Opening → Setup → ℕ → ℕ → List Entry → List TaskDone → Type 0
 AllRan o setup number c journal [] = Unit {0}
-AllRan o setup number c journal (r ∷ rs) = RanFor o setup r.calls number c r.task r.answer journal × AllRan o setup number c journal rs
+AllRan o setup number c journal (r ∷ rs) = RanFor o setup r.calls number c (record { task = r.task; turn = r.turn }) r.answer journal × AllRan o setup number c journal rs
 
 -- the calls of the tasks, one task after the other
 abbrev pub all_calls : List TaskDone → List Call
@@ -119,37 +117,43 @@ abbrev pub CausedInTurn : Counts → List TaskDone → Counts → Type 0
 CausedInTurn old [] new = new ≡ old
 CausedInTurn old (r ∷ rs) new = HasTaskCauses old r.counts (Ok r.answer) × CausedInTurn r.counts rs new
 
--- the last of the entries, where there are any, is an answer
-abbrev pub ends_answered : List Entry → Bool
-ends_answered [] = true
-ends_answered (e ∷ []) = is_some (answer_in e.what)
-ends_answered (e ∷ f ∷ more) = ends_answered (f ∷ more)
+-- the entry closes a run
+abbrev pub is_closing : What → Bool
+is_closing (Answered task answer) = true
+is_closing (Again task answer) = true
+is_closing w = false
 
--- The journal has grown by what a worker of c makes, by this number, of which an answer is the last. Each task that was claimed
--- was run and then answered so, in turn, and the desk made the calls of these runs, in their order, and no others.
+-- the last of the entries, where there are any, closes a run
+abbrev pub ends_closed : List Entry → Bool
+ends_closed [] = true
+ends_closed (e ∷ []) = is_closing e.what
+ends_closed (e ∷ f ∷ more) = ends_closed (f ∷ more)
+
+-- The journal has grown by what a worker of c makes, by this number, of which the last closes a run. Each turn that was claimed was
+-- run and then closed so, one after the other, and the desk made the calls of these runs, in their order, and no others.
 pub record Worked (o : Opening) (setup : Setup) (number c : ℕ) (old new : List Entry) (desk desk' : DeskTells) : Type 0 where
   pub more : List Entry
   pub is : new ≡ old ++ more
   pub only : list_all (λ e. by_worker c e.what) more ≡ true
   pub own : are_by number more ≡ true
-  pub last : ends_answered more ≡ true
+  pub last : ends_closed more ≡ true
   pub done : List TaskDone
-  pub claimed : map (λ r. r.task) done ≡ claims_in more
-  pub answered : map (λ r. (r.task, r.answer)) done ≡ answers_in more
+  pub claimed : turns_of done ≡ turns_by number old more
   pub ran : AllRan o setup number c new done
   pub log_is : Gained desk.log desk'.log (all_calls done)
   pub caused : CausedInTurn desk.counts done desk'.counts
 
 -- ---- one task
 
--- the task was asked and noted for, and then answered as it ran
-pub record LoneDoes (o : Opening) (setup : Setup) (number c t : ℕ) (old new : List Entry) (desk desk' : DeskTells) : Type 0 where
+-- the task was asked and noted for, and then answered as it ran, or is to be run again
+pub record LoneDoes (o : Opening) (setup : Setup) (number c : ℕ) (u : TaskTurn) (old new : List Entry) (desk desk' : DeskTells) : Type 0 where
   pub within : List Entry
+  pub renewed : Bool
   pub answer : Answer
   pub calls : List Call
-  pub is : new ≡ (old ++ within) ++ record { by = number; what = Answered t answer } ∷ []
-  pub only : makes_only (by_server c t) number within ≡ true
+  pub is : new ≡ (old ++ within) ++ record { by = number; what = closing renewed u.task answer } ∷ []
+  pub only : makes_only (by_server c u.task) number within ≡ true
   pub own : are_by number within ≡ true
-  pub run : RanFor o setup calls number c t answer new
+  pub run : RanFor o setup calls number c u answer new
   pub log_is : Gained desk.log desk'.log calls
   pub caused : HasTaskCauses desk.counts desk'.counts (Ok answer)

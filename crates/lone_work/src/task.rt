@@ -21,7 +21,7 @@ use ann_outside::{Desk, Sink, Source};
 use journal_model::Answer;
 use link_roles::{Door, Lone};
 use std::alloc::Global;
-use task_run::Setup;
+use task_run::{Setup, TaskTurn};
 use task_text::Task;
 use task_works::run_task;
 
@@ -47,7 +47,7 @@ fn answer_of(outcome: Result<Answer, NoMemory>) -> Answer
 fn run_over<I: Sink, O: Source, D: Door, K: Desk>(
     alloc: Global,
     task: &Task,
-    number: u32,
+    turn: TaskTurn,
     setup: &Setup,
     link: &mut Lone<I, O>,
     door: &mut D,
@@ -55,11 +55,11 @@ fn run_over<I: Sink, O: Source, D: Door, K: Desk>(
 ) -> Result<Answer, NoMemory>
     requires task { IsTask task.now }
     requires folder { has_newline setup.now.work ≡ false }
-    requires named { task_of (D.opening door.old) number ≡ Some task.now }
-    requires serves { Serves (D.opening door.old) (D.number door.old) (D.alone door.old) link.old.ear.child number (D.seen door.old) }
-    ensures ran { Ran task.now number setup.now (known_layouts (D.opening door.old) (D.seen door.old) number) (askings (D.seen door.old) number) (askings (D.seen door.new) number) (notings (D.seen door.old) number) (notings (D.seen door.new) number) (K.log desk.old) (K.log desk.new) result }
+    requires named { task_of (D.opening door.old) turn.task ≡ Some task.now }
+    requires serves { Serves (D.opening door.old) (D.number door.old) (D.alone door.old) link.old.ear.child turn.task (D.seen door.old) }
+    ensures ran { Ran task.now turn setup.now (known_layouts (D.opening door.old) (D.seen door.old) turn.task) (askings (D.seen door.old) turn.task) (askings (D.seen door.new) turn.task) (notings (D.seen door.old) turn.task) (notings (D.seen door.new) turn.task) (K.log desk.old) (K.log desk.new) result }
     ensures causes { HasTaskCauses (K.counts desk.old) (K.counts desk.new) result }
-    ensures on { ServesOn (D.opening door.old) (D.number door.old) (D.alone door.old) link.old.ear.child number (D.seen door.old) (D.seen door.new)
+    ensures on { ServesOn (D.opening door.old) (D.number door.old) (D.alone door.old) link.old.ear.child turn.task (D.seen door.old) (D.seen door.new)
         (LoneWired (D.seen door.old) link.old.ear link.old.mouth) (LoneWired (D.seen door.new) link.new.ear link.new.mouth) }
     ensures same { IsSameLink link.old.ear link.new.ear link.old.mouth link.new.mouth }
     ensures door { IsSameDoor D.opening D.number D.seen D.alone D.loans D.home door.old door.new }
@@ -67,16 +67,16 @@ fn run_over<I: Sink, O: Source, D: Door, K: Desk>(
     let mut asker = LoneAsker {
         link,
         door,
-        task: number,
+        task: turn.task,
     };
-    run_task(alloc, task, number, setup, &mut asker, desk)
+    run_task(alloc, task, turn.task, turn.turn, setup, &mut asker, desk)
 }
 
-/// Runs a task that was just claimed for the link's child, and answers it.
+/// Runs a task that was just claimed for the link's child, and answers it, or leaves it to be run again.
 pub(crate) fn do_task<I: Sink, O: Source, D: Door, K: Desk>(
     alloc: Global,
     tasks: &[Task],
-    number: u32,
+    turn: TaskTurn,
     setup: &Setup,
     link: &mut Lone<I, O>,
     door: &mut D,
@@ -85,13 +85,13 @@ pub(crate) fn do_task<I: Sink, O: Source, D: Door, K: Desk>(
     requires alone { D.alone door.old ≡ true }
     requires tasks { ((D.opening door.old).tasks ≡ tasks.now) × AreTasks tasks.now }
     requires folder { has_newline setup.now.work ≡ false }
-    requires begun { LoneBegun (D.opening door.old) (D.number door.old) link.old.ear.child number (D.seen door.old) }
-    ensures does { LoneDoes (D.opening door.old) setup.now (D.number door.old) link.old.ear.child number (D.seen door.old) (D.seen door.new) (desk_tells (K.log desk.old) (K.counts desk.old)) (desk_tells (K.log desk.new) (K.counts desk.new)) }
+    requires begun { LoneBegun (D.opening door.old) (D.number door.old) link.old.ear.child turn (D.seen door.old) }
+    ensures does { LoneDoes (D.opening door.old) setup.now (D.number door.old) link.old.ear.child turn (D.seen door.old) (D.seen door.new) (desk_tells (K.log desk.old) (K.counts desk.old)) (desk_tells (K.log desk.new) (K.counts desk.new)) }
     ensures can { CanWork (D.opening door.new) link.new.ear.child (D.seen door.new) }
     ensures link { KeepsLink (D.seen door.old) (D.seen door.new) link.old.ear link.new.ear link.old.mouth link.new.mouth }
     ensures door { IsSameDoor D.opening D.number D.seen D.alone D.loans D.home door.old door.new }
 {
-    let task = task_at(tasks, number);
-    let outcome = run_over(alloc, task, number, setup, link, door, desk);
-    give(door, number, answer_of(outcome));
+    let task = task_at(tasks, turn.task);
+    let outcome = run_over(alloc, task, turn, setup, link, door, desk);
+    give(door, turn.task, answer_of(outcome));
 }

@@ -1,7 +1,7 @@
 // The worker: it claims, runs and answers, until there is nothing more to do.
-ghost use Rattle.std.specs.Prelude.{◌≡◌, ◌<◌, IsTrue, IsFalse, true, false, length};
+ghost use Rattle.std.specs.Prelude.{◌≡◌, ◌<◌, IsTrue, IsFalse, true, false};
 ghost use Rattle.annex_model.specs.Lines.{has_newline};
-ghost use Rattle.host_core.specs.Steps.{unclaimed};
+ghost use Rattle.journal_model.specs.Room.{claims_left};
 ghost use Rattle.gathering.specs.Tasks.{IsThrough};
 ghost use Rattle.link_roles.specs.Alone.{KeepsLink};
 ghost use Rattle.link_roles.specs.Doors.{IsSameDoor};
@@ -30,15 +30,15 @@ fn turn<I: Sink, O: Source, D: Door, K: Desk>(
     requires can { CanWork (D.opening door.old) link.old.ear.child (D.seen door.old) }
     ensures worked { Worked (D.opening door.old) setup.now (D.number door.old) link.old.ear.child (D.seen door.old) (D.seen door.new) (desk_tells (K.log desk.old) (K.counts desk.old)) (desk_tells (K.log desk.new) (K.counts desk.new)) }
     ensures can { CanWork (D.opening door.new) link.new.ear.child (D.seen door.new) }
-    ensures fewer { IsTrue result → length (unclaimed (D.opening door.new) (D.seen door.new)) < length (unclaimed (D.opening door.old) (D.seen door.old)) }
+    ensures fewer { IsTrue result → claims_left (D.opening door.new) (D.seen door.new) < claims_left (D.opening door.old) (D.seen door.old) }
     ensures through { IsFalse result → IsThrough (D.opening door.old) (D.seen door.new) link.old.ear.child }
     ensures link { KeepsLink (D.seen door.old) (D.seen door.new) link.old.ear link.new.ear link.old.mouth link.new.mouth }
     ensures door { IsSameDoor D.opening D.number D.seen D.alone D.loans D.home door.old door.new }
 {
     let child = link.child();
     match claim(door, child) {
-        Some(number) => {
-            do_task(alloc, tasks, number, setup, link, door, desk);
+        Some(turn) => {
+            do_task(alloc, tasks, turn, setup, link, door, desk);
             true
         }
         None => false,

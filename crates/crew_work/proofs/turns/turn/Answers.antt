@@ -27,9 +27,9 @@ returns-in-Task-clause-worked g c =
     let claims = claims_as {o = o} {n = n} {a = a} c.child-child.ensures c.in-Task.ensures.claims in
     let tells = desk_tells (g.K.Desk.log c.args.desk.now) (g.K.Desk.counts c.args.desk.now) in
     let tells' = desk_tells (g.K.Desk.log c.do_task.new.desk) (g.K.Desk.counts c.do_task.new.desk) in
-    worked_one o c.args.setup.now owns n a child (g.W.Way.wired c.args.way.now) (g.met.W.Way.apart c.args.way.now) c.in-Task.number (g.D.Door.seen c.args.door.now) mid new after tells tells'
+    worked_one o c.args.setup.now owns n a child (g.W.Way.wired c.args.way.now) (g.met.W.Way.apart c.args.way.now) c.in-Task.turn (g.D.Door.seen c.args.door.now) mid new after tells tells'
     claims.0 claims.1
-    (named (λ (q : Opening) (m : ℕ) (l : Bool) (e : ℕ) (u : Bool). CrewDoes q c.args.setup.now u m l e c.in-Task.number mid new before after tells tells')
+    (named (λ (q : Opening) (m : ℕ) (l : Bool) (e : ℕ) (u : Bool). CrewDoes q c.args.setup.now u m l e c.in-Task.turn mid new before after tells tells')
     c.in-Task.ensures.door.opening c.in-Task.ensures.door.number c.in-Task.ensures.door.alone refl refl c.do_task.ensures.does)
 
 pub returns-in-Task-clause-on : goal.returns-in-Task-clause-on
@@ -37,6 +37,7 @@ returns-in-Task-clause-on g c =
     let o = g.D.Door.opening c.args.door.now in
     let claims = claims_as {o = o} {n = g.D.Door.number c.args.door.now} {a = g.D.Door.alone c.args.door.now} c.child-child.ensures c.in-Task.ensures.claims in
     fewer_behind o (g.D.Door.seen c.args.door.now) (g.D.Door.seen c.claim.new.door) (g.D.Door.seen c.do_task.new.door) c.do_task.ensures.does.did.moved.more claims.0 claims.1 c.do_task.ensures.does.did.moved.is
+    (legal_as (c.do_task.ensures.door.opening ∙ c.in-Task.ensures.door.opening) c.do_task.ensures.can.legal)
 
 pub returns-in-Task-clause-door : goal.returns-in-Task-clause-door
 returns-in-Task-clause-door g c = same_both c.in-Task.ensures.door c.do_task.ensures.door

@@ -28,7 +28,7 @@ loop-preserved-in-Again g c =
           worked_then i.door.opening i.door.number i.door.alone i.way.0 i.way.1 c.args.setup.now (g.D.Door.seen c.args.door.now) (g.D.Door.seen c.loop.door) (g.D.Door.seen c.turn.new.door)
           (g.W.Way.wired c.args.way.now (g.D.Door.seen c.args.door.now)) (g.W.Way.wired c.loop.way (g.D.Door.seen c.loop.door)) (g.W.Way.wired c.turn.new.way (g.D.Door.seen c.turn.new.door))
           (desk_tells (g.K.Desk.log c.args.desk.now) (g.K.Desk.counts c.args.desk.now)) (desk_tells (g.K.Desk.log c.loop.desk) (g.K.Desk.counts c.loop.desk))
-          (desk_tells (g.K.Desk.log c.turn.new.desk) (g.K.Desk.counts c.turn.new.desk)) i.serves i.worked c.in-Again.ensures.worked;
+          (desk_tells (g.K.Desk.log c.turn.new.desk) (g.K.Desk.counts c.turn.new.desk)) i.worked c.in-Again.ensures.worked;
       serves = c.in-Again.ensures.can;
       way = (c.in-Again.ensures.way.0 ∙ i.way.0, c.in-Again.ensures.way.1 ∙ i.way.1, g.met.W.Way.both c.args.way.now c.loop.way c.turn.new.way i.way.2 c.in-Again.ensures.way.2);
       door = same_both i.door c.in-Again.ensures.door;
@@ -51,7 +51,7 @@ loop-preserved g c =
           (worked_then i.door.opening i.door.number i.door.alone i.way.0 i.way.1 c.args.setup.now (g.D.Door.seen c.args.door.now) (g.D.Door.seen c.loop.door) (g.D.Door.seen c.turn.new.door)
           (g.W.Way.wired c.args.way.now (g.D.Door.seen c.args.door.now)) (g.W.Way.wired c.loop.way (g.D.Door.seen c.loop.door)) (g.W.Way.wired c.turn.new.way (g.D.Door.seen c.turn.new.door))
           (desk_tells (g.K.Desk.log c.args.desk.now) (g.K.Desk.counts c.args.desk.now)) (desk_tells (g.K.Desk.log c.loop.desk) (g.K.Desk.counts c.loop.desk))
-          (desk_tells (g.K.Desk.log c.turn.new.desk) (g.K.Desk.counts c.turn.new.desk)) i.serves i.worked c.in-Rest.ensures.worked);
+          (desk_tells (g.K.Desk.log c.turn.new.desk) (g.K.Desk.counts c.turn.new.desk)) i.worked c.in-Rest.ensures.worked);
       serves = can_seen r.opening r.seen c.in-Rest.ensures.can;
       way = (c.in-Rest.ensures.way.0 ∙ i.way.0, c.in-Rest.ensures.way.1 ∙ i.way.1, g.met.W.Way.both c.args.way.now c.loop.way c.turn.new.way i.way.2 c.in-Rest.ensures.way.2);
       door = rested r.opening r.number r.alone r.loans r.home r.seen (same_both i.door c.in-Rest.ensures.door);
@@ -63,7 +63,7 @@ returns-in-Over-clause-worked g c =
     worked_then i.door.opening i.door.number i.door.alone i.way.0 i.way.1 c.args.setup.now (g.D.Door.seen c.args.door.now) (g.D.Door.seen c.loop.door) (g.D.Door.seen c.turn.new.door)
     (g.W.Way.wired c.args.way.now (g.D.Door.seen c.args.door.now)) (g.W.Way.wired c.loop.way (g.D.Door.seen c.loop.door)) (g.W.Way.wired c.turn.new.way (g.D.Door.seen c.turn.new.door))
     (desk_tells (g.K.Desk.log c.args.desk.now) (g.K.Desk.counts c.args.desk.now)) (desk_tells (g.K.Desk.log c.loop.desk) (g.K.Desk.counts c.loop.desk))
-    (desk_tells (g.K.Desk.log c.turn.new.desk) (g.K.Desk.counts c.turn.new.desk)) i.serves i.worked c.in-Over.ensures.worked
+    (desk_tells (g.K.Desk.log c.turn.new.desk) (g.K.Desk.counts c.turn.new.desk)) i.worked c.in-Over.ensures.worked
 
 pub returns-in-Over-clause-through : goal.returns-in-Over-clause-through
 returns-in-Over-clause-through g c = through_as (g.D.Door.seen c.turn.new.door) c.loop.invariant.door.opening c.loop.invariant.way.0 c.in-Over.ensures.on

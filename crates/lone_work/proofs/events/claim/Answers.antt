@@ -1,6 +1,7 @@
-use Rattle.std.proofs.Common.{ℕ, Option, sym, subst}
+use Rattle.std.proofs.Common.{Option, sym, subst}
 use Rattle.journal_model.specs.declared.opening.Opening.{Opening}
 use Rattle.journal_model.specs.Legality.{Legal}
+use Rattle.task_run.specs.declared.turn.TaskTurn.{TaskTurn}
 use Rattle.lone_work.specs.Works.{ClaimsNext}
 use Rattle.lone_work.proofs.Claiming.{claims_next}
 use Rattle.lone_work.proofs.events.claim.Goals as goal
@@ -12,5 +13,5 @@ returns-clause-claims g c =
     let old = g.D.Door.seen c.args.door.now in
     let new = g.D.Door.seen c.step.new.self in
     let legal : Legal o new = subst (λ (w : Opening). Legal w new) c.in-Ok.ensures.opening (c.in-Ok.ensures.legal c.requires.can.legal) in
-    subst (λ (r : Option ℕ). ClaimsNext o n c.args.child old new r) (sym c.task_in.ensures)
+    subst (λ (r : Option TaskTurn). ClaimsNext o n c.args.child old new r) (sym c.task_in.ensures)
     (claims_next o n c.args.child old c.requires.can c.requires.alone legal c.in-Ok.ensures.stepped)

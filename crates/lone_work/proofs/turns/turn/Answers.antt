@@ -1,6 +1,7 @@
-use Rattle.std.proofs.Common.{◌<◌, ℕ, sym, subst, refl, ap, ◌∙◌, length}
+use Rattle.std.proofs.Common.{◌<◌, ℕ, sym, subst, refl, ap, ◌∙◌}
 use Rattle.journal_model.specs.declared.opening.Opening.{Opening}
-use Rattle.host_core.specs.Steps.{unclaimed}
+use Rattle.journal_model.specs.Legality.{Legal}
+use Rattle.journal_model.specs.Room.{claims_left}
 use Rattle.link_roles.proofs.Roles.{same_both}
 use Rattle.lone_work.specs.Works.{Worked, desk_tells}
 use Rattle.lone_work.proofs.Turning.{begun_now, can_now, can_still, fewer_turn, link_claimed, link_still, through_still, worked_none, worked_turn}
@@ -27,7 +28,7 @@ returns-in-Some-clause-worked g c =
     let tells = desk_tells (g.K.Desk.log c.args.desk.now) (g.K.Desk.counts c.args.desk.now) in
     let tells' = desk_tells (g.K.Desk.log c.do_task.new.desk) (g.K.Desk.counts c.do_task.new.desk) in
     subst (λ (k : ℕ). Worked o c.args.setup.now n k old new tells tells') c.child-child.ensures
-    (worked_turn o (g.D.Door.opening c.claim.new.door) c.args.setup.now n (g.D.Door.number c.claim.new.door) c.child-child.result c.args.link.now.ear.child c.in-Some.number
+    (worked_turn o (g.D.Door.opening c.claim.new.door) c.args.setup.now n (g.D.Door.number c.claim.new.door) c.child-child.result c.args.link.now.ear.child c.in-Some.turn
     old (g.D.Door.seen c.claim.new.door) new tells tells' c.in-Some.ensures.door.opening c.in-Some.ensures.door.number (sym c.child-child.ensures)
     c.in-Some.ensures.claims.0 c.in-Some.ensures.claims.1 c.do_task.ensures.does)
 
@@ -39,14 +40,16 @@ returns-in-Some-clause-fewer g c = λ yes. (
     let new = g.D.Door.seen c.do_task.new.door in
     let tells = desk_tells (g.K.Desk.log c.args.desk.now) (g.K.Desk.counts c.args.desk.now) in
     let tells' = desk_tells (g.K.Desk.log c.do_task.new.desk) (g.K.Desk.counts c.do_task.new.desk) in
-    subst (λ (w : Opening). length (unclaimed w new) < length (unclaimed o old)) (sym (c.do_task.ensures.door.opening ∙ c.in-Some.ensures.door.opening))
-    (fewer_turn o (g.D.Door.opening c.claim.new.door) c.args.setup.now n (g.D.Door.number c.claim.new.door) c.child-child.result c.args.link.now.ear.child c.in-Some.number
+    let eo = c.do_task.ensures.door.opening ∙ c.in-Some.ensures.door.opening in
+    let legal = subst (λ (w : Opening). Legal w new) eo c.do_task.ensures.can.legal in
+    subst (λ (w : Opening). claims_left w new < claims_left o old) (sym eo)
+    (fewer_turn o (g.D.Door.opening c.claim.new.door) c.args.setup.now n (g.D.Door.number c.claim.new.door) c.child-child.result c.args.link.now.ear.child c.in-Some.turn
     old (g.D.Door.seen c.claim.new.door) new tells tells' c.in-Some.ensures.door.opening c.in-Some.ensures.door.number (sym c.child-child.ensures)
-    c.in-Some.ensures.claims.0 c.in-Some.ensures.claims.1 c.do_task.ensures.does))
+    c.in-Some.ensures.claims.0 c.in-Some.ensures.claims.1 c.do_task.ensures.does legal))
 
 pub returns-in-Some-clause-link : goal.returns-in-Some-clause-link
 returns-in-Some-clause-link g c =
-    link_claimed (g.D.Door.number c.args.door.now) c.child-child.result c.in-Some.number c.in-Some.ensures.claims.0.past (g.D.Door.seen c.args.door.now) (g.D.Door.seen c.claim.new.door) (g.D.Door.seen c.do_task.new.door)
+    link_claimed (g.D.Door.number c.args.door.now) c.child-child.result c.in-Some.turn.task c.in-Some.ensures.claims.0.past (g.D.Door.seen c.args.door.now) (g.D.Door.seen c.claim.new.door) (g.D.Door.seen c.do_task.new.door)
     c.args.link.now.ear c.do_task.new.link.ear c.args.link.now.mouth c.do_task.new.link.mouth c.args.link.now.one_child c.in-Some.ensures.claims.0.is c.in-Some.ensures.claims.1 c.do_task.ensures.link
 
 pub returns-in-Some-clause-door : goal.returns-in-Some-clause-door

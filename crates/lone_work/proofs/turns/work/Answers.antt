@@ -27,7 +27,7 @@ returns-then-not-turn-clause-worked g c =
     (g.D.Door.seen c.args.door.now) (g.D.Door.seen c.turns.door) (g.D.Door.seen c.turn.new.door)
     (desk_tells (g.K.Desk.log c.args.desk.now) (g.K.Desk.counts c.args.desk.now)) (desk_tells (g.K.Desk.log c.turns.desk) (g.K.Desk.counts c.turns.desk)) (desk_tells (g.K.Desk.log c.turn.new.desk) (g.K.Desk.counts c.turn.new.desk))
     c.turns.invariant.door.opening c.turns.invariant.door.number c.turns.invariant.link.same_ear.0
-    c.turns.invariant.can c.turns.invariant.worked c.turn.ensures.worked
+    c.turns.invariant.worked c.turn.ensures.worked
 
 pub returns-then-not-turn-clause-through : goal.returns-then-not-turn-clause-through
 returns-then-not-turn-clause-through g c =
@@ -44,7 +44,7 @@ turns-preserved g c = record {
       (g.D.Door.seen c.args.door.now) (g.D.Door.seen c.turns.door) (g.D.Door.seen c.turn.new.door)
       (desk_tells (g.K.Desk.log c.args.desk.now) (g.K.Desk.counts c.args.desk.now)) (desk_tells (g.K.Desk.log c.turns.desk) (g.K.Desk.counts c.turns.desk)) (desk_tells (g.K.Desk.log c.turn.new.desk) (g.K.Desk.counts c.turn.new.desk))
       c.turns.invariant.door.opening c.turns.invariant.door.number c.turns.invariant.link.same_ear.0
-      c.turns.invariant.can c.turns.invariant.worked c.turn.ensures.worked;
+      c.turns.invariant.worked c.turn.ensures.worked;
   can = c.turn.ensures.can;
   link = keeps_both c.turns.invariant.link c.turn.ensures.link;
   door = same_both c.turns.invariant.door c.turn.ensures.door;

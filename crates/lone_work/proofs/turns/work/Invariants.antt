@@ -1,5 +1,4 @@
-use Rattle.std.proofs.Common.{length}
-use Rattle.host_core.specs.Steps.{unclaimed}
+use Rattle.journal_model.specs.Room.{claims_left}
 use Rattle.link_roles.specs.Alone.{KeepsLink}
 use Rattle.link_roles.specs.Doors.{IsSameDoor}
 use Rattle.lone_work.specs.Works.{CanWork, Worked, desk_tells}
@@ -14,4 +13,4 @@ invariant-turns g l = record {
 }
 
 abbrev pub decreases-turns : goal.decreases-turns
-decreases-turns g l = length (unclaimed (g.D.Door.opening l.door) (g.D.Door.seen l.door))
+decreases-turns g l = claims_left (g.D.Door.opening l.door) (g.D.Door.seen l.door)

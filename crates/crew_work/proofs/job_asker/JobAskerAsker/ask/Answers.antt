@@ -2,6 +2,7 @@ use Rattle.std.proofs.Common.{ℕ, sym, subst, refl}
 use Rattle.talk_serial.specs.Requests.{message_of, name_of}
 use Rattle.lone_work.specs.AtTasks.{AtTask}
 use Rattle.lone_work.proofs.Knowing.{known_asked}
+use Rattle.crew_work.proofs.Doing.{jobs_within}
 use Rattle.crew_work.proofs.Asking.{jobs_on_asked}
 use Rattle.crew_work.proofs.job_asker.JobAskerAsker.ask.Goals as goal
 
@@ -12,7 +13,7 @@ returns-clause-layouts g c =
     let n = g.D.Door.number s.door.now in
     let seen = g.D.Door.seen s.door.now in
     known_asked o (g.D.Door.opening c.ask_for.new.door) n c.args.number s.task c.ask_for.ensures.door.opening c.requires.task
-    (subst (λ (k : ℕ). AtTask o n k seen) (sym c.requires.task) c.requires.ready.at) c.ask_for.ensures.grows (name_of c.args.request.now) (message_of c.args.request.now) c.ask_for.result c.ask_for.ensures.asked
+    (subst (λ (k : ℕ). AtTask o n k seen) (sym c.requires.task) c.requires.ready.at) c.ask_for.ensures.grows (jobs_within s.child c.args.number) (name_of c.args.request.now) (message_of c.args.request.now) c.ask_for.result c.ask_for.ensures.asked
 
 pub returns-clause-on : goal.returns-clause-on
 returns-clause-on g c =

@@ -1,6 +1,7 @@
 use Rattle.std.proofs.Common.{ℕ, sym, subst, refl}
 use Rattle.lone_work.specs.AtTasks.{AtTask}
 use Rattle.lone_work.proofs.Knowing.{known_told}
+use Rattle.lone_work.proofs.Serving.{never_within}
 use Rattle.lone_work.proofs.Serving.{never_notes}
 use Rattle.crew_work.proofs.Asking.{jobs_on_noted}
 use Rattle.crew_work.proofs.job_asker.JobAskerAsker.layouts.Goals as goal
@@ -12,7 +13,7 @@ returns-clause-layouts g c =
     let n = g.D.Door.number s.door.now in
     let seen = g.D.Door.seen s.door.now in
     known_told o (g.D.Door.opening c.layouts.new.door) n c.args.number s.task c.layouts.ensures.door.opening c.requires.task
-    (subst (λ (k : ℕ). AtTask o n k seen) (sym c.requires.task) c.requires.ready.at) c.layouts.ensures.grows c.layouts.ensures.same
+    (subst (λ (k : ℕ). AtTask o n k seen) (sym c.requires.task) c.requires.ready.at) c.layouts.ensures.grows (never_within c.args.number) c.layouts.ensures.same
 
 pub returns-clause-on : goal.returns-clause-on
 returns-clause-on g c =

@@ -1,6 +1,7 @@
 use Rattle.std.proofs.Common.{ℕ, sym, subst, refl}
 use Rattle.lone_work.specs.AtTasks.{AtTask}
 use Rattle.lone_work.proofs.Knowing.{known_noted}
+use Rattle.lone_work.proofs.Serving.{noting_within}
 use Rattle.lone_work.proofs.Serving.{at_noted}
 use Rattle.crew_work.proofs.Asking.{jobs_on_noted}
 use Rattle.crew_work.proofs.job_asker.JobAskerAsker.note.Goals as goal
@@ -12,7 +13,7 @@ returns-clause-layouts g c =
     let n = g.D.Door.number s.door.now in
     let seen = g.D.Door.seen s.door.now in
     known_noted o (g.D.Door.opening c.note.new.door) n c.args.number s.task c.note.ensures.door.opening c.requires.task
-    (subst (λ (k : ℕ). AtTask o n k seen) (sym c.requires.task) c.requires.ready.at) c.note.ensures.grows c.args.chunk c.args.count c.note.result c.note.ensures.noted
+    (subst (λ (k : ℕ). AtTask o n k seen) (sym c.requires.task) c.requires.ready.at) c.note.ensures.grows (noting_within c.args.number) c.args.chunk c.args.count c.note.result c.note.ensures.noted
 
 pub returns-clause-on : goal.returns-clause-on
 returns-clause-on g c =

@@ -3,6 +3,7 @@ use Rattle.talk_serial.specs.Requests.{message_of, name_of}
 use Rattle.lone_work.specs.Servings.{Serves}
 use Rattle.lone_work.specs.AtTasks.{AtTask}
 use Rattle.lone_work.proofs.Knowing.{known_asked}
+use Rattle.lone_work.proofs.Serving.{server_within}
 use Rattle.lone_work.proofs.Serving.{may_later, named_well, serves_asked}
 use Rattle.lone_work.proofs.lone_asker.LoneAskerAsker.ask.Goals as goal
 
@@ -23,7 +24,7 @@ returns-clause-layouts g c =
     let n = g.D.Door.number s.door.now in
     let seen = g.D.Door.seen s.door.now in
     known_asked o (g.D.Door.opening c.ask_by_link.new.door) n c.args.number s.task c.ask_by_link.ensures.door.opening c.requires.task
-    (subst (λ (k : ℕ). AtTask o n k seen) (sym c.requires.task) c.requires.ready.at) c.ask_by_link.ensures.moved (name_of c.args.request.now) (message_of c.args.request.now) c.ask_by_link.result c.ask_by_link.ensures.asked
+    (subst (λ (k : ℕ). AtTask o n k seen) (sym c.requires.task) c.requires.ready.at) c.ask_by_link.ensures.moved (server_within s.link.now.ear.child c.args.number) (name_of c.args.request.now) (message_of c.args.request.now) c.ask_by_link.result c.ask_by_link.ensures.asked
 
 pub returns-clause-on : goal.returns-clause-on
 returns-clause-on g c =
