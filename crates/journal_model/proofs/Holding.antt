@@ -111,7 +111,7 @@ pub claimed_append : (past more : List Entry) (t : ℕ) → is_claimed (past ++ 
 claimed_append past more t = fold_append (claimed_on t) false past more
 
 -- entries that neither claim nor close leave it too
-unclaimed_on : (t : ℕ) (b : Bool) (xs : List Entry) → each_of claimed xs ≡ [] → each_of closed xs ≡ [] → fold (claimed_on t) b xs ≡ b
+pub unclaimed_on : (t : ℕ) (b : Bool) (xs : List Entry) → each_of claimed xs ≡ [] → each_of closed xs ≡ [] → fold (claimed_on t) b xs ≡ b
 unclaimed_on t b [] c a = refl
 unclaimed_on t b (e ∷ xs) c a = go e.what c a (unclaimed_on t b xs)
   where

@@ -5,13 +5,13 @@ use Rattle.std.specs.List.{list_all, list_any}
 use Rattle.ann_outside.specs.Starts.{Starts}
 use Rattle.ann_outside.specs.Causes.{AddsOne, Stays}
 use Rattle.journal_model.specs.declared.answer.Answer.{Answer}
-use Rattle.journal_model.specs.declared.answer.Answer.TheVariants.{Memory, NoChild}
+use Rattle.journal_model.specs.declared.answer.Answer.TheVariants.{Ended as EndedAnswer, Memory, NoChild, Unsent as UnsentAnswer}
 use Rattle.journal_model.specs.declared.entry.What.{What}
 use Rattle.journal_model.specs.declared.entry.What.TheVariants.{Claim, Start, Answer as Answered}
 use Rattle.journal_model.specs.declared.entry.Entry.{Entry}
 use Rattle.journal_model.specs.declared.opening.Opening.{Opening}
 use Rattle.journal_model.specs.Journal.{any, is_ended, offers}
-use Rattle.journal_model.specs.Legality.{Legal, count, is_busy, is_claimed, is_start, numbers_of}
+use Rattle.journal_model.specs.Legality.{Legal, count, is_busy, is_of_lost_child, is_claimed, is_start, numbers_of}
 use Rattle.journal_model.specs.Shares.{are_by, is_of_child}
 use Rattle.journal_model.proofs.Ears.{halves_wire}
 use Rattle.journal_model.proofs.Looks.{any-append, each_of-append}
@@ -21,12 +21,12 @@ use Rattle.host_core.specs.Steps.{are_all_claimed, unclaimed}
 use Rattle.child_start.specs.Cores.{IsSameCore}
 use Rattle.task_run.specs.declared.setup.Setup.{Setup}
 use Rattle.task_run.specs.TaskRuns.{failed_start}
-use Rattle.lone_work.specs.Works.{DeskTells, ends_answered}
+use Rattle.lone_work.specs.Works.{DeskTells, ends_closed}
 use Rattle.lone_work.proofs.Working.{ends_behind}
 use Rattle.child_end.specs.Wires.{AreWires, IsWire, WireValue, came, came_in}
 use Rattle.child_end.specs.Programs.{AddsAll, HaveStarted as HaveStartedSo, Leaves, ProgramsValue, is_failed_start, told}
 use Rattle.lone_rounds.specs.Starting.{AllOffer, AreSpent, children, is_any_start, is_elsewhere, is_offered, is_ready_untagged, started_in}
-use Rattle.lone_rounds.specs.Rounds.{AllLostWell, AllStandNext, EndsClosed, RanAlone, ZeroAnswers, ends_for_memory, is_of_run, left_answer, start_untaken}
+use Rattle.lone_rounds.specs.Rounds.{AllLostWell, AllStandNext, EndsClosed, RanAlone, ZeroAnswers, ends_for_memory, is_of_run, last_again, left_answer, or_unserved, start_untaken}
 use Rattle.lone_rounds.specs.Stints.{AnswersLeft, AreLinked, AreUpTo, Between, IsLinked, IsOver, Kept, MayHaveAsked, OneStart, Spaced, Stint, TasksDone, answered_so, ear_of, main_entry, mouth_of}
 use Rattle.lone_rounds.proofs.Apart.{ended_on, ready_same}
 use Rattle.lone_rounds.proofs.Growing.{apart, between_next, starts_none}
@@ -38,7 +38,7 @@ use Rattle.lone_rounds.proofs.Spending.{none_spent, spent_both}
 use Rattle.lone_rounds.proofs.Tests.{any_same, children_up_to, count-append, count_fewer, count_none, no_children, none_came, none_left, offers_both, offers_none, or_false, some_left}
 use Rattle.lone_rounds.proofs.Turns.{claim_takes, none_fails}
 use Rattle.lone_rounds.proofs.Unready.{and_true}
-use Rattle.lone_rounds.proofs.Zeros.{rests_one}
+use Rattle.lone_rounds.proofs.Zeros.{again_lost, left_still, rests_one}
 
 -- ---- the begin
 
@@ -60,7 +60,7 @@ between_begin o setup may limit journal desk none = subst (λ (j : List Entry). 
     few = tt;
   };
   main = refl;
-  done = done_nothing o setup limit [] desk;
+  done = done_nothing o setup limit [] [] desk;
   last = λ all. record { past = []; closings = []; is = refl; answered = refl; closed = refl };
 }
 
@@ -75,12 +75,12 @@ kept_begin program journal before wires none bare =
 
 -- ---- the tasks that are left
 
-module _ (answer : Answer) where
-  left_all : (p : What → Bool) → ((t : ℕ) → p (Claim t 0) ≡ true) → ((t : ℕ) → p (Answered t answer) ≡ true) → (ts : List ℕ) → list_all (λ (e : Entry). p e.what) (answered_so answer ts) ≡ true
+module _ (answer : ℕ → Answer) where
+  left_all : (p : What → Bool) → ((t : ℕ) → p (Claim t 0) ≡ true) → ((t : ℕ) → p (Answered t (answer t)) ≡ true) → (ts : List ℕ) → list_all (λ (e : Entry). p e.what) (answered_so answer ts) ≡ true
   left_all p c a [] = refl
   left_all p c a (t ∷ ts) = rw (c t, a t, left_all p c a ts) refl
 
-  left_none : (p : What → Bool) → ((t : ℕ) → p (Claim t 0) ≡ false) → ((t : ℕ) → p (Answered t answer) ≡ false) → (ts : List ℕ) → any p (answered_so answer ts) ≡ false
+  left_none : (p : What → Bool) → ((t : ℕ) → p (Claim t 0) ≡ false) → ((t : ℕ) → p (Answered t (answer t)) ≡ false) → (ts : List ℕ) → any p (answered_so answer ts) ≡ false
   left_none p c a [] = refl
   left_none p c a (t ∷ ts) = rw (c t, a t, left_none p c a ts) refl
 
@@ -95,17 +95,17 @@ module _ (answer : Answer) where
   left_apart ts d = left_none (is_of_child d) (λ t. refl) (λ t. refl) ts
 
   abbrev one : ℕ → List Entry
-  one t = main_entry (Claim t 0) ∷ main_entry (Answered t answer) ∷ []
+  one t = main_entry (Claim t 0) ∷ main_entry (Answered t (answer t)) ∷ []
 
   behind_one : (past : List Entry) (t : ℕ) (ts : List ℕ) → past ++ answered_so answer (t ∷ ts) ≡ (past ++ one t) ++ answered_so answer ts
   behind_one past t ts = sym (append_assoc past (one t) (answered_so answer ts))
 
   left_rests : (past : List Entry) (ts : List ℕ) → ((u : ℕ) → is_busy past u ≡ false) → (u : ℕ) → is_busy (past ++ answered_so answer ts) u ≡ false
   left_rests past [] rest u = ap (λ (j : List Entry). is_busy j u) (append-nil past) ∙ rest u
-  left_rests past (t ∷ ts) rest u = ap (λ (j : List Entry). is_busy j u) (behind_one past t ts) ∙ left_rests (past ++ one t) ts (rests_one past t answer rest) u
+  left_rests past (t ∷ ts) rest u = ap (λ (j : List Entry). is_busy j u) (behind_one past t ts) ∙ left_rests (past ++ one t) ts (rests_one past t (answer t) rest) u
 
   one_untaken : (past : List Entry) (t : ℕ) → failed_start (past ++ one t) (start_untaken (past ++ one t)) ≡ None
-  one_untaken past t = none_fails (past ++ one t) (claim_takes past [] t answer refl)
+  one_untaken past t = none_fails (past ++ one t) (claim_takes past [] t (answer t) refl)
 
   left_untaken : (past : List Entry) (ts : List ℕ) → failed_start past (start_untaken past) ≡ None → failed_start (past ++ answered_so answer ts) (start_untaken (past ++ answered_so answer ts)) ≡ None
   left_untaken past [] h = subst (λ (j : List Entry). failed_start j (start_untaken j) ≡ None) (sym (append-nil past)) h
@@ -117,33 +117,39 @@ module _ (answer : Answer) where
   still_spent : (past more : List Entry) → any is_any_start more ≡ false → AreSpent past → AreSpent (past ++ more)
   still_spent past more none h = spent_both [] past more h (none_spent past more none)
 
-  same_left : (past more : List Entry) → any ends_for_memory more ≡ false → left_answer (past ++ more) ≡ left_answer past
-  same_left past more none =
-      ap (λ (b : Bool). cond b Memory NoChild) (any-append ends_for_memory past more ∙ ap (λ (b : Bool). any ends_for_memory past || b) none ∙ or_false (any ends_for_memory past))
-
   same_count : (past more : List Entry) → any is_any_start more ≡ false → count is_any_start (past ++ more) ≡ count is_any_start past
   same_count past more none = count-append is_any_start past more ∙ (let n = count_none is_any_start more none in omega (arith, n))
 
-  left_done : (o : Opening) (setup : Setup) (limit : ℕ) (journal : List Entry) (desk : DeskTells) → IsOfNoCall answer → (past : List Entry) (ts : List ℕ) → journal ≡ past ++ answered_so answer ts
-      → count is_any_start past ≡ limit → AreSpent past → answer ≡ left_answer past → failed_start past (start_untaken past) ≡ None → TasksDone o setup limit journal (answered_so answer ts) desk desk
-  left_done o setup limit journal desk quiet past [] is all spent says none = done_nothing o setup limit journal desk
+  left_done : (o : Opening) (setup : Setup) (limit : ℕ) (journal : List Entry) (desk : DeskTells) → ((t : ℕ) → IsOfNoCall (answer t)) → (past : List Entry) (ts : List ℕ) → journal ≡ past ++ answered_so answer ts
+      → count is_any_start past ≡ limit → AreSpent past → ((t : ℕ) → answer t ≡ left_answer past t) → failed_start past (start_untaken past) ≡ None → TasksDone o setup limit journal past (answered_so answer ts) desk desk
+  left_done o setup limit journal desk quiet past [] is all spent says none = done_nothing o setup limit journal past desk
   left_done o setup limit journal desk quiet past (t ∷ ts) is all spent says none =
-      done_join o setup limit journal (one t) (answered_so answer ts) desk desk desk
-      (done_zero o setup limit journal past (answered_so answer ts) t answer desk is (subst (λ (x : Option Answer). ZeroAnswers limit past x answer) (sym none) (all, spent, says)) quiet)
+      done_join o setup limit journal past (one t) (answered_so answer ts) desk desk desk
+      (done_zero o setup limit journal past (answered_so answer ts) t (answer t) desk is (subst (λ (x : Option Answer). ZeroAnswers limit past x t (answer t)) (sym none) (all, spent, says t)) (quiet t))
       (left_done o setup limit journal desk quiet (past ++ one t) ts (is ∙ behind_one past t ts) (same_count past (one t) refl ∙ all) (still_spent past (one t) refl spent)
-      (says ∙ sym (same_left past (one t) refl)) (one_untaken past t))
+      (λ u. says u ∙ sym (left_still past answer (t ∷ []) u)) (one_untaken past t))
 
--- an answer is the last of them
-left_ends : (answer : Answer) (t : ℕ) (ts : List ℕ) → ends_answered (answered_so answer (t ∷ ts)) ≡ true
+-- what closes a run is the last of them
+left_ends : (answer : ℕ → Answer) (t : ℕ) (ts : List ℕ) → ends_closed (answered_so answer (t ∷ ts)) ≡ true
 left_ends answer t [] = refl
 left_ends answer t (u ∷ ts) = left_ends answer u ts
 
-left_quiet : (past : List Entry) → IsOfNoCall (left_answer past)
-left_quiet past = go (any ends_for_memory past)
+-- an Again says that a child was lost, which tells of no call
+pub left_quiet : (o : Opening) (past : List Entry) → Legal o past → (t : ℕ) → IsOfNoCall (left_answer past t)
+left_quiet o past legal t = go (last_again past t) refl
   where
-    go : (b : Bool) → IsOfNoCall (cond b Memory NoChild)
-    go true = refl
-    go false = refl
+    unserved : (b : Bool) → IsOfNoCall (cond b Memory NoChild)
+    unserved true = refl
+    unserved false = refl
+
+    lost : (a : Answer) → is_of_lost_child a ≡ true → IsOfNoCall a
+    lost (EndedAnswer why) h = refl
+    lost UnsentAnswer h = refl
+    lost a h = absurd cc
+
+    go : (a : Option Answer) → last_again past t ≡ a → IsOfNoCall (or_unserved a past)
+    go None e = unserved (any ends_for_memory past)
+    go (Some a) e = lost a (again_lost o past legal t a e)
 
 module _ {o : Opening} {may : Bool} {made : ℕ} {offer : Bool} {old new : List Entry} (b : Spaced o may made offer old) (spent : AreSpent old) (a : AnswersLeft o old new (left_answer old)) (legal : Legal o new) where
   abbrev pub more : List Entry
@@ -191,8 +197,8 @@ module _ {o : Opening} {may : Bool} {made : ℕ} {offer : Bool} {old new : List 
   kept_left k = kept_still k b.few new more a.is none (left_apart (left_answer old) a.tasks)
 
   -- the tasks that were left are done by any desk, with no call
-  pub done_left : (setup : Setup) (limit : ℕ) (desk : DeskTells) → made ≡ limit → TasksDone o setup limit (old ++ more) more desk desk
-  done_left setup limit desk all = left_done (left_answer old) o setup limit (old ++ more) desk (left_quiet old) old a.tasks refl (b.starts ∙ all) spent refl b.untaken
+  pub done_left : (setup : Setup) (limit : ℕ) (desk : DeskTells) → made ≡ limit → TasksDone o setup limit (old ++ more) old more desk desk
+  done_left setup limit desk all = left_done (left_answer old) o setup limit (old ++ more) desk (left_quiet o old b.legal) old a.tasks refl (b.starts ∙ all) spent (λ t. refl) b.untaken
 
 module _ {o : Opening} {setup : Setup} {may : Bool} {limit made : ℕ} {offer : Bool} {old new : List Entry} {desk0 desk : DeskTells} (b : Between o setup may limit made offer old desk0 desk)
     (all : made ≡ limit) (spent : AreSpent old) (a : AnswersLeft o old new (left_answer old)) (legal : Legal o new) where
@@ -213,12 +219,12 @@ module _ {o : Opening} {setup : Setup} {may : Bool} {limit made : ℕ} {offer : 
         past = old ++ answered_so (left_answer old) (t ∷ ts);
         closings = [];
         is = is ∙ sym (append-nil (old ++ answered_so (left_answer old) (t ∷ ts)));
-        answered = ends_behind old (main_entry (Claim t 0)) (main_entry (Answered t (left_answer old)) ∷ answered_so (left_answer old) ts) (left_ends (left_answer old) t ts);
+        answered = ends_behind old (main_entry (Claim t 0)) (main_entry (Answered t (left_answer old t)) ∷ answered_so (left_answer old) ts) (left_ends (left_answer old) t ts);
         closed = refl;
       }
 
-      done_now : TasksDone o setup limit new new desk0 desk
-      done_now = subst (λ (j : List Entry). TasksDone o setup limit j j desk0 desk) (sym a.is) (done_both o setup limit old left old left desk0 desk desk b.spaced.legal b.spaced.rest b.done (done_left b.spaced spent a legal setup limit desk all))
+      done_now : TasksDone o setup limit new [] new desk0 desk
+      done_now = subst (λ (j : List Entry). TasksDone o setup limit j [] j desk0 desk) (sym a.is) (done_both o setup limit old left [] old left desk0 desk desk b.done (done_left b.spaced spent a legal setup limit desk all))
 
 -- ---- what a run leaves
 
@@ -231,8 +237,8 @@ ran_alone {o} {setup} {may} {limit} {made} {offer} {journal} le b = record {
   asks = b.spaced.asks;
   lost = b.spaced.lost;
   done = b.done.done;
+  rest = b.spaced.rest;
   claimed = b.done.claimed;
-  answered = b.done.answered;
   ran = all_runs o setup limit journal b.done.done b.done.ran;
   log_is = b.done.log_is;
   caused = b.done.caused;

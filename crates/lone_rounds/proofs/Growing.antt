@@ -9,13 +9,13 @@ use Rattle.journal_model.specs.declared.entry.Entry.{Entry}
 use Rattle.journal_model.specs.declared.opening.Opening.{Opening}
 use Rattle.journal_model.specs.Journal.{any, each_of, is_ended, offers}
 use Rattle.journal_model.specs.Legality.{Legal, count, is_start}
-use Rattle.journal_model.specs.Output.{answer_in}
 use Rattle.journal_model.specs.Shares.{are_by, is_of_child}
 use Rattle.journal_model.proofs.Looks.{any-append, differ, each_of-append}
 use Rattle.journal_model.proofs.Testing.{all-each, all-join, neither}
 use Rattle.host_core.specs.Steps.{are_all_claimed}
 use Rattle.task_run.specs.declared.setup.Setup.{Setup}
-use Rattle.lone_work.specs.Works.{DeskTells, claimed_task}
+use Rattle.lone_work.specs.Works.{DeskTells}
+use Rattle.gathering.specs.Tasks.{claimed_turn, turns_by}
 use Rattle.child_end.specs.Wires.{came, came_in}
 use Rattle.lone_rounds.specs.Starting.{AllOffer, AreSpent, OffersWell, children, is_any_start, is_elsewhere, is_offered, is_ready_untagged, is_spent, started_in}
 use Rattle.lone_rounds.specs.Rounds.{AllLostWell, AllStandNext, IsLostIn, is_of_run}
@@ -25,7 +25,7 @@ use Rattle.lone_rounds.proofs.Losing.{lost_both}
 use Rattle.lone_rounds.proofs.Nexts.{next_both, next_first}
 use Rattle.lone_rounds.proofs.Runs.{done_both, done_same}
 use Rattle.lone_rounds.proofs.Spending.{last_spent, spent_both}
-use Rattle.lone_rounds.proofs.Tests.{and_behind, any_none, any_same, children_up_to, claimed_on, count-append, count_none, neither_nor, no_children, none_came, offers_both, offers_none, up_to_both, up_to_more}
+use Rattle.lone_rounds.proofs.Tests.{and_behind, any_none, any_same, children_up_to, count-append, count_none, neither_nor, no_children, none_came, offers_both, offers_none, up_to_both, up_to_more}
 
 -- ---- the start itself
 
@@ -157,7 +157,7 @@ module _ {o : Opening} {offer next : Bool} {first : What} {old new : List Entry}
     spent_now : AreSpent old ⊎ (are_all_claimed o old ≡ true) → (list_all (is_spent new) (children (main_entry first ∷ [])) ≡ true) ⊎ (are_all_claimed o new ≡ true)
         → AreSpent new ⊎ (are_all_claimed o new ≡ true)
     spent_now h (inr all) = inr all
-    spent_now (inr all) (inl k) = inr (ap (are_all_claimed o) s.is ∙ claimed_on o old tail all)
+    spent_now (inr all) (inl k) = absurd (let bad : true ≡ false = sym all ∙ s.left in cc)
     spent_now (inl h) (inl k) = inl (subst AreSpent (sym s.is) (spent_both [] old tail h (last_spent old new s.later first s.is starts_none k)))
 
     pub spaced_next : Spaced o may (made + 1) next new
@@ -197,26 +197,17 @@ module _ {o : Opening} {setup : Setup} {limit : ℕ} {offer next : Bool} {first 
       last = t.last;
     }
       where
-        unclaimed_first : {X : Type 0} (f : What → Option X) → f first ≡ None → each_of f its_tail ≡ each_of f s.later
-        unclaimed_first f e = ap (λ (x : Option _). cons_option x (each_of f s.later)) e
-
-        first_takes : claimed_task first ≡ None
-        first_takes = go s.start
+        -- the start claims nothing
+        later_turns : turns_by 0 old its_tail ≡ turns_by 0 (old ++ main_entry first ∷ []) s.later
+        later_turns = go s.start
           where
-            go : IsStart old offer first → claimed_task first ≡ None
-            go (inl e) = ap claimed_task e
-            go (inr e) = ap claimed_task e
+            go : IsStart old offer first → turns_by 0 old its_tail ≡ turns_by 0 (old ++ main_entry first ∷ []) s.later
+            go (inl e) = ap (λ (w : What). cons_option (claimed_turn old w) (turns_by 0 (old ++ main_entry first ∷ []) s.later)) e
+            go (inr e) = ap (λ (w : What). cons_option (claimed_turn old w) (turns_by 0 (old ++ main_entry first ∷ []) s.later)) e
 
-        first_gives : answer_in first ≡ None
-        first_gives = go s.start
-          where
-            go : IsStart old offer first → answer_in first ≡ None
-            go (inl e) = ap answer_in e
-            go (inr e) = ap answer_in e
-
-        done_now : TasksDone o setup limit new new desk0 desk'
+        done_now : TasksDone o setup limit new [] new desk0 desk'
         done_now =
-            let at_new : TasksDone o setup limit (old ++ its_tail) s.later desk desk' = subst (λ (j : List Entry). TasksDone o setup limit j s.later desk desk') s.is t.done in
-            let of_tail : TasksDone o setup limit (old ++ its_tail) its_tail desk desk' =
-            done_same o setup limit (old ++ its_tail) s.later its_tail desk desk' (unclaimed_first claimed_task first_takes) (unclaimed_first answer_in first_gives) at_new in
-            subst (λ (j : List Entry). TasksDone o setup limit j j desk0 desk') (sym s.is) (done_both o setup limit old its_tail old its_tail desk0 desk desk' b.spaced.legal b.spaced.rest b.done of_tail)
+            let at_new : TasksDone o setup limit (old ++ its_tail) (old ++ main_entry first ∷ []) s.later desk desk' = subst (λ (j : List Entry). TasksDone o setup limit j (old ++ main_entry first ∷ []) s.later desk desk') s.is t.done in
+            let of_tail : TasksDone o setup limit (old ++ its_tail) old its_tail desk desk' =
+            done_same o setup limit (old ++ its_tail) (old ++ main_entry first ∷ []) old s.later its_tail desk desk' later_turns at_new in
+            subst (λ (j : List Entry). TasksDone o setup limit j [] j desk0 desk') (sym s.is) (done_both o setup limit old its_tail [] old its_tail desk0 desk desk' b.done of_tail)

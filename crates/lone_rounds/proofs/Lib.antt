@@ -14,3 +14,4 @@ pub mod Growing
 pub mod Leaving
 pub mod Ending
 pub mod Scanning
+pub mod LastAgain

@@ -16,11 +16,10 @@ use Rattle.annex_model.specs.Messages.{remote_reading}
 use Rattle.annex_model.specs.Tags.{names_async}
 use Rattle.journal_model.specs.Journal.{accepts_async, any, asked_jobs, ends, got_line, is_ended, is_mute, is_settled, is_tagged, offers, open_jobs, verdict_of, why_of}
 use Rattle.journal_model.specs.Legality.{Legal, count, is_busy, is_done, is_prepared, is_start, prepares}
-use Rattle.journal_model.specs.Output.{answer_in, answers_in}
 use Rattle.journal_model.specs.Shares.{is_closed}
 use Rattle.journal_model.proofs.Fresh.{fresh}
 use Rattle.journal_model.proofs.Linking.{why_is_end, why_of-append}
-use Rattle.journal_model.proofs.Looks.{any-append, both, each_of-append, unsettled, verdict_of-append}
+use Rattle.journal_model.proofs.Looks.{any-append, both, unsettled, verdict_of-append}
 use Rattle.journal_model.proofs.Projecting.{invariant}
 use Rattle.journal_model.proofs.Replying.{slice_get-left}
 use Rattle.journal_model.proofs.Testing.{all-join, or_left, or_right}
@@ -30,7 +29,9 @@ use Rattle.child_start.specs.Greetings.{Greeted, IsReady, is_of_greeting}
 use Rattle.child_start.proofs.Begun.{later_unstarted}
 use Rattle.task_run.specs.declared.setup.Setup.{Setup}
 use Rattle.task_run.specs.TaskRuns.{gone_answer, or_refusal, refusal_of, unready_answer}
-use Rattle.lone_work.specs.Works.{DeskTells, by_worker, claimed_task, claims_in, ends_answered}
+use Rattle.lone_work.specs.Works.{DeskTells, by_worker, ends_closed}
+use Rattle.gathering.specs.Tasks.{turns_by}
+use Rattle.gathering.proofs.Turning.{turns_by-append}
 use Rattle.lone_rounds.specs.Starting.{is_any_start, is_ready_untagged, is_spent, is_unclosed}
 use Rattle.lone_rounds.specs.Rounds.{AllStandNext, EndsClosed, NoneUntaken}
 use Rattle.lone_rounds.specs.Stints.{HasServed, Stint, TasksDone, in_stint, main_entry}
@@ -39,8 +40,8 @@ use Rattle.lone_rounds.proofs.Later.{late_from}
 use Rattle.lone_rounds.proofs.Losing.{loses_task}
 use Rattle.lone_rounds.proofs.Nexts.{next_both, next_quiet, next_where}
 use Rattle.lone_rounds.proofs.Runs.{done_same, worker_runs}
-use Rattle.lone_rounds.proofs.Stinting.{Closing, Part, closing, closing_claims, closing_ends, closing_part, closing_rests, closing_loses, greeting_claims_none, greeting_gives_none, greeting_part, greeting_takes_none, quiet_greeting, served_lost, worker_loses, of_closing, part_both, worker_part}
-use Rattle.lone_rounds.proofs.Tests.{any_none, claimed_on, claimed_same, or_false}
+use Rattle.lone_rounds.proofs.Stinting.{Closing, Part, closing, closing_claims, closing_ends, closing_part, closing_rests, closing_loses, greeting_claims_none, greeting_closes_none, greeting_part, greeting_takes_none, quiet_greeting, served_lost, worker_loses, of_closing, part_both, worker_part}
+use Rattle.lone_rounds.proofs.Tests.{any_none, claimed_same, or_false}
 use Rattle.lone_rounds.proofs.Turns.{ready_untaken}
 
 -- ---- a ready child stays so, and tagged or not
@@ -181,25 +182,22 @@ module _ (o : Opening) (setup : Setup) (limit : ℕ) (offer tagged : Bool) (old 
   part : Part c later
   part = part_both c greeted.more (its ++ k.tail) (greeting_part c greeted.more greeted.own greeted.main) rest_part
 
-  taken : claims_in later ≡ claims_in its
-  taken = each_of-append claimed_task greeted.more (its ++ k.tail) ∙ ap (λ (l : List ℕ). l ++ claims_in (its ++ k.tail)) (greeting_takes_none old g offer c greeted)
-      ∙ each_of-append claimed_task its k.tail ∙ ap (λ (l : List ℕ). claims_in its ++ l) (of_closing c k.tail k.one (λ (x : List Entry). claims_in x ≡ []) refl refl) ∙ append-nil (claims_in its)
+  taken : turns_by 0 (old ++ first ∷ []) later ≡ turns_by 0 g its
+  taken = turns_by-append 0 (old ++ first ∷ []) greeted.more (its ++ k.tail)
+      ∙ ap (λ (l : List (ℕ × ℕ)). l ++ turns_by 0 ((old ++ first ∷ []) ++ greeted.more) (its ++ k.tail)) (greeting_takes_none old g offer c greeted (old ++ first ∷ []))
+      ∙ ap (λ (p : List Entry). turns_by 0 p (its ++ k.tail)) (append_assoc old (first ∷ []) greeted.more ∙ sym greeted.grown)
+      ∙ turns_by-append 0 g its k.tail ∙ ap (λ (l : List (ℕ × ℕ)). turns_by 0 g its ++ l) (of_closing c k.tail k.one (λ (x : List Entry). turns_by 0 (g ++ its) x ≡ []) refl refl) ∙ append-nil (turns_by 0 g its)
 
-  given : answers_in later ≡ answers_in its
-  given = each_of-append answer_in greeted.more (its ++ k.tail) ∙ ap (λ (l : List (ℕ × Answer)). l ++ answers_in (its ++ k.tail)) (greeting_gives_none old g offer c greeted)
-      ∙ each_of-append answer_in its k.tail ∙ ap (λ (l : List (ℕ × Answer)). answers_in its ++ l) (of_closing c k.tail k.one (λ (x : List Entry). answers_in x ≡ []) refl refl) ∙ append-nil (answers_in its)
-
-  done : TasksDone o setup limit new later desk desk'
+  done : TasksDone o setup limit new (old ++ first ∷ []) later desk desk'
   done =
-      let at_end : TasksDone o setup limit (s.mid ++ k.tail) its desk desk' = record {
+      let at_end : TasksDone o setup limit (s.mid ++ k.tail) g its desk desk' = record {
         done = s.worked.done;
         claimed = s.worked.claimed;
-        answered = s.worked.answered;
-        ran = worker_runs o setup limit c s.mid k.tail s.worked.done s.can.number s.can.legal s.can.rest s.worked.ran;
+        ran = worker_runs o setup limit c s.mid k.tail s.worked.done s.can.number s.worked.ran;
         log_is = s.worked.log_is;
         caused = s.worked.caused;
       } in
-      done_same o setup limit new its later desk desk' taken given (subst (λ (j : List Entry). TasksDone o setup limit j its desk desk') (sym k.is) at_end)
+      done_same o setup limit new g (old ++ first ∷ []) its later desk desk' taken (subst (λ (j : List Entry). TasksDone o setup limit j g its desk desk') (sym k.is) at_end)
 
   abbrev so_far : List Entry
   so_far = (first ∷ greeted.more) ++ its
@@ -224,19 +222,19 @@ module _ (o : Opening) (setup : Setup) (limit : ℕ) (offer tagged : Bool) (old 
   over = go s.through
     where
       go : IsThrough o s.mid c → (list_all (is_spent new) (c ∷ []) ≡ true) ⊎ (are_all_claimed o new ≡ true)
-      go (inl all) = inr (ap (are_all_claimed o) k.is ∙ claimed_on o s.mid k.tail all)
+      go (inl all) = inr (ap (are_all_claimed o) k.is ∙ closing_claims c k.tail k.one o s.mid ∙ all)
       go (inr gone) = inl (ap (λ (b : Bool). b && true) (ap (λ (j : List Entry). is_spent j c) k.is ∙ spent_on s.mid k.tail c (gone_spent gone)))
 
-  -- where all are claimed then, a task was: the worker's last entry is an answer
+  -- where all are claimed then, a task was: the worker's last entry closes its run
   ends_now : are_all_claimed o new ≡ true → EndsClosed new
   ends_now all = go its refl s.worked.last
     where
       unworked : its ≡ [] → are_all_claimed o new ≡ false
       unworked none =
           ap (are_all_claimed o) k.is ∙ closing_claims c k.tail k.one o s.mid ∙ ap (are_all_claimed o) (s.worked.is ∙ ap (λ (x : List Entry). g ++ x) none ∙ append-nil g)
-          ∙ ap (are_all_claimed o) greeted.grown ∙ claimed_same o old (first ∷ greeted.more) (greeting_claims_none old g offer c greeted) ∙ left
+          ∙ ap (are_all_claimed o) greeted.grown ∙ claimed_same o old (first ∷ greeted.more) (greeting_claims_none old g offer c greeted) (greeting_closes_none old g offer c greeted) ∙ left
 
-      go : (xs : List Entry) → its ≡ xs → ends_answered xs ≡ true → EndsClosed new
+      go : (xs : List Entry) → its ≡ xs → ends_closed xs ≡ true → EndsClosed new
       go [] is h = absurd (let bad : true ≡ false = sym all ∙ unworked is in cc)
       go (x ∷ xs) is h = closing_ends c k.tail k.one g new x xs (k.is ∙ ap (λ (y : List Entry). y ++ k.tail) (s.worked.is ∙ ap (λ (y : List Entry). g ++ y) is)) h
 

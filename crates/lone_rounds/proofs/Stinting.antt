@@ -4,16 +4,15 @@ use Rattle.std.specs.Prelude.{◌&&◌, is_some}
 use Rattle.std.specs.List.{list_all, list_any}
 use Rattle.journal_model.specs.declared.verdict.Why.TheVariants.{Closed}
 use Rattle.journal_model.specs.declared.entry.What.{What}
-use Rattle.journal_model.specs.declared.entry.What.TheVariants.{Claim, NoStart, Start, Lead, Ask, Put, Sent, Mute, Got, End, Verdict as Settled, Lost, Answer as Answered, Note}
+use Rattle.journal_model.specs.declared.entry.What.TheVariants.{Claim, NoStart, Start, Lead, Ask, Put, Sent, Mute, Got, End, Verdict as Settled, Lost, Answer as Answered, Note, Again}
 use Rattle.journal_model.specs.declared.entry.Entry.{Entry}
 use Rattle.journal_model.specs.declared.opening.Opening.{Opening}
 use Rattle.journal_model.specs.Journal.{any, each_of, is_ended, is_started, open_jobs, starts}
-use Rattle.journal_model.specs.Legality.{Legal, claims, claimed_for, is_busy, is_busy_with, is_claimed, is_held_for, holder, may_stop}
+use Rattle.journal_model.specs.Legality.{Legal, claimed_for, is_busy, is_busy_with, is_held_for, holder, may_stop}
 use Rattle.journal_model.specs.Makers.{is_of_task}
-use Rattle.journal_model.specs.Output.{answer_in, answers_in}
 use Rattle.journal_model.specs.Shares.{are_by, by_link, is_closed}
 use Rattle.journal_model.specs.declared.holder.Holder.{Holder}
-use Rattle.journal_model.proofs.Holding.{answered, claimed, holder_append, unturned}
+use Rattle.journal_model.proofs.Holding.{claimed, closed, holder_append, unturned}
 use Rattle.journal_model.proofs.Looks.{any-append, both, same}
 use Rattle.journal_model.proofs.Testing.{all-join, or_left, or_right}
 use Rattle.journal_model.proofs.Working.{holder_apart}
@@ -27,14 +26,15 @@ use Rattle.link_roles.specs.Writings.{LoneWired}
 use Rattle.journal_model.specs.declared.answer.Answer.{Answer}
 use Rattle.child_start.specs.Greetings.{Greeted, IsReady, is_greeting_line, is_of_greeting}
 use Rattle.lone_work.specs.KnownLayouts.{IsBook}
-use Rattle.lone_work.specs.Works.{CanWork, by_worker, claimed_task, claims_in, ends_answered}
+use Rattle.lone_work.specs.Works.{CanWork, by_worker, ends_closed}
+use Rattle.gathering.specs.Tasks.{claimed_turn, turns_by}
 use Rattle.lone_work.proofs.Working.{ends_behind}
 use Rattle.lone_rounds.specs.Rounds.{AllLostWell, EndsClosed, is_closing, is_of_run}
 use Rattle.lone_rounds.specs.Stints.{AnswersOne, in_stint, main_entry}
 use Rattle.lone_rounds.proofs.Later.{all_work, greeting_asks, late}
 use Rattle.lone_rounds.proofs.Losing.{greeted_next, lost_both, lost_greeting, lost_tasks, loses_task}
 use Rattle.lone_rounds.proofs.Nexts.{is_quiet}
-use Rattle.lone_rounds.proofs.Tests.{each_none, any_none, claimed_same}
+use Rattle.lone_rounds.proofs.Tests.{each_none, any_none, claimed_same, turns_none}
 use Rattle.lone_rounds.proofs.Zeros.{rests_one}
 
 -- ---- a part
@@ -90,27 +90,20 @@ greeting_claims : (c : ℕ) (w : What) → is_of_greeting c w ≡ true → claim
 greeting_claims c (Claim task child) h = absurd cc
 greeting_claims c w h = refl
 
-greeting_answers : (c : ℕ) (w : What) → is_of_greeting c w ≡ true → answered w ≡ None
-greeting_answers c (Answered task answer) h = absurd cc
-greeting_answers c w h = refl
+greeting_closes : (c : ℕ) (w : What) → is_of_greeting c w ≡ true → closed w ≡ None
+greeting_closes c (Answered task answer) h = absurd cc
+greeting_closes c (Again task answer) h = absurd cc
+greeting_closes c w h = refl
 
-greeting_takes : (c : ℕ) (w : What) → is_of_greeting c w ≡ true → claimed_task w ≡ None
-greeting_takes c (Claim task child) h = absurd cc
-greeting_takes c w h = refl
-
-greeting_gives : (c : ℕ) (w : What) → is_of_greeting c w ≡ true → answer_in w ≡ None
-greeting_gives c (Answered task answer) h = absurd cc
-greeting_gives c w h = refl
+greeting_takes : (c : ℕ) (past : List Entry) (w : What) → is_of_greeting c w ≡ true → claimed_turn past w ≡ None
+greeting_takes c past (Claim task child) h = absurd cc
+greeting_takes c past w h = refl
 
 greeting_quiet : (c : ℕ) (w : What) → is_of_greeting c w ≡ true → is_quiet w ≡ true
 greeting_quiet c (Start child slot offer) h = absurd cc
 greeting_quiet c (NoStart slot) h = absurd cc
 greeting_quiet c (Claim task child) h = absurd cc
 greeting_quiet c w h = refl
-
-greeting_unclaimed : (c t : ℕ) (w : What) → is_of_greeting c w ≡ true → claims t w ≡ false
-greeting_unclaimed c t (Claim task child) h = absurd cc
-greeting_unclaimed c t w h = refl
 
 module _ (old new : List Entry) (offer : Bool) (c : ℕ) (g : Greeted old new 0 offer c) where
   abbrev first : Entry
@@ -120,11 +113,8 @@ module _ (old new : List Entry) (offer : Bool) (c : ℕ) (g : Greeted old new 0 
   greeting_started =
       ap (λ (j : List Entry). is_started j c) g.grown ∙ any-append (starts c) old (first ∷ g.more) ∙ or_right (is_started old c) (is_started (first ∷ g.more) c) (or_left (c == c) (is_started g.more c) (same c))
 
-  pub greeting_takes_none : claims_in g.more ≡ []
-  greeting_takes_none = each_none claimed_task (is_of_greeting c) (greeting_takes c) g.more g.own
-
-  pub greeting_gives_none : answers_in g.more ≡ []
-  greeting_gives_none = each_none answer_in (is_of_greeting c) (greeting_gives c) g.more g.own
+  pub greeting_takes_none : (past : List Entry) → turns_by 0 past g.more ≡ []
+  greeting_takes_none past = turns_none (is_of_greeting c) (greeting_takes c) 0 past g.more g.own
 
   pub quiet_greeting : list_all (λ (e : Entry). is_quiet e.what) g.more ≡ true
   quiet_greeting = all_in (is_of_greeting c) is_quiet (greeting_quiet c) g.more g.own
@@ -132,11 +122,14 @@ module _ (old new : List Entry) (offer : Bool) (c : ℕ) (g : Greeted old new 0 
   pub greeting_rests : ((t : ℕ) → is_busy old t ≡ false) → (t : ℕ) → is_busy new t ≡ false
   greeting_rests rest t =
       ap (λ (j : List Entry). is_busy j t) g.grown ∙ ap is_some (holder_append old (first ∷ g.more) t)
-      ∙ ap is_some (unturned t (holder old t) (first ∷ g.more) (each_none claimed (is_of_greeting c) (greeting_claims c) g.more g.own) (each_none answered (is_of_greeting c) (greeting_answers c) g.more g.own))
+      ∙ ap is_some (unturned t (holder old t) (first ∷ g.more) (each_none claimed (is_of_greeting c) (greeting_claims c) g.more g.own) (each_none closed (is_of_greeting c) (greeting_closes c) g.more g.own))
       ∙ rest t
 
-  pub greeting_claims_none : (t : ℕ) → is_claimed (first ∷ g.more) t ≡ false
-  greeting_claims_none t = any_none (is_of_greeting c) (claims t) (greeting_unclaimed c t) g.more g.own
+  pub greeting_claims_none : each_of claimed (first ∷ g.more) ≡ []
+  greeting_claims_none = each_none claimed (is_of_greeting c) (greeting_claims c) g.more g.own
+
+  pub greeting_closes_none : each_of closed (first ∷ g.more) ≡ []
+  greeting_closes_none = each_none closed (is_of_greeting c) (greeting_closes c) g.more g.own
 
   pub greeting_works : (o : Opening) → Legal o new → IsReady new c → IsBook o.notes → ((t : ℕ) → is_busy old t ≡ false) → CanWork o c new
   greeting_works o legal ready book rest = record {
@@ -165,6 +158,7 @@ worker_in c (Ask child job task line) h = (both (child == c) (not (task == 0)) h
 worker_in c (Lost child task) h = (both (child == c) (not (task == 0)) h).0
 worker_in c (Note task chunk count) h = refl
 worker_in c (Answered task answer) h = refl
+worker_in c (Again task answer) h = refl
 worker_in c (Put child job line) h = h
 worker_in c (Sent child) h = h
 worker_in c (Mute child) h = h
@@ -227,8 +221,8 @@ module _ (c : ℕ) (tail : List Entry) (one : (tail ≡ []) ⊎ (tail ≡ main_e
   pub closing_closes : list_all (λ (e : Entry). is_closing e.what) tail ≡ true
   closing_closes = of_closing (λ (x : List Entry). list_all (λ (e : Entry). is_closing e.what) x ≡ true) refl refl
 
-  -- after entries of which an answer is the last
-  pub closing_ends : (past new : List Entry) (x : Entry) (xs : List Entry) → new ≡ (past ++ x ∷ xs) ++ tail → ends_answered (x ∷ xs) ≡ true → EndsClosed new
+  -- after entries of which the last closes a run
+  pub closing_ends : (past new : List Entry) (x : Entry) (xs : List Entry) → new ≡ (past ++ x ∷ xs) ++ tail → ends_closed (x ∷ xs) ≡ true → EndsClosed new
   closing_ends past new x xs is h = record {
     past = past ++ x ∷ xs;
     closings = tail;
@@ -238,7 +232,7 @@ module _ (c : ℕ) (tail : List Entry) (one : (tail ≡ []) ⊎ (tail ≡ main_e
   }
 
   pub closing_claims : (o : Opening) (past : List Entry) → are_all_claimed o (past ++ tail) ≡ are_all_claimed o past
-  closing_claims o past = claimed_same o past tail (λ t. of_closing (λ (x : List Entry). is_claimed x t ≡ false) refl refl)
+  closing_claims o past = claimed_same o past tail (of_closing (λ (x : List Entry). each_of claimed x ≡ []) refl refl) (of_closing (λ (x : List Entry). each_of closed x ≡ []) refl refl)
 
   pub closing_rests : (mid : List Entry) → ((t : ℕ) → is_busy mid t ≡ false) → (t : ℕ) → is_busy (mid ++ tail) t ≡ false
   closing_rests mid rest t = ap is_some (holder_apart mid tail t (of_closing (λ (x : List Entry). any (is_of_task t) x ≡ false) refl refl)) ∙ rest t
@@ -257,15 +251,15 @@ may_close past c idle rest = rw (idle, none (each_of (claimed_for c) past)) refl
 
 -- ---- one task without a child
 
-module _ (o : Opening) (old mid : List Entry) (answer : Answer) where
+module _ (o : Opening) (old mid : List Entry) (answer : ℕ → Answer) where
   pub one_idle : (c : ℕ) (b : Bool) → AnswersOne o old mid answer b → open_jobs old c ≡ [] → open_jobs mid c ≡ []
-  one_idle c true a idle = ap (λ (j : List Entry). open_jobs j c) a.2 ∙ idle_on old (main_entry (Claim a.0 0) ∷ main_entry (Answered a.0 answer) ∷ []) c refl idle
+  one_idle c true a idle = ap (λ (j : List Entry). open_jobs j c) a.2 ∙ idle_on old (main_entry (Claim a.0 0) ∷ main_entry (Answered a.0 (answer a.0)) ∷ []) c refl idle
   one_idle c false a idle = ap (λ (j : List Entry). open_jobs j c) a.0 ∙ idle
 
   pub one_rests : (b : Bool) → AnswersOne o old mid answer b → ((t : ℕ) → is_busy old t ≡ false) → (t : ℕ) → is_busy mid t ≡ false
-  one_rests true a rest t = ap (λ (j : List Entry). is_busy j t) a.2 ∙ rests_one old a.0 answer rest t
+  one_rests true a rest t = ap (λ (j : List Entry). is_busy j t) a.2 ∙ rests_one old a.0 (answer a.0) rest t
   one_rests false a rest t = ap (λ (j : List Entry). is_busy j t) a.0 ∙ rest t
 
   pub one_wired : (e : EarValue) (m : MouthValue) → m.child ≡ e.child → (b : Bool) → AnswersOne o old mid answer b → LoneWired old e m → LoneWired mid e m
-  one_wired e m one true a w = subst (λ (j : List Entry). LoneWired j e m) (sym a.2) (lone_apart old (main_entry (Claim a.0 0) ∷ main_entry (Answered a.0 answer) ∷ []) e m one refl w)
+  one_wired e m one true a w = subst (λ (j : List Entry). LoneWired j e m) (sym a.2) (lone_apart old (main_entry (Claim a.0 0) ∷ main_entry (Answered a.0 (answer a.0)) ∷ []) e m one refl w)
   one_wired e m one false a w = subst (λ (j : List Entry). LoneWired j e m) (sym a.0) w

@@ -1,5 +1,5 @@
 -- Tests along entries and children, and what two stretches say together.
-use Rattle.std.proofs.Common.{◌≡◌, ℕ, ◌+◌, ◌≤◌, List, [], ◌∷◌, ◌++◌, refl, sym, ap, subst, ◌∙◌, Bool, true, false, not, cond, Some, None, Option, arith, length, length-append, append_assoc, append-nil}
+use Rattle.std.proofs.Common.{◌≡◌, ℕ, ◌+◌, ◌≤◌, List, [], ◌∷◌, ◌++◌, refl, sym, ap, subst, ◌∙◌, Bool, true, false, not, ◌==◌, cond, Some, None, Option, arith, length, length-append, append_assoc, append-nil}
 use Rattle.std.specs.Prelude.{◌&&◌, ◌||◌, filter}
 use Rattle.std.specs.List.{list_all, list_any, cons_option}
 use Rattle.std.proofs.lemmas.List.Elements.{filter-append}
@@ -8,11 +8,13 @@ use Rattle.journal_model.specs.declared.entry.What.TheVariants.{Start, NoStart}
 use Rattle.journal_model.specs.declared.entry.Entry.{Entry}
 use Rattle.journal_model.specs.declared.opening.Opening.{Opening}
 use Rattle.journal_model.specs.Journal.{any, each_of}
-use Rattle.journal_model.specs.Legality.{claims, count, is_claimed, numbers_of}
+use Rattle.journal_model.specs.Legality.{count, is_claimed, numbers_of}
+use Rattle.journal_model.proofs.Holding.{claimed, claimed_append, closed, unclaimed_on}
 use Rattle.journal_model.proofs.Looks.{both, either_left, either_right, any-append}
-use Rattle.journal_model.proofs.Testing.{all-each, or_left}
+use Rattle.journal_model.proofs.Testing.{all-each}
 use Rattle.host_core.specs.Steps.{are_all_claimed}
 use Rattle.child_end.specs.Wires.{came, came_in}
+use Rattle.gathering.specs.Tasks.{claimed_turn, turns_by}
 use Rattle.lone_rounds.specs.Starting.{AllOffer, OffersWell, children, is_any_start, started_in}
 use Rattle.lone_rounds.specs.Stints.{AreUpTo}
 
@@ -122,17 +124,25 @@ up_to_both n (Some c ∷ cs) ds h k = (h.0, up_to_both n cs ds h.1 k)
 
 -- ---- all tasks are claimed
 
-pub claimed_on : (o : Opening) (past more : List Entry) → are_all_claimed o past ≡ true → are_all_claimed o (past ++ more) ≡ true
-claimed_on o past more h = all-each (is_claimed past) (is_claimed (past ++ more)) (λ t k. any-append (claims t) past more ∙ or_left (is_claimed past t) (is_claimed more t) k) (numbers_of o) h
-
 all_same : (p q : ℕ → Bool) → ((t : ℕ) → p t ≡ q t) → (ts : List ℕ) → list_all p ts ≡ list_all q ts
 all_same p q f [] = refl
 all_same p q f (t ∷ ts) = rw (f t, all_same p q f ts) refl
 
--- entries that claim nothing
-pub claimed_same : (o : Opening) (past more : List Entry) → ((t : ℕ) → is_claimed more t ≡ false) → are_all_claimed o (past ++ more) ≡ are_all_claimed o past
-claimed_same o past more none =
-    all_same (is_claimed (past ++ more)) (is_claimed past) (λ t. any-append (claims t) past more ∙ ap (λ (b : Bool). is_claimed past t || b) (none t) ∙ or_false (is_claimed past t)) (numbers_of o)
+-- entries that claim nothing and close no run
+pub claimed_same : (o : Opening) (past more : List Entry) → each_of claimed more ≡ [] → each_of closed more ≡ [] → are_all_claimed o (past ++ more) ≡ are_all_claimed o past
+claimed_same o past more none kept =
+    all_same (is_claimed (past ++ more)) (is_claimed past) (λ t. claimed_append past more t ∙ unclaimed_on t (is_claimed past t) more none kept) (numbers_of o)
+
+-- entries of a kind that claims nothing take no turn
+pub turns_none : (p : What → Bool) → ((past : List Entry) (w : What) → p w ≡ true → claimed_turn past w ≡ None) → (n : ℕ) (past xs : List Entry) → list_all (λ (e : Entry). p e.what) xs ≡ true → turns_by n past xs ≡ []
+turns_none p none n past [] h = refl
+turns_none p none n past (e ∷ xs) h =
+    let t = both (p e.what) (list_all (λ (x : Entry). p x.what) xs) h in
+    ap (λ (o : Option (ℕ × ℕ)). cons_option o (turns_by n (past ++ e ∷ []) xs)) (go (e.by == n) (none past e.what t.0)) ∙ turns_none p none n (past ++ e ∷ []) xs t.1
+  where
+    go : (b : Bool) → claimed_turn past e.what ≡ None → cond b (claimed_turn past e.what) None ≡ None
+    go true h = h
+    go false h = refl
 
 -- where a task is left, not all are claimed
 pub some_left : (p : ℕ → Bool) (ts : List ℕ) → (length (filter (λ (t : ℕ). not (p t)) ts) ≡ 0 → ⊥) → list_all p ts ≡ false

@@ -14,17 +14,18 @@ use Rattle.journal_model.specs.declared.entry.Entry.{Entry}
 use Rattle.journal_model.specs.declared.opening.Opening.{Opening}
 use Rattle.journal_model.specs.Journal.{any, each_of, is_ended, is_mute, is_tagged, verdict_of, why_of}
 use Rattle.journal_model.specs.Legality.{is_busy, is_done, prepares}
-use Rattle.journal_model.specs.Output.{answer_in, answers_in}
 use Rattle.journal_model.specs.Shares.{is_closed}
 use Rattle.journal_model.proofs.Holding.{holder_append}
 use Rattle.journal_model.proofs.Linking.{why_is_end}
-use Rattle.journal_model.proofs.Looks.{each_of-append, or_none, verdict_of-append}
+use Rattle.journal_model.proofs.Looks.{or_none, verdict_of-append}
 use Rattle.journal_model.proofs.Testing.{all-join, or_left, or_right}
 use Rattle.host_core.specs.Steps.{are_all_claimed}
 use Rattle.child_start.specs.Greetings.{Greeted, HasEnded, IsRefused, IsUnsent, is_of_greeting, is_refusal}
 use Rattle.task_run.specs.declared.setup.Setup.{Setup}
 use Rattle.task_run.specs.TaskRuns.{ended_answer, failed_start, gone_answer, or_refusal, refusal_of, refused_at, unready_answer}
-use Rattle.lone_work.specs.Works.{DeskTells, claimed_task, claims_in}
+use Rattle.lone_work.specs.Works.{DeskTells}
+use Rattle.gathering.specs.Tasks.{turns_by}
+use Rattle.gathering.proofs.Turning.{turns_by-append}
 use Rattle.lone_rounds.specs.Starting.{is_ready_untagged, is_spent, is_unclosed}
 use Rattle.lone_rounds.specs.Rounds.{ZeroAnswers, start_untaken, turn_of}
 use Rattle.lone_rounds.specs.Stints.{AnswersOne, Stint, TasksDone, TurnsAway, in_stint, main_entry}
@@ -33,7 +34,7 @@ use Rattle.lone_rounds.proofs.Apart.{spent_on, why_unclosed}
 use Rattle.lone_rounds.proofs.Losing.{lost_tasks}
 use Rattle.lone_rounds.proofs.Nexts.{is_quiet, next_quiet}
 use Rattle.lone_rounds.proofs.Runs.{IsOfNoCall, done_same, done_zero}
-use Rattle.lone_rounds.proofs.Stinting.{Closing, Part, closing, closing_ends, closing_loses, closing_part, closing_rests, greeting_claims_none, greeting_gives_none, greeting_part, greeting_rests, greeting_takes_none, of_closing, part_both, quiet_greeting, served_lost, zero_part}
+use Rattle.lone_rounds.proofs.Stinting.{Closing, Part, closing, closing_ends, closing_loses, closing_part, closing_rests, greeting_claims_none, greeting_closes_none, greeting_part, greeting_rests, greeting_takes_none, of_closing, part_both, quiet_greeting, served_lost, zero_part}
 use Rattle.lone_rounds.proofs.Tests.{claimed_same, each_none}
 use Rattle.lone_rounds.proofs.Turns.{child_untaken, claim_takes, fault_untaken, none_fails}
 use Rattle.lone_rounds.proofs.Zeros.{rests_one}
@@ -121,13 +122,13 @@ module _ (o : Opening) (setup : Setup) (limit : ℕ) (offer : Bool) (old g new :
   first = main_entry (Start c 0 offer)
 
   still_left : are_all_claimed o g ≡ false
-  still_left = ap (are_all_claimed o) greeted.grown ∙ claimed_same o old (first ∷ greeted.more) (greeting_claims_none old g offer c greeted) ∙ left
+  still_left = ap (are_all_claimed o) greeted.grown ∙ claimed_same o old (first ∷ greeted.more) (greeting_claims_none old g offer c greeted) (greeting_closes_none old g offer c greeted) ∙ left
 
   untaken_now : start_untaken g ≡ Some (Some c)
   untaken_now = ap start_untaken greeted.grown ∙ child_untaken old greeted.more c offer (each_none turn_of (is_of_greeting c) (no_turn c) greeted.more greeted.own)
 
-  answers : ZeroAnswers limit g (failed_start g (start_untaken g)) answer
-  answers = subst (λ (x : Option Answer). ZeroAnswers limit g x answer) (sym (ap (failed_start g) untaken_now ∙ unready.says)) refl
+  answers : (t : ℕ) → ZeroAnswers limit g (failed_start g (start_untaken g)) t answer
+  answers t = subst (λ (x : Option Answer). ZeroAnswers limit g x t answer) (sym (ap (failed_start g) untaken_now ∙ unready.says)) refl
 
   module _ (mid : List Entry) (t : ℕ) (is : mid ≡ g ++ main_entry (Claim t 0) ∷ main_entry (Answered t answer) ∷ []) (k : Closing c mid new) where
     abbrev zero : List Entry
@@ -145,16 +146,14 @@ module _ (o : Opening) (setup : Setup) (limit : ℕ) (offer : Bool) (old g new :
     part : Part c later
     part = part_both c greeted.more (zero ++ k.tail) (greeting_part c greeted.more greeted.own greeted.main) (part_both c zero k.tail (zero_part c t answer) (closing_part c k.tail k.one))
 
-    taken : claims_in later ≡ claims_in zero
-    taken = each_of-append claimed_task greeted.more (zero ++ k.tail) ∙ ap (λ (l : List ℕ). l ++ claims_in (zero ++ k.tail)) (greeting_takes_none old g offer c greeted)
-        ∙ ap (λ (l : List ℕ). t ∷ l) (of_closing c k.tail k.one (λ (x : List Entry). claims_in x ≡ []) refl refl)
+    taken : turns_by 0 (old ++ first ∷ []) later ≡ turns_by 0 g zero
+    taken = turns_by-append 0 (old ++ first ∷ []) greeted.more (zero ++ k.tail)
+        ∙ ap (λ (l : List (ℕ × ℕ)). l ++ turns_by 0 ((old ++ first ∷ []) ++ greeted.more) (zero ++ k.tail)) (greeting_takes_none old g offer c greeted (old ++ first ∷ []))
+        ∙ ap (λ (p : List Entry). turns_by 0 p (zero ++ k.tail)) (append_assoc old (first ∷ []) greeted.more ∙ sym greeted.grown)
+        ∙ turns_by-append 0 g zero k.tail ∙ ap (λ (l : List (ℕ × ℕ)). turns_by 0 g zero ++ l) (of_closing c k.tail k.one (λ (x : List Entry). turns_by 0 (g ++ zero) x ≡ []) refl refl)
 
-    given : answers_in later ≡ answers_in zero
-    given = each_of-append answer_in greeted.more (zero ++ k.tail) ∙ ap (λ (l : List (ℕ × Answer)). l ++ answers_in (zero ++ k.tail)) (greeting_gives_none old g offer c greeted)
-        ∙ ap (λ (l : List (ℕ × Answer)). (t, answer) ∷ l) (of_closing c k.tail k.one (λ (x : List Entry). answers_in x ≡ []) refl refl)
-
-    done : TasksDone o setup limit new later desk desk
-    done = done_same o setup limit new zero later desk desk taken given (done_zero o setup limit new g k.tail t answer desk behind answers unready.quiet)
+    done : TasksDone o setup limit new (old ++ first ∷ []) later desk desk
+    done = done_same o setup limit new g (old ++ first ∷ []) zero later desk desk taken (done_zero o setup limit new g k.tail t answer desk behind (answers t) unready.quiet)
 
     pub unprepared : is_ready_untagged new c ≡ false
     unprepared =
@@ -195,7 +194,7 @@ module _ (o : Opening) (setup : Setup) (limit : ℕ) (offer : Bool) (old g new :
 module _ (o : Opening) (setup : Setup) (limit : ℕ) (offer : Bool) (old g new : List Entry) (desk : DeskTells)
     (left : are_all_claimed o old ≡ false) (rest : (t : ℕ) → is_busy old t ≡ false) (failed : g ≡ old ++ main_entry (NoStart 0) ∷ []) where
   fault_left : are_all_claimed o g ≡ false
-  fault_left = ap (are_all_claimed o) failed ∙ claimed_same o old (main_entry (NoStart 0) ∷ []) (λ t. refl) ∙ left
+  fault_left = ap (are_all_claimed o) failed ∙ claimed_same o old (main_entry (NoStart 0) ∷ []) refl refl ∙ left
 
   pub fault_rests : (t : ℕ) → is_busy g t ≡ false
   fault_rests t = ap (λ (j : List Entry). is_busy j t) failed ∙ closing_free t
@@ -203,8 +202,8 @@ module _ (o : Opening) (setup : Setup) (limit : ℕ) (offer : Bool) (old g new :
       closing_free : (u : ℕ) → is_busy (old ++ main_entry (NoStart 0) ∷ []) u ≡ false
       closing_free u = ap is_some (holder_append old (main_entry (NoStart 0) ∷ []) u) ∙ rest u
 
-  fault_answers : ZeroAnswers limit g (failed_start g (start_untaken g)) StartFault
-  fault_answers = subst (λ (x : Option Answer). ZeroAnswers limit g x StartFault) (sym (ap (failed_start g) (ap start_untaken failed ∙ fault_untaken old))) refl
+  fault_answers : (t : ℕ) → ZeroAnswers limit g (failed_start g (start_untaken g)) t StartFault
+  fault_answers t = subst (λ (x : Option Answer). ZeroAnswers limit g x t StartFault) (sym (ap (failed_start g) (ap start_untaken failed ∙ fault_untaken old))) refl
 
   fault_one : (t : ℕ) → new ≡ g ++ main_entry (Claim t 0) ∷ main_entry (Answered t StartFault) ∷ [] → Stint o setup limit offer offer (NoStart 0) old new desk desk
   fault_one t is = record {
@@ -225,7 +224,8 @@ module _ (o : Opening) (setup : Setup) (limit : ℕ) (offer : Bool) (old g new :
       offers = and_true offer;
     };
     main = refl;
-    done = done_zero o setup limit new g [] t StartFault desk is fault_answers refl;
+    done = subst (λ (p : List Entry). TasksDone o setup limit new p (main_entry (Claim t 0) ∷ main_entry (Answered t StartFault) ∷ []) desk desk) failed
+        (done_zero o setup limit new g [] t StartFault desk is (fault_answers t) refl);
     last = λ all. record {
       past = g ++ main_entry (Claim t 0) ∷ main_entry (Answered t StartFault) ∷ [];
       closings = [];
@@ -235,6 +235,6 @@ module _ (o : Opening) (setup : Setup) (limit : ℕ) (offer : Bool) (old g new :
     };
   }
 
-  pub fault_stint : (b : Bool) → AnswersOne o g new StartFault b → Stint o setup limit offer offer (NoStart 0) old new desk desk
+  pub fault_stint : (b : Bool) → AnswersOne o g new (λ t. StartFault) b → Stint o setup limit offer offer (NoStart 0) old new desk desk
   fault_stint true a = fault_one a.0 a.2
   fault_stint false a = absurd (let bad : true ≡ false = sym a.1 ∙ fault_left in cc)

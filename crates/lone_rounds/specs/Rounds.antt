@@ -1,5 +1,5 @@
 -- What a run leaves that is made by one thread, over one child at a time.
-use Rattle.std.specs.Prelude.{ℕ, ◌≡◌, ◌⊎◌, ◌<◌, ◌≤◌, ◌==◌, ◌||◌, not, if◌then◌else◌, Bool, true, false, List, [], ◌∷◌, ◌++◌, map, All, Option, Some, None, option_and_then, Result, MatchResult}
+use Rattle.std.specs.Prelude.{ℕ, ◌≡◌, ◌⊎◌, ◌<◌, ◌≤◌, ◌==◌, ◌||◌, not, if◌then◌else◌, Bool, true, false, List, [], ◌∷◌, ◌++◌, All, Option, Some, None, option_and_then, Result, MatchResult}
 use Rattle.std.specs.List.{list_all, last_or}
 use Rattle.ann_key.specs.declared.bytes.NoMemory.{NoMemory}
 use Rattle.ann_outside.specs.Calls.{Gained}
@@ -7,19 +7,19 @@ use Rattle.journal_model.specs.declared.verdict.Why.TheVariants.{Memory as ForMe
 use Rattle.journal_model.specs.declared.answer.Answer.{Answer}
 use Rattle.journal_model.specs.declared.answer.Answer.TheVariants.{Memory, NoChild}
 use Rattle.journal_model.specs.declared.entry.What.{What}
-use Rattle.journal_model.specs.declared.entry.What.TheVariants.{Start, NoStart, Claim, Ask, End, Lost, Answer as Answered}
+use Rattle.journal_model.specs.declared.entry.What.TheVariants.{Start, NoStart, Claim, Ask, End, Lost, Answer as Answered, Again}
 use Rattle.journal_model.specs.declared.entry.Entry.{Entry}
 use Rattle.journal_model.specs.declared.opening.Opening.{Opening}
 use Rattle.journal_model.specs.Journal.{any, each_of}
-use Rattle.journal_model.specs.Legality.{Legal, count}
-use Rattle.journal_model.specs.Output.{answers_in}
+use Rattle.journal_model.specs.Legality.{Legal, count, is_busy}
 use Rattle.journal_model.specs.Shares.{are_by, is_closed}
 use Rattle.host_core.specs.Steps.{are_all_claimed}
 use Rattle.task_run.specs.declared.setup.Setup.{Setup}
 use Rattle.task_run.specs.TaskRuns.{failed_start}
 use Rattle.gathering.specs.JournalRuns.{JournalRun}
 use Rattle.child_start.specs.Greetings.{is_greeting_line}
-use Rattle.lone_work.specs.Works.{DeskTells, TaskDone, CausedInTurn, all_calls, claims_in, ends_answered}
+use Rattle.lone_work.specs.Works.{DeskTells, TaskDone, CausedInTurn, all_calls, ends_closed, turns_of}
+use Rattle.gathering.specs.Tasks.{turns_by}
 use Rattle.lone_rounds.specs.Starting.{AllOffer, AreEnded, AreSpent, is_any_start, is_elsewhere}
 
 -- ---- a task that no child takes
@@ -98,28 +98,45 @@ abbrev pub ends_for_memory : What → Bool
 ends_for_memory (End child ForMemory) = true
 ends_for_memory w = false
 
--- how a task is answered that is left when no child can be started any more
-abbrev pub left_answer : List Entry → Answer
-left_answer past = if any ends_for_memory past then Memory else NoChild
+-- the answer with which the entry says that the task is to be run again
+abbrev pub again_of : ℕ → What → Option Answer
+again_of t (Again task answer) = if task == t then Some answer else None
+again_of t w = None
+
+-- that of the task's last Again
+abbrev pub last_again : List Entry → ℕ → Option Answer
+last_again past t = last_or None (each_of (again_of t) past)
+
+-- how a task is answered that was never to be run again, when no child can be started any more
+abbrev pub unserved_answer : List Entry → Answer
+unserved_answer past = if any ends_for_memory past then Memory else NoChild
+
+abbrev pub or_unserved : Option Answer → List Entry → Answer
+or_unserved (Some answer) past = answer
+or_unserved None past = unserved_answer past
+
+-- how a task is answered that is left when no child can be started any more: as its last Again says, if it has one
+abbrev pub left_answer : List Entry → ℕ → Answer
+left_answer past t = or_unserved (last_again past t) past
 
 -- The start before it gave no child that is ready, and this is what came of it; or there is no such start, slot 0 has made all
 -- its starts, and each is spent.
-abbrev pub ZeroAnswers : ℕ → List Entry → Option Answer → Answer → Type 0
-ZeroAnswers limit past (Some failed) answer = answer ≡ failed
-ZeroAnswers limit past None answer = (count is_any_start past ≡ limit) × AreSpent past × (answer ≡ left_answer past)
+abbrev pub ZeroAnswers : ℕ → List Entry → Option Answer → ℕ → Answer → Type 0
+ZeroAnswers limit past (Some failed) t answer = answer ≡ failed
+ZeroAnswers limit past None t answer = (count is_any_start past ≡ limit) × AreSpent past × (answer ≡ left_answer past t)
 
 -- The task was claimed without a child and answered at once.
 pub record ZeroRun (limit : ℕ) (journal : List Entry) (t : ℕ) (answer : Answer) : Type 0 where
   pub past : List Entry
   pub rest : List Entry
   pub is : journal ≡ past ++ record { by = 0; what = Claim t 0 } ∷ record { by = 0; what = Answered t answer } ∷ rest
-  pub answers : ZeroAnswers limit past (failed_start past (start_untaken past)) answer
+  pub answers : ZeroAnswers limit past (failed_start past (start_untaken past)) t answer
 
 -- ---- a task
 
--- It was claimed for a child, run over it, and answered so.
+-- It was claimed for a child, run over it, and closed so.
 pub record ChildRun (o : Opening) (setup : Setup) (journal : List Entry) (r : TaskDone) : Type 0 where
-  pub run : JournalRun o setup r.calls 0 r.task journal
+  pub run : JournalRun o setup r.calls 0 r.task r.turn journal
   pub child : 0 < run.run.child
   pub answer : run.run.answer ≡ r.answer
 
@@ -135,9 +152,8 @@ is_of_run (Ask child job task line) = if is_greeting_line job line then task == 
 is_of_run w = true
 
 -- The journal is legal and all its entries are the main thread's. Each child was started in its turn, and has ended. A request of no task
--- is lost in a greeting alone. Each task
--- that was claimed was run and then answered so, one after the other, and the desk made the calls of these runs, in their
--- order, and no others.
+-- is lost in a greeting alone. No task is left unanswered that was claimed. Each turn of a task that was claimed was run, one after the
+-- other, and the desk made the calls of these runs, in their order, and no others.
 pub record RanAlone (o : Opening) (setup : Setup) (may : Bool) (limit : ℕ) (journal : List Entry) (desk desk' : DeskTells) : Type 0 where
   pub legal : Legal o journal
   pub main : are_by 0 journal ≡ true
@@ -145,9 +161,9 @@ pub record RanAlone (o : Opening) (setup : Setup) (may : Bool) (limit : ℕ) (jo
   pub ended : AreEnded journal
   pub asks : list_all (λ e. is_of_run e.what) journal ≡ true
   pub lost : AllLostWell [] journal
+  pub rest : (t : ℕ) → is_busy journal t ≡ false
   pub done : List TaskDone
-  pub claimed : map (λ r. r.task) done ≡ claims_in journal
-  pub answered : map (λ r. (r.task, r.answer)) done ≡ answers_in journal
+  pub claimed : turns_of done ≡ turns_by 0 [] journal
   pub ran : All (HasRun o setup limit journal) done
   pub log_is : Gained desk.log desk'.log (all_calls done)
   pub caused : CausedInTurn desk.counts done desk'.counts
@@ -157,12 +173,12 @@ abbrev pub is_closing : What → Bool
 is_closing (End child why) = is_closed why
 is_closing w = false
 
--- after the last answer children were closed, and nothing else was done
+-- after the last run was closed children were closed, and nothing else was done
 pub record EndsClosed (journal : List Entry) : Type 0 where
   pub past : List Entry
   pub closings : List Entry
   pub is : journal ≡ past ++ closings
-  pub answered : ends_answered past ≡ true
+  pub answered : ends_closed past ≡ true
   pub closed : list_all (λ e. is_closing e.what) closings ≡ true
 
 -- all tasks were claimed, unless no memory was found to start a child

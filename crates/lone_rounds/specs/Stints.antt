@@ -1,5 +1,5 @@
 -- What one start and what follows it comes to, and how a run stands between two starts.
-use Rattle.std.specs.Prelude.{ℕ, ◌≡◌, ◌⊎◌, ◌≤◌, ◌+◌, ◌==◌, ◌&&◌, not, Bool, true, false, List, [], ◌∷◌, ◌++◌, map, Option, Some, None, Result, MatchResult}
+use Rattle.std.specs.Prelude.{ℕ, ◌≡◌, ◌⊎◌, ◌≤◌, ◌+◌, ◌==◌, ◌&&◌, not, Bool, true, false, List, [], ◌∷◌, ◌++◌, Option, Some, None, Result, MatchResult}
 use Rattle.std.specs.List.{list_all, list_any}
 use Rattle.ann_key.specs.declared.bytes.NoMemory.{NoMemory}
 use Rattle.ann_outside.specs.Calls.{Gained}
@@ -7,19 +7,19 @@ use Rattle.ann_outside.specs.Causes.{AddsOne, Stays}
 use Rattle.ann_outside.specs.Starts.{Starts}
 use Rattle.journal_model.specs.declared.answer.Answer.{Answer}
 use Rattle.journal_model.specs.declared.entry.What.{What}
-use Rattle.journal_model.specs.declared.entry.What.TheVariants.{Claim, Start, NoStart, Lead, Ask, Put, Sent, Mute, Got, End, Verdict as Settled, Lost, Answer as Answered, Note}
+use Rattle.journal_model.specs.declared.entry.What.TheVariants.{Claim, Start, NoStart, Lead, Ask, Put, Sent, Mute, Got, End, Verdict as Settled, Lost, Answer as Answered, Note, Again}
 use Rattle.journal_model.specs.declared.entry.Entry.{Entry}
 use Rattle.journal_model.specs.declared.opening.Opening.{Opening}
 use Rattle.journal_model.specs.Journal.{any, is_ended}
-use Rattle.journal_model.specs.Legality.{Legal, count, is_busy, is_start, least_free}
-use Rattle.journal_model.specs.Output.{answers_in}
+use Rattle.journal_model.specs.Legality.{Legal, count, is_busy, is_start, least_free, turn_of_task}
 use Rattle.journal_model.specs.Shares.{are_by}
 use Rattle.journal_model.specs.Halves.{EarValue, MouthValue}
 use Rattle.host_core.specs.Steps.{are_all_claimed}
 use Rattle.link_roles.specs.Alone.{Closes}
-use Rattle.gathering.specs.Tasks.{IsThrough}
+use Rattle.gathering.specs.Tasks.{IsThrough, turns_by}
 use Rattle.task_run.specs.declared.setup.Setup.{Setup}
-use Rattle.lone_work.specs.Works.{CanWork, DeskTells, TaskDone, Worked, CausedInTurn, all_calls, claims_in}
+use Rattle.lone_work.specs.Works.{CanWork, DeskTells, TaskDone, Worked, CausedInTurn, all_calls, turns_of}
+use Rattle.task_run.specs.declared.turn.TaskTurn.{TaskTurn}
 use Rattle.child_end.specs.Wires.{WireValue, IsHeld, IsOfStart, came}
 use Rattle.child_end.specs.Programs.{ProgramsValue, AddsAll, RoseBy, is_failed_start, told}
 use Rattle.lone_rounds.specs.Starting.{AllOffer, AreEnded, AreSpent, children, is_any_start, is_elsewhere, is_offered, is_ready_untagged, is_spent}
@@ -32,13 +32,13 @@ main_entry w = record { by = 0; what = w }
 -- ---- a task that is claimed without a child
 
 -- the least free task was claimed so; or nothing was done, and all are claimed
-abbrev pub ClaimsZero : Opening → List Entry → List Entry → Option ℕ → Type 0
-ClaimsZero o old new (Some t) = (least_free o old ≡ Some t) × (new ≡ old ++ main_entry (Claim t 0) ∷ [])
+abbrev pub ClaimsZero : Opening → List Entry → List Entry → Option TaskTurn → Type 0
+ClaimsZero o old new (Some u) = (least_free o old ≡ Some u.task) × (u.turn ≡ turn_of_task old u.task) × (new ≡ old ++ main_entry (Claim u.task 0) ∷ [])
 ClaimsZero o old new None = (new ≡ old) × (are_all_claimed o old ≡ true)
 
--- one was claimed so and answered at once; or nothing was done, and all are claimed
-abbrev pub AnswersOne : Opening → List Entry → List Entry → Answer → Bool → Type 0
-AnswersOne o old new answer true = (t : ℕ) × (least_free o old ≡ Some t) × (new ≡ old ++ main_entry (Claim t 0) ∷ main_entry (Answered t answer) ∷ [])
+-- one was claimed so and answered at once, each as is said of it; or nothing was done, and all are claimed
+abbrev pub AnswersOne : Opening → List Entry → List Entry → (ℕ → Answer) → Bool → Type 0
+AnswersOne o old new answer true = (t : ℕ) × (least_free o old ≡ Some t) × (new ≡ old ++ main_entry (Claim t 0) ∷ main_entry (Answered t (answer t)) ∷ [])
 AnswersOne o old new answer false = (new ≡ old) × (are_all_claimed o old ≡ true)
 
 -- there is such an entry, which ends a child for lack of memory
@@ -47,12 +47,12 @@ is_memory_end None = false
 is_memory_end (Some e) = ends_for_memory e.what
 
 -- these tasks, one after the other
-abbrev pub answered_so : Answer → List ℕ → List Entry
+abbrev pub answered_so : (ℕ → Answer) → List ℕ → List Entry
 answered_so answer [] = []
-answered_so answer (t ∷ ts) = main_entry (Claim t 0) ∷ main_entry (Answered t answer) ∷ answered_so answer ts
+answered_so answer (t ∷ ts) = main_entry (Claim t 0) ∷ main_entry (Answered t (answer t)) ∷ answered_so answer ts
 
 -- all that were left were claimed and answered so
-pub record AnswersLeft (o : Opening) (old new : List Entry) (answer : Answer) : Type 0 where
+pub record AnswersLeft (o : Opening) (old new : List Entry) (answer : ℕ → Answer) : Type 0 where
   pub tasks : List ℕ
   pub is : new ≡ old ++ answered_so answer tasks
   pub all : are_all_claimed o new ≡ true
@@ -61,7 +61,7 @@ pub record AnswersLeft (o : Opening) (old new : List Entry) (answer : Answer) : 
 
 -- one task was answered so, where one was left, and the child was closed
 abbrev pub TurnsAway : Opening → ℕ → List Entry → List Entry → Answer → Type 0
-TurnsAway o c old new answer = (mid : List Entry) × ((b : Bool) × AnswersOne o old mid answer b) × Closes 0 c mid new
+TurnsAway o c old new answer = (mid : List Entry) × ((b : Bool) × AnswersOne o old mid (λ t. answer) b) × Closes 0 c mid new
 
 -- tasks were done over the child until it was gone or all were claimed, and it was closed
 pub record HasServed (o : Opening) (setup : Setup) (c : ℕ) (old new : List Entry) (desk desk' : DeskTells) : Type 0 where
@@ -78,11 +78,11 @@ abbrev pub AllHaveRun : Opening → Setup → ℕ → List Entry → List TaskDo
 AllHaveRun o setup limit journal [] = Unit {0}
 AllHaveRun o setup limit journal (r ∷ rs) = HasRun o setup limit journal r × AllHaveRun o setup limit journal rs
 
--- The tasks that the entries claim are run in the journal and answered, in turn, and the desk made the calls of these runs.
-pub record TasksDone (o : Opening) (setup : Setup) (limit : ℕ) (journal entries : List Entry) (desk desk' : DeskTells) : Type 0 where
+-- The turns of tasks that the main thread claims among the entries, which stand after past, are run in the journal, one after the other,
+-- and the desk made the calls of these runs.
+pub record TasksDone (o : Opening) (setup : Setup) (limit : ℕ) (journal past entries : List Entry) (desk desk' : DeskTells) : Type 0 where
   pub done : List TaskDone
-  pub claimed : map (λ r. r.task) done ≡ claims_in entries
-  pub answered : map (λ r. (r.task, r.answer)) done ≡ answers_in entries
+  pub claimed : turns_of done ≡ turns_by 0 past entries
   pub ran : AllHaveRun o setup limit journal done
   pub log_is : Gained desk.log desk'.log (all_calls done)
   pub caused : CausedInTurn desk.counts done desk'.counts
@@ -105,6 +105,7 @@ in_stint c (Settled child job verdict) = child == c
 in_stint c (Lost child task) = child == c
 in_stint c (Answered task answer) = true
 in_stint c (Note task chunk count) = true
+in_stint c (Again task answer) = true
 
 -- the number of the next child
 abbrev pub next_child : List Entry → ℕ
@@ -135,7 +136,7 @@ pub record Stretch (o : Opening) (offer next : Bool) (first : What) (old new : L
 pub record Stint (o : Opening) (setup : Setup) (limit : ℕ) (offer next : Bool) (first : What) (old new : List Entry) (desk desk' : DeskTells) : Type 0 where
   pub stretch : Stretch o offer next first old new
   pub main : are_by 0 stretch.later ≡ true
-  pub done : TasksDone o setup limit new stretch.later desk desk'
+  pub done : TasksDone o setup limit new (old ++ main_entry first ∷ []) stretch.later desk desk'
   pub last : are_all_claimed o new ≡ true → EndsClosed new
 
 -- ---- wires and programs
@@ -217,7 +218,7 @@ pub record Spaced (o : Opening) (may : Bool) (made : ℕ) (offer : Bool) (journa
 pub record Between (o : Opening) (setup : Setup) (may : Bool) (limit made : ℕ) (offer : Bool) (journal : List Entry) (desk desk' : DeskTells) : Type 0 where
   pub spaced : Spaced o may made offer journal
   pub main : are_by 0 journal ≡ true
-  pub done : TasksDone o setup limit journal journal desk desk'
+  pub done : TasksDone o setup limit journal [] journal desk desk'
   pub last : are_all_claimed o journal ≡ true → EndsClosed journal
 
 -- the programs were asked for what the journal says, each of its children has its wire, and a fault was counted for each that failed

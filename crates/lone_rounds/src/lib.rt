@@ -2,6 +2,7 @@
 #![tactic(auto)]
 
 mod plan;
+mod renewed;
 mod running;
 mod serving;
 mod starting;
@@ -12,4 +13,4 @@ pub use plan::Plan;
 pub use running::run_alone;
 pub use serving::{serve, turn_away};
 pub use starting::{is_offered, not_prepared};
-pub use zero::{answer_left, answer_one, left_answer};
+pub use zero::{answer_left, answer_one};

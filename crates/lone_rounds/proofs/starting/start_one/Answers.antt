@@ -116,7 +116,7 @@ returns-in-StartFault-clause-starts g c =
     let tells = desk_tells (g.K.Desk.log c.args.desk.now) (g.K.Desk.counts c.args.desk.now) in (
       NoStart 0,
       fault_stint o c.args.plan.now.setup c.args.plan.now.starts c.args.offer old mid new tells c.requires.left c.requires.rest c.in-StartFault.ensures.tells c.answer_one.result
-          (subst (λ (w : Opening). AnswersOne w mid new StartFault c.answer_one.result) c.greet.ensures.core.opening c.answer_one.ensures.answers),
+          (subst (λ (w : Opening). AnswersOne w mid new (λ t. StartFault) c.answer_one.result) c.greet.ensures.core.opening c.answer_one.ensures.answers),
       starts_none c.args.plan.now.program new (programs_value (g.P.Programs.starts c.args.programs.now) (g.P.Programs.faults c.args.programs.now))
           (programs_value (g.P.Programs.starts c.greet.new.programs) (g.P.Programs.faults c.greet.new.programs)) _ _ (subst (λ (p : List ℕ). AddsOne (g.P.Programs.starts c.args.programs.now) (g.P.Programs.starts c.greet.new.programs) (p, false)) c.view-program.ensures c.in-StartFault.ensures.starts) (c.in-StartFault.ensures.fault refl) c.in-StartFault.ensures.later refl,
     )

@@ -1,8 +1,8 @@
-use Rattle.std.proofs.Common.{◌≡◌, ℕ, false, length}
+use Rattle.std.proofs.Common.{◌≡◌, ℕ, false}
 use Rattle.journal_model.specs.Legality.{Legal, is_busy}
-use Rattle.host_core.specs.Steps.{unclaimed}
+use Rattle.journal_model.specs.Room.{claims_left}
 use Rattle.child_start.specs.Cores.{IsSameCore}
-use Rattle.lone_rounds.specs.Rounds.{left_answer}
+use Rattle.lone_rounds.specs.Rounds.{left_answer, unserved_answer}
 use Rattle.lone_rounds.proofs.Zeros.{HasLeft}
 use Rattle.lone_rounds.proofs.zero.answer_left.Given as goal
 
@@ -11,9 +11,9 @@ invariant-tasks l = record {
   legal : Legal l.core.opening l.core.journal;
   rest : (t : ℕ) → is_busy l.core.journal t ≡ false;
   so_far : HasLeft l.initial.core.journal l.core.journal (left_answer l.initial.core.journal);
-  answer : l.answer ≡ left_answer l.initial.core.journal;
+  unserved : l.unserved ≡ unserved_answer l.initial.core.journal;
   core : IsSameCore l.initial.core l.core;
 }
 
 abbrev pub decreases-tasks : goal.decreases-tasks
-decreases-tasks l = length (unclaimed l.core.opening l.core.journal)
+decreases-tasks l = claims_left l.core.opening l.core.journal

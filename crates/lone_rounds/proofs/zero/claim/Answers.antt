@@ -1,4 +1,5 @@
-use Rattle.std.proofs.Common.{ℕ, Option, sym, subst}
+use Rattle.std.proofs.Common.{Option, sym, subst}
+use Rattle.task_run.specs.declared.turn.TaskTurn.{TaskTurn}
 use Rattle.lone_rounds.specs.Stints.{ClaimsZero}
 use Rattle.lone_rounds.proofs.Zeros.{claims_zero}
 use Rattle.lone_rounds.proofs.zero.claim.Goals as goal
@@ -8,5 +9,5 @@ returns-clause-claims c =
     let o = c.args.core.now.opening in
     let old = c.args.core.now.journal in
     let new = c.step.new.self.journal in
-    subst (λ (r : Option ℕ). ClaimsZero o old new r) (sym c.task_in.ensures)
+    subst (λ (r : Option TaskTurn). ClaimsZero o old new r) (sym c.task_in.ensures)
     (claims_zero o old new c.requires.rest c.in-Ok.reply c.in-Ok.ensures.reply c.in-Ok.ensures.journal)
