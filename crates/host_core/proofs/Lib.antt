@@ -9,3 +9,4 @@ pub mod Setting
 pub mod Sparing
 pub mod Answered
 pub mod Noting
+pub mod Running

@@ -75,6 +75,8 @@ fn may_come(wish: Wish, what: WhatRef<'_>) -> bool {
         | WhatRef::Got { .. }
         | WhatRef::Sent { .. }
         | WhatRef::Note { .. } => false,
+        // its number may not claim any more, and others may have seen no task that is left
+        WhatRef::Again { .. } => matches!(wish, Wish::Task),
         WhatRef::Ask { child, .. } => is_about(wish, child),
         WhatRef::Lead { child, .. } | WhatRef::Put { child, .. } => match wish {
             Wish::Line { child: of } => of == child,
