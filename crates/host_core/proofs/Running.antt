@@ -1,10 +1,10 @@
 -- What is kept of each task is what the journal says, after each group too.
-use Rattle.std.proofs.Common.{◌≡◌, ◌∙◌, ℕ, zero, suc, ◌+◌, ◌-◌, ◌<◌, ◌≤◌, ◌^◌, List, [], ◌∷◌, ◌++◌, ◌⊎◌, refl, sym, ap, subst, Bool, true, false, not, cond, Option, Some, None, length, get_or, set, replicate, arith, inl, inr, get_or-set_other, get_or-set_same, append-nil}
+use Rattle.std.proofs.Common.{◌≡◌, ◌∙◌, ℕ, zero, suc, ◌+◌, ◌-◌, ◌<◌, ◌≤◌, ◌^◌, List, [], ◌∷◌, ◌++◌, ◌⊎◌, refl, sym, ap, subst, Bool, true, false, not, cond, Option, Some, None, length, get_or, set, arith, inl, inr, get_or-set_other, get_or-set_same, append-nil}
 use Rattle.std.specs.Prelude.{◌&&◌, ◌==◌, nat_lt, find, fold}
 use Rattle.std.specs.List.{range_with_len}
 use Rattle.std.proofs.lemmas.Bool.{eqb-true, eqb-false}
 use Rattle.std.proofs.lemmas.Bool.Decides.{nat_tests}
-use Rattle.std.proofs.lemmas.List.{get_or_past, get_or-replicate, length-set}
+use Rattle.std.proofs.lemmas.List.{get_or_past, length-set}
 use Rattle.journal_model.specs.declared.answer.Answer.{Answer}
 use Rattle.journal_model.specs.declared.holder.Holder.{Holder}
 use Rattle.journal_model.specs.declared.entry.What.{What}
@@ -12,27 +12,34 @@ use Rattle.journal_model.specs.declared.entry.What.TheVariants.{Claim, Lead, Ask
 use Rattle.journal_model.specs.declared.entry.Entry.{Entry}
 use Rattle.journal_model.specs.declared.opening.Opening.{Opening}
 use Rattle.journal_model.specs.Due.{due_after, made_by}
-use Rattle.journal_model.specs.Legality.{count, renews, holder, turned, turned_by, is_number, is_free, least_free, is_claimed_by, has_open_job, is_of_lost_child, is_held_over_child, is_run_again, may_come}
+use Rattle.journal_model.specs.Legality.{count, renews, holder, turned, turned_by, is_number, is_free, least_free, is_claimed_by, has_open_job, is_of_lost_child, is_held_over_child, is_run_again, may_come, turn_of_task}
 use Rattle.journal_model.proofs.Growing.{pair}
 use Rattle.journal_model.proofs.Holding.{claimed, closed, due_names, holder_append, unturned}
 use Rattle.journal_model.proofs.Looks.{both, entry}
 use Rattle.journal_model.proofs.Working.{count-append, count_one, due_untasked, one_if, unrenewed_in}
 use Rattle.host_core.specs.declared.due.Due.{Due}
+use Rattle.host_core.specs.declared.due.Due.TheVariants.{Nothing}
 use Rattle.host_core.specs.declared.event.Event.{Event}
+use Rattle.host_core.specs.declared.event.Reply.TheVariants.{Task as TaskReply}
+use Rattle.host_core.specs.declared.moves.Move.{Move}
 use Rattle.host_core.specs.declared.runs.Run.{Run}
-use Rattle.host_core.specs.Moves.{dues, group_made}
+use Rattle.host_core.specs.Moves.{IsStep, dues, group_made}
 use Rattle.host_core.specs.Runs.{AreRuns, IsCounted, held_so, no_run, run_again, run_in, runs_after, runs_by}
-use Rattle.host_core.specs.Steps.{Step, step_of, group_of}
+use Rattle.host_core.specs.Steps.{Step, step_of, group_of, claim}
 use Rattle.host_core.proofs.Stepping.{Came, plain_may, step_came}
 
 -- ---- at the begin nothing was done
 
-none_kept : (n t : ℕ) → run_in (replicate n no_run) t ≡ no_run
-none_kept n t = go (nat_lt t n) refl
+pub no_runs : (o : Opening) (runs : List Run) → length runs ≡ length o.tasks + 1 → ((t : ℕ) → t < length runs → run_in runs t ≡ no_run) → AreRuns o [] runs
+no_runs o runs long none = record {
+  long = long;
+  renewed = λ t. ap (λ (r : Run). r.renewed) (each t (nat_lt t (length runs)) refl);
+  over_child = λ t. ap (λ (r : Run). r.over_child) (each t (nat_lt t (length runs)) refl);
+}
   where
-    go : (b : Bool) → nat_lt t n ≡ b → run_in (replicate n no_run) t ≡ no_run
-    go true e = get_or-replicate n t no_run no_run (grind (arith, nat_tests, e))
-    go false e = get_or_past (replicate n no_run) t no_run (grind (arith, nat_tests, e))
+    each : (t : ℕ) (b : Bool) → nat_lt t (length runs) ≡ b → run_in runs t ≡ no_run
+    each t true e = none t (grind (arith, nat_tests, e))
+    each t false e = get_or_past runs t no_run (grind (arith, nat_tests, e))
 
 -- ---- the table after an entry
 
@@ -164,6 +171,14 @@ table_grows o past by w rest runs begun within are = record {
       ap (λ (r : Run). r.over_child) (kept_by w runs t within) ∙ over_by t by w (run_in runs t) (holder past t) (are.over_child t)
       ∙ ap is_held_over_child (sym (begun.held t));
 }
+
+-- ---- a claim is answered with the turn that the table says
+
+pub claimed_step : (o : Opening) (past : List Entry) (by child task turn : ℕ) (move : Move) → least_free o past ≡ Some task → turn ≡ turn_of_task past task
+    → move ≡ record { reply = TaskReply task turn; what = Some (Claim task child); due = Nothing } → IsStep past by (claim o past by child (least_free o past)) move
+claimed_step o past by child task turn move least is so =
+    subst (λ (free : Option ℕ). IsStep past by (claim o past by child free) move) (sym least)
+    (subst (IsStep past by (claim o past by child (Some task))) (sym so) (record { reply_is = ap (TaskReply task) is; group_is = refl }))
 
 -- ---- an entry that may come has its place
 
