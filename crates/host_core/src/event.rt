@@ -85,10 +85,7 @@ pub enum Event {
 #[derive(Drop)]
 pub enum Reply {
     /// This task is claimed, for its first turn or a later one.
-    Task {
-        task: u32,
-        turn: u32,
-    },
+    Task { task: u32, turn: u32 },
     /// The child has this number.
     Child(u32),
     /// The request is this job of its child.

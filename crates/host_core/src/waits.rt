@@ -176,7 +176,7 @@ impl Waits {
         match (self.answered, reply) {
             (_, Reply::Wait) => self.answered = Answered::Nothing,
             (Answered::Nothing, _) => {}
-            (Answered::One(old), Reply::Task { task: new, .. }) if takes_over(opening, old, *new) => {
+            (Answered::One(old), Reply::Task { task, .. }) if takes_over(opening, old, *task) => {
                 self.answered = Answered::Nothing;
             }
             _ => self.wake_claimer(),
