@@ -1,8 +1,6 @@
 -- How often a run may let its tasks be run again.
 use Rattle.std.proofs.Common.{◌≤◌, lit≤, arith}
 use Rattle.journal_model.specs.AgainRows.{one_check_again}
-use Rattle.journal_model.specs.Rows.{one_check}
-use Rattle.journal_model.specs.Beginnings.{MayBegin}
 use Rattle.journal_model.proofs.Beginning.{check_begins}
 use Rattle.host_core.specs.Openings.{MayOpen}
 

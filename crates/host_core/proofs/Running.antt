@@ -1,18 +1,17 @@
 -- What is kept of each task is what the journal says, after each group too.
-use Rattle.std.proofs.Common.{◌≡◌, ◌∙◌, ℕ, zero, suc, ◌+◌, ◌-◌, ◌<◌, ◌≤◌, ◌^◌, List, [], ◌∷◌, ◌++◌, ◌⊎◌, refl, sym, ap, subst, Bool, true, false, not, cond, Option, Some, None, length, get_or, set, arith, inl, inr, get_or-set_other, get_or-set_same, append-nil}
-use Rattle.std.specs.Prelude.{◌&&◌, ◌==◌, nat_lt, find, fold}
+use Rattle.std.proofs.Common.{◌≡◌, ◌∙◌, ℕ, zero, suc, ◌+◌, ◌-◌, ◌<◌, ◌≤◌, ◌^◌, List, [], ◌∷◌, ◌++◌, refl, sym, ap, subst, Bool, true, false, not, cond, Option, Some, None, length, set, arith, inl, inr, get_or-set_other, get_or-set_same, append-nil}
+use Rattle.std.specs.Prelude.{◌&&◌, ◌==◌, nat_lt, find}
 use Rattle.std.specs.List.{range_with_len}
 use Rattle.std.proofs.lemmas.Bool.{eqb-true, eqb-false}
 use Rattle.std.proofs.lemmas.Bool.Decides.{nat_tests}
 use Rattle.std.proofs.lemmas.List.{get_or_past, length-set}
-use Rattle.journal_model.specs.declared.answer.Answer.{Answer}
 use Rattle.journal_model.specs.declared.holder.Holder.{Holder}
 use Rattle.journal_model.specs.declared.entry.What.{What}
 use Rattle.journal_model.specs.declared.entry.What.TheVariants.{Claim, Lead, Ask, Answer as Answered, Again}
 use Rattle.journal_model.specs.declared.entry.Entry.{Entry}
 use Rattle.journal_model.specs.declared.opening.Opening.{Opening}
 use Rattle.journal_model.specs.Due.{due_after, made_by}
-use Rattle.journal_model.specs.Legality.{count, renews, holder, turned, turned_by, is_number, is_free, least_free, is_claimed_by, has_open_job, is_of_lost_child, is_held_over_child, is_run_again, may_come, turn_of_task}
+use Rattle.journal_model.specs.Legality.{count, renews, holder, turned_by, is_number, is_free, least_free, is_claimed_by, has_open_job, is_of_lost_child, is_held_over_child, is_run_again, may_come, turn_of_task}
 use Rattle.journal_model.proofs.Growing.{pair}
 use Rattle.journal_model.proofs.Holding.{claimed, closed, due_names, holder_append, unturned}
 use Rattle.journal_model.proofs.Looks.{both, entry}
@@ -25,7 +24,7 @@ use Rattle.host_core.specs.declared.moves.Move.{Move}
 use Rattle.host_core.specs.declared.runs.Run.{Run}
 use Rattle.host_core.specs.Moves.{IsStep, dues, group_made}
 use Rattle.host_core.specs.Runs.{AreRuns, IsCounted, held_so, no_run, run_again, run_in, runs_after, runs_by}
-use Rattle.host_core.specs.Steps.{Step, step_of, group_of, claim}
+use Rattle.host_core.specs.Steps.{Step, step_of, claim}
 use Rattle.host_core.proofs.Stepping.{Came, plain_may, step_came}
 
 -- ---- at the begin nothing was done

@@ -6,7 +6,6 @@ ghost use Rattle.journal_model.specs.Limits.{most_tasks};
 ghost use Rattle.host_core.specs.Books.{notes_after};
 ghost use Rattle.host_core.specs.Mays.{IsMadeBy};
 ghost use Rattle.host_core.specs.Openings.{MayOpen, most_again};
-ghost use Rattle.host_core.specs.Runs.{AreRuns};
 ghost use Rattle.host_core.specs.Steps.{step_of, takes_no_memory, is_free, unclaimed, told, shut_by};
 ghost use Rattle.host_core.specs.Settings.{registers_after};
 

@@ -1,5 +1,5 @@
 // What is kept of each task, so that a claim and an answer needn't go through the journal.
-ghost use Rattle.std.specs.Prelude.{ℕ, ◌≡◌, ◌≤◌, ◌<◌, ◌-◌, ◌^◌, [], length, List, IfOk};
+ghost use Rattle.std.specs.Prelude.{◌≡◌, ◌≤◌, ◌<◌, ◌-◌, ◌^◌, [], length, List, IfOk};
 ghost use Rattle.std.specs.List.{slice_set};
 ghost use Rattle.journal_model.specs.declared.entry.Entry.{Entry};
 ghost use Rattle.journal_model.specs.declared.opening.Opening.{Opening};
