@@ -29,6 +29,7 @@ pub(crate) struct Stage {
     core: Option<Core>,
     turn: Turn,
     tasks: Vec<String>,
+    again: u32,
 }
 
 impl Stage {
@@ -37,6 +38,7 @@ impl Stage {
             core: None,
             turn: Turn::FIRST,
             tasks: Vec::new(alloc),
+            again: 0,
         }
     }
 
@@ -50,6 +52,10 @@ impl Stage {
         let (word, rest) = words::cut(text);
         match word {
             "task" => self.add_task(alloc, rest),
+            "again" => {
+                self.again = words::task(rest);
+                Ok(())
+            }
             "new" => self.renew(alloc),
             "close" => self.close(out),
             "by" | "child" | "of" => {
@@ -78,14 +84,15 @@ impl Stage {
         Ok(())
     }
 
-    // A core with the tasks that were added since the last one, or with one check.
+    // A core with the tasks that were added since the last one, or with one check, which may be run again as often as was said since.
     fn renew(&mut self, alloc: Global) -> Result<(), NoMemory> {
         self.turn = Turn::FIRST;
         if self.tasks.is_empty() {
             self.add_task(alloc, CHECK)?;
         }
-        let opening = opening(alloc, self.tasks.as_slice())?;
+        let opening = opening(alloc, self.tasks.as_slice(), self.again)?;
         self.tasks.clear();
+        self.again = 0;
         self.core = Some(Core::new(alloc, opening)?);
         Ok(())
     }
@@ -206,7 +213,7 @@ fn of_child(child: u32, word: &str, rest: &str) -> Option<Event> {
 
 fn tell_reply(out: &mut String, reply: &Reply) -> Result<(), AllocError> {
     match reply {
-        Reply::Task(task) => words::tell_number(out, "task", u64::from(*task)),
+        Reply::Task { task, turn } => write!(out, " => task {task}, turn {turn}"),
         Reply::Child(child) => words::tell_number(out, "child", u64::from(*child)),
         Reply::Job(job) => words::tell_number(out, "job", *job),
         Reply::Verdict(verdict) => write!(out, " => {verdict:?}"),

@@ -1,10 +1,10 @@
-// What runs begin with: tasks as their lines say, and the remote without a UUID.
+// What runs begin with: tasks as their lines say, how often they may be run again, and the remote without a UUID.
 ghost use Rattle.std.specs.Prelude.{◌≤◌, All, IfOk, OnOk, length};
 ghost use Rattle.task_text.specs.TaskLines.{IsTask};
 ghost use Rattle.chunk_log.specs.ChunkLines.{IsWrittenUuid};
-ghost use Rattle.journal_model.specs.Beginnings.{MayBegin};
 ghost use Rattle.journal_model.specs.Limits.{most_tasks};
 ghost use Rattle.journal_model.specs.Replies.{IsLineIdentity};
+ghost use Rattle.host_core.specs.Openings.{MayOpen};
 
 use ann_key::{NoMemory, Text};
 use chunk_log::NoteBook;
@@ -16,9 +16,9 @@ use task_text::{Task, TaskError, Tasks, read_task};
 pub(crate) const CHECK: &str =
     "check SHA256E-s0--e3b0c44298fc1c149afbf4c8996fb92427ae41e4649b934ca495991b7852b855";
 
-/// What a run of the tasks begins with that the lines spell.
-pub(crate) fn opening(alloc: Global, lines: &[String]) -> Result<Opening, NoMemory>
-    ensures { IfOk result MayBegin }
+/// What a run of the tasks begins with that the lines spell. They may be run again so often, but for the limit.
+pub(crate) fn opening(alloc: Global, lines: &[String], again: u32) -> Result<Opening, NoMemory>
+    ensures { IfOk result MayOpen }
 {
     let list = tasks(alloc, lines)?;
     let identity = identity(alloc)?;
@@ -28,6 +28,7 @@ pub(crate) fn opening(alloc: Global, lines: &[String]) -> Result<Opening, NoMemo
         notes: NoteBook::new(alloc),
         identity,
         stamp: 1_700_000_000_000_000,
+        again: again.min(8),
     })
 }
 

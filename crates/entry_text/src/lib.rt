@@ -65,6 +65,10 @@ fn what_text(alloc: Global, what: WhatRef<'_>) -> Result<String, NoMemory> {
             let answer = named(alloc, &answer)?;
             told(alloc, "answer", &[u64::from(task)], Some(answer.as_str()))
         }
+        WhatRef::Again { task, answer } => {
+            let answer = named(alloc, &answer)?;
+            told(alloc, "again", &[u64::from(task)], Some(answer.as_str()))
+        }
         WhatRef::Note { task, chunk, count } => {
             told(alloc, "note", &[u64::from(task), chunk, count], None)
         }

@@ -8,11 +8,11 @@ use Rattle.journal_model.specs.declared.verdict.Why.TheVariants.{Full}
 use Rattle.annex_model.specs.Lines.{has_newline}
 use Rattle.annex_model.specs.Messages.{HostMessage, AskExtensions, Prepare, Initremote, Transfer, Checkpresent, Remove, Listconfigs, Getcost, Getavailability, Getinfo, Whereis, Exportsupported, Export, Transferexport, Checkpresentexport, Removeexport, Renameexport, Value, Creds, HostError, host_line, host_reading, is_askable}
 use Rattle.journal_model.specs.declared.entry.What.{What}
-use Rattle.journal_model.specs.declared.entry.What.TheVariants.{Claim, Start, NoStart, Lead, Ask, Put, Sent, Mute, Got, End, Verdict as Settled, Lost, Answer as Answered, Note as Noted}
+use Rattle.journal_model.specs.declared.entry.What.TheVariants.{Claim, Start, NoStart, Lead, Ask, Put, Sent, Mute, Got, End, Verdict as Settled, Lost, Answer as Answered, Note as Noted, Again}
 use Rattle.journal_model.specs.declared.entry.Entry.{Entry}
 use Rattle.journal_model.specs.declared.opening.Opening.{Opening}
 use Rattle.journal_model.specs.Journal.{any, each_of, offers, is_started, is_ended, is_mute, is_live, unsent, addressed, on_wire, is_full}
-use Rattle.journal_model.specs.Legality.{is_empty, count, is_start, least_free, is_prepared, is_in_turn, may_ask, may_stop, may_come, may_lead, MayStand, IsGroup, needs_lead, is_led, says_name, is_text, claimed_for, is_number, asks_in_turn, offered_names}
+use Rattle.journal_model.specs.Legality.{is_empty, count, is_start, least_free, is_prepared, is_in_turn, may_ask, may_stop, may_come, may_lead, MayStand, IsGroup, needs_lead, is_led, says_name, is_text, claimed_for, is_number, asks_in_turn, is_run_again, offered_names}
 use Rattle.journal_model.proofs.Looks.{same_number, both}
 use Rattle.annex_model.proofs.Classes.{askable_test}
 use Rattle.journal_model.proofs.Asking.{read_askable}
@@ -29,7 +29,7 @@ use Rattle.talk_serial.specs.Requests.{message_of, name_of}
 use Rattle.host_core.specs.declared.event.Event.{Event}
 use Rattle.host_core.specs.declared.event.Event.TheVariants.{Claim as ClaimEvent, Start as StartEvent, NoStart as NoStartEvent, Ask as AskEvent, Got as GotEvent, Stop, Sent as SentEvent, Mute as MuteEvent, Answer as AnswerEvent, Note as NoteEvent}
 use Rattle.host_core.specs.declared.event.Reply.TheVariants.{Job}
-use Rattle.host_core.specs.Steps.{Step, step_of, group_of, append, odd, gone, claim, next_job, next_on_wire, asking, is_named_well, may_request, may_end, Comes, Appends}
+use Rattle.host_core.specs.Steps.{Step, step_of, group_of, append, odd, gone, claim, next_job, next_on_wire, asking, is_named_well, may_request, may_answer, may_end, Comes, Appends}
 use Rattle.host_core.proofs.Stepping.{step_comes}
 
 live : (past : List Entry) (c : ℕ) → is_live past c ≡ true → (is_started past c ≡ true) × (is_ended past c ≡ false)
@@ -223,7 +223,12 @@ given o past by (Lost child task) plain free h =
     let t = both (is_started past child && (is_ended past child || is_mute past child)) (may_ask past by task child) h in
     let u = both (is_started past child) (is_ended past child || is_mute past child) t.0 in
     lost_chosen o past by child task u.0 u.1 t.1
-given o past by (Answered task answer) plain free h = (AnswerEvent task answer, rw h refl)
+given o past by (Answered task answer) plain free h =
+    let t = both (may_answer past by task) (not (is_run_again o past task answer)) h in
+    (AnswerEvent task answer, rw (t.0, is_not (is_run_again o past task answer) t.1) refl)
+given o past by (Again task answer) plain free h =
+    let t = both (may_answer past by task) (is_run_again o past task answer) h in
+    (AnswerEvent task answer, rw (t.0, t.1) refl)
 given o past by (Noted task chunk count) plain free h = (NoteEvent task chunk count, rw h refl)
 
 pub chosen : (o : Opening) (past : List Entry) (by : ℕ) (w : What) → MayStand o past [] (record { by = by; what = w }) → Appends o past by w

@@ -9,3 +9,5 @@ pub mod Setting
 pub mod Sparing
 pub mod Answered
 pub mod Noting
+pub mod Running
+pub mod Limits

@@ -12,7 +12,7 @@ use Rattle.journal_model.specs.declared.verdict.Verdict.TheVariants.{Ended, Unse
 use Rattle.journal_model.specs.declared.verdict.Why.{Why}
 use Rattle.journal_model.specs.declared.verdict.Why.TheVariants.{Error as ErrorAt, Version as VersionFault}
 use Rattle.journal_model.specs.declared.entry.What.{What}
-use Rattle.journal_model.specs.declared.entry.What.TheVariants.{Claim, Start, NoStart, Lead, Ask, Put, Sent, Mute, Got, End, Verdict as Settled, Lost, Answer as Answered, Note as Noted}
+use Rattle.journal_model.specs.declared.entry.What.TheVariants.{Claim, Start, NoStart, Lead, Ask, Put, Sent, Mute, Got, End, Verdict as Settled, Lost, Answer as Answered, Note as Noted, Again}
 use Rattle.journal_model.specs.declared.entry.Entry.{Entry}
 use Rattle.journal_model.specs.declared.opening.Opening.{Opening}
 use Rattle.journal_model.specs.Journal.{is_open, is_live, is_full, has_spoken, addressed, asked_jobs, open_jobs, is_unsent}
@@ -194,6 +194,7 @@ setting_first o past by (Settled child job verdict) due legal served e = sym (ne
 setting_first o past by (Lost child task) due legal served e = sym (neither (is_reply due))
 setting_first o past by (Answered task answer) due legal served e = sym (neither (is_reply due))
 setting_first o past by (Noted task chunk count) due legal served e = sym (neither (is_reply due))
+setting_first o past by (Again task answer) due legal served e = sym (neither (is_reply due))
 
 rest_is : (d e : Entry) (ds es : List Entry) → d ∷ ds ≡ e ∷ es → ds ≡ es
 rest_is d e ds es h = cc

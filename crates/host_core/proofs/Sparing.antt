@@ -6,7 +6,7 @@ use Rattle.journal_model.specs.declared.answer.Answer.{Answer}
 use Rattle.journal_model.specs.declared.verdict.Why.{Why}
 use Rattle.journal_model.specs.declared.verdict.Verdict.{Verdict}
 use Rattle.journal_model.specs.declared.verdict.Verdict.TheVariants.{Ended, Unsent}
-use Rattle.journal_model.specs.declared.entry.What.TheVariants.{Mute, End, Answer as Answered, Sent, Verdict as Settled}
+use Rattle.journal_model.specs.declared.entry.What.TheVariants.{Mute, End, Answer as Answered, Sent, Verdict as Settled, Again}
 use Rattle.journal_model.specs.declared.entry.Entry.{Entry}
 use Rattle.journal_model.specs.declared.opening.Opening.{Opening}
 use Rattle.annex_model.specs.Lines.{has_newline}
@@ -14,13 +14,13 @@ use Rattle.talk_serial.specs.declared.request.Request.{Request}
 use Rattle.talk_serial.specs.Requests.{message_of, name_of}
 use Rattle.journal_model.specs.Journal.{is_full, first_of, is_started, is_ended, is_mute, is_live, is_unsent, open_jobs, unsent, verdict_of}
 use Rattle.journal_model.specs.Due.{made_by}
-use Rattle.journal_model.specs.Legality.{least_free, is_prepared, is_empty, is_claimed_by, task_of}
+use Rattle.journal_model.specs.Legality.{least_free, is_prepared, is_empty, is_claimed_by, is_run_again, task_of}
 use Rattle.task_text.specs.declared.task.Task.{Task}
 use Rattle.host_core.specs.declared.event.Event.{Event}
 use Rattle.host_core.specs.declared.event.Event.TheVariants.{Claim as ClaimEvent, Ask as AskEvent, Fetch, Got as GotEvent, Lookup, Look, Listen, Stop, Sent as SentEvent, Mute as MuteEvent, Answer as AnswerEvent, Layouts as LayoutsEvent, Shut}
 use Rattle.host_core.specs.declared.event.Reply.{Reply}
 use Rattle.host_core.specs.declared.event.Reply.TheVariants.{Job, NoTask, Read, Over, Wait, Done}
-use Rattle.host_core.specs.Steps.{Step, step_of, needs_room, needs_memory, is_free, next_line, takes_no_memory, odd, only, append, gone, is_gone, claim, are_all_claimed, is_asked, settled_so, listening, is_awaited, is_idle, may_end, may_answer, may_request, next_job, asking, is_named_well, resting}
+use Rattle.host_core.specs.Steps.{Step, step_of, needs_room, needs_memory, is_free, next_line, takes_no_memory, odd, only, append, gone, is_gone, claim, closing, are_all_claimed, is_asked, settled_so, listening, is_awaited, is_idle, may_end, may_answer, may_request, next_job, asking, is_named_well, resting}
 
 verdicts_free : (by c : ℕ) (v : Verdict) (js : List ℕ) → list_any needs_room (made_by by (map (λ j. Settled c j v) js)) ≡ false
 verdicts_free by c v [] = refl
@@ -57,6 +57,13 @@ mute_free o past by child = go (is_live past child)
     go true = let none = verdicts_free by child Unsent (filter (is_unsent past child) (open_jobs past child)) in rw none refl
     go false = refl
 
+closing_free : (o : Opening) (past : List Entry) (by task : ℕ) (answer : Answer) → is_free (append o past by (closing o past task answer) Done) ≡ true
+closing_free o past by task answer = go (is_run_again o past task answer)
+  where
+    go : (b : Bool) → is_free (append o past by (cond b (Again task answer) (Answered task answer)) Done) ≡ true
+    go true = refl
+    go false = refl
+
 choice : (b : Bool) (s t : Step) → is_free s ≡ true → is_free t ≡ true → is_free (cond b s t) ≡ true
 choice true s t h k = h
 choice false s t h k = k
@@ -72,7 +79,7 @@ event_free o past by (Stop child why) h =
     choice (not (is_started past child && may_end past child why)) _ _ refl (choice (is_ended past child) _ _ refl (end_free o past by child why))
 event_free o past by (SentEvent child) h = choice (is_empty (unsent past child)) _ _ refl refl
 event_free o past by (MuteEvent child) h = choice (is_started past child && not (is_mute past child)) _ _ (mute_free o past by child) refl
-event_free o past by (AnswerEvent task answer) h = choice (may_answer past by task) _ _ refl refl
+event_free o past by (AnswerEvent task answer) h = choice (may_answer past by task) _ _ (closing_free o past by task answer) refl
 event_free o past by (Shut on) h = choice (nat_le by 1) _ _ refl refl
 event_free o past by event h = absurd cc
 

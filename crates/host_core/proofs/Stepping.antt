@@ -16,11 +16,11 @@ use Rattle.std.specs.Prelude.{bytes_eq}
 use Rattle.std.proofs.lemmas.Slice.Eq.{bytes_eq-Decides}
 use Rattle.journal_model.specs.declared.answer.Answer.{Answer}
 use Rattle.journal_model.specs.declared.entry.What.{What}
-use Rattle.journal_model.specs.declared.entry.What.TheVariants.{Claim, Start, NoStart, Lead, Ask, Sent, Mute, Got, End, Lost, Answer as Answered, Note as Noted}
+use Rattle.journal_model.specs.declared.entry.What.TheVariants.{Claim, Start, NoStart, Lead, Ask, Sent, Mute, Got, End, Lost, Answer as Answered, Note as Noted, Again}
 use Rattle.journal_model.specs.declared.entry.Entry.{Entry}
 use Rattle.journal_model.specs.declared.opening.Opening.{Opening}
 use Rattle.journal_model.specs.Journal.{is_started, is_ended, is_mute, is_live, unsent, addressed, on_wire, verdict_of, is_full}
-use Rattle.journal_model.specs.Legality.{Legal, IsGroup, is_led, needs_lead, says_name, is_text, suits_child, is_empty, count, is_start, least_free, is_prepared, is_in_turn, may_ask, may_stop, may_come, is_number, asks_in_turn, is_claimed_by, task_of}
+use Rattle.journal_model.specs.Legality.{Legal, IsGroup, is_led, needs_lead, says_name, is_text, suits_child, is_empty, count, is_start, least_free, is_prepared, is_in_turn, may_ask, may_stop, may_come, is_number, asks_in_turn, is_claimed_by, is_run_again, task_of}
 use Rattle.task_text.specs.declared.task.Task.{Task}
 use Rattle.journal_model.specs.Due.{made_by}
 use Rattle.journal_model.proofs.Growing.{Led, pair, is_lead, due_group, pair_group, group_keeps}
@@ -236,10 +236,15 @@ mutes_keep : (o : Opening) (past : List Entry) (by child : ℕ) (b : Bool) → (
 mutes_keep o past by child true e = inr (inl (Mute child, e, refl))
 mutes_keep o past by child false e = inl refl
 
-answers_keep : (o : Opening) (past : List Entry) (by task : ℕ) (answer : Answer) (b : Bool) → may_answer past by task ≡ b
-    → Came o past by (cond b (append o past by (Answered task answer) Done) odd)
-answers_keep o past by task answer true e = inr (inl (Answered task answer, e, refl))
-answers_keep o past by task answer false e = inl refl
+answers_keep : (o : Opening) (past : List Entry) (by task : ℕ) (answer : Answer) (b again : Bool) → may_answer past by task ≡ b → is_run_again o past task answer ≡ again
+    → Came o past by (cond b (append o past by (cond again (Again task answer) (Answered task answer)) Done) odd)
+answers_keep o past by task answer true true e a =
+    let may : (may_answer past by task && is_run_again o past task answer) ≡ true = rw (e, a) refl in
+    inr (inl (Again task answer, may, refl))
+answers_keep o past by task answer true false e a =
+    let may : (may_answer past by task && not (is_run_again o past task answer)) ≡ true = rw (e, a) refl in
+    inr (inl (Answered task answer, may, refl))
+answers_keep o past by task answer false again e a = inl refl
 
 notes_keep : (o : Opening) (past : List Entry) (by task chunk count : ℕ) (b : Bool) → may_add_note o past by task chunk ≡ b
     → Came o past by (cond b (append o past by (Noted task chunk count) Done) odd)
@@ -268,7 +273,7 @@ step_came o past by (GotEvent child line) few = gots_keep o past by child line (
 step_came o past by (Stop child why) few = stops_keep o past by child why (is_started past child) (may_end past child why) (is_ended past child) refl refl refl
 step_came o past by (SentEvent child) few = sents_keep o past by child (is_empty (unsent past child)) refl
 step_came o past by (MuteEvent child) few = mutes_keep o past by child (is_started past child && not (is_mute past child)) refl
-step_came o past by (AnswerEvent task answer) few = answers_keep o past by task answer (may_answer past by task) refl
+step_came o past by (AnswerEvent task answer) few = answers_keep o past by task answer (may_answer past by task) (is_run_again o past task answer) refl refl
 step_came o past by (NoteEvent task chunk count) few = notes_keep o past by task chunk count (may_add_note o past by task chunk) refl
 
 pub step_comes : (o : Opening) (past : List Entry) (by : ℕ) (event : Event) → length past < 2 ^ 64 → Comes o past (step_of o past by event)

@@ -1,6 +1,7 @@
 -- What one event appends to the journal, and what is answered.
 use Rattle.std.specs.Prelude.{ℕ, ◌⊎◌, ◌≡◌, ◌+◌, ◌==◌, ◌&&◌, ◌||◌, not, nat_lt, nat_le, Bool, true, false, if◌then◌else◌, List, [], ◌∷◌, ◌++◌, length, Option, Some, None, filter}
 use Rattle.std.specs.List.{list_any, list_all}
+use Rattle.journal_model.specs.declared.answer.Answer.{Answer}
 use Rattle.journal_model.specs.declared.verdict.Why.{Why}
 use Rattle.journal_model.specs.declared.verdict.Why.TheVariants.{Full}
 use Rattle.journal_model.specs.declared.verdict.Verdict.{Verdict}
@@ -9,13 +10,13 @@ use Rattle.task_text.specs.declared.task.Task.{Task}
 use Rattle.annex_model.specs.Lines.{has_newline}
 use Rattle.annex_model.specs.Messages.{HostMessage, Export, host_line, is_askable}
 use Rattle.journal_model.specs.declared.entry.What.{What}
-use Rattle.journal_model.specs.declared.entry.What.TheVariants.{Claim, Start, NoStart, Lead, Ask, Sent, Mute, Got, End, Lost, Answer as Answered, Note as Noted}
+use Rattle.journal_model.specs.declared.entry.What.TheVariants.{Claim, Start, NoStart, Lead, Ask, Sent, Mute, Got, End, Lost, Answer as Answered, Note as Noted, Again}
 use Rattle.journal_model.specs.declared.entry.Entry.{Entry}
 use Rattle.journal_model.specs.declared.opening.Opening.{Opening}
 use Rattle.journal_model.specs.Journal.{is_started, is_ended, is_mute, asked_jobs, open_jobs, has_spoken, verdict_of, unsent, is_full, on_wire, why_of}
 use Rattle.journal_model.specs.Room.{room_for}
 use Rattle.journal_model.specs.Due.{due_after, made_by}
-use Rattle.journal_model.specs.Legality.{IsGroup, is_empty, is_text, count, is_start, is_claimed, numbers_of, least_free, is_prepared, is_in_turn, may_ask, may_stop, is_claimed_by, has_open_job, has_busy_task, task_of, may_note}
+use Rattle.journal_model.specs.Legality.{IsGroup, is_empty, is_text, count, is_start, is_claimed, numbers_of, least_free, is_prepared, is_in_turn, may_ask, may_stop, is_claimed_by, is_run_again, has_open_job, has_busy_task, task_of, may_note, turn_of_task}
 use Rattle.talk_serial.specs.Requests.{message_of, name_of}
 use Rattle.host_core.specs.Books.{notes_after}
 use Rattle.host_core.specs.declared.event.Event.{Event}
@@ -120,10 +121,14 @@ are_all_claimed o past = list_all (is_claimed past) (numbers_of o)
 abbrev pub unclaimed : Opening → List Entry → List ℕ
 unclaimed o past = filter (λ t. not (is_claimed past t)) (numbers_of o)
 
--- the least free task is claimed for the child
+-- the least free task is claimed for the child, for the turn that comes next
 abbrev pub claim : Opening → List Entry → ℕ → ℕ → Option ℕ → Step
-claim o past by child (Some task) = append o past by (Claim task child) (TaskReply task)
+claim o past by child (Some task) = append o past by (Claim task child) (TaskReply task (turn_of_task past task))
 claim o past by child None = only (if are_all_claimed o past then NoTask else Wait)
+
+-- the task is run again in place of the answer, or answered so
+abbrev pub closing : Opening → List Entry → ℕ → Answer → What
+closing o past task answer = if is_run_again o past task answer then Again task answer else Answered task answer
 
 -- the message as the next line to the child
 abbrev pub next_on_wire : List Entry → ℕ → HostMessage → List ℕ
@@ -215,7 +220,7 @@ step_of o past by (Stop child why) =
 step_of o past by (SentEvent child) = if is_empty (unsent past child) then odd else append o past by (Sent child) Done
 step_of o past by (MuteEvent child) =
     if is_started past child && not (is_mute past child) then append o past by (Mute child) Done else odd
-step_of o past by (AnswerEvent task answer) = if may_answer past by task then append o past by (Answered task answer) Done else odd
+step_of o past by (AnswerEvent task answer) = if may_answer past by task then append o past by (closing o past task answer) Done else odd
 step_of o past by (NoteEvent task chunk count) = if may_add_note o past by task chunk then append o past by (Noted task chunk count) Done else odd
 step_of o past by (LayoutsEvent task) = if is_claimed_by past by task then layouts_for o past (task_of o task) else odd
 step_of o past by (Shut on) = if nat_le by 1 then only Done else odd

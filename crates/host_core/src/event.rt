@@ -60,7 +60,7 @@ pub enum Event {
     Mute {
         child: u32,
     },
-    /// The answer of a task.
+    /// The answer of a task, or that it is run again in its place, where it may be.
     Answer {
         task: u32,
         answer: Answer,
@@ -84,8 +84,8 @@ pub enum Event {
 /// What the core answers.
 #[derive(Drop)]
 pub enum Reply {
-    /// This task is claimed.
-    Task(u32),
+    /// This task is claimed, for its first turn or a later one.
+    Task { task: u32, turn: u32 },
     /// The child has this number.
     Child(u32),
     /// The request is this job of its child.

@@ -5,15 +5,19 @@ ghost use Rattle.task_text.specs.declared.task.Task.{Task};
 ghost use Rattle.journal_model.specs.declared.entry.What.{What};
 ghost use Rattle.journal_model.specs.declared.entry.Entry.{Entry};
 ghost use Rattle.journal_model.specs.declared.opening.Opening.{Opening};
+ghost use Rattle.journal_model.specs.declared.answer.Answer.TheVariants.{Memory};
+ghost use Rattle.journal_model.specs.declared.entry.What.TheVariants.{Again, Answer as Answered};
+ghost use Rattle.journal_model.specs.AgainRows.{claimed_again, lost, lost_answer, one_check_again, renewed};
 ghost use Rattle.journal_model.specs.Legality.{Legal, MayStand, task_of};
 ghost use Rattle.journal_model.specs.Notes.{AreCurrentAt};
 ghost use Rattle.journal_model.specs.NoteRows.{to_do, known_since, claimed, stored, noting, noted_and_answered};
-ghost use Rattle.journal_model.specs.Rows.{greeting};
+ghost use Rattle.journal_model.specs.Rows.{by_main, greeting};
 ghost use Rattle.task_text.specs.declared.task.Work.TheVariants.{Store, Drop};
+ghost use Rattle.host_core.specs.Openings.{MayOpen};
 ghost use Rattle.host_core.specs.Steps.{step_of, Comes, Appends};
 ghost use Rattle.host_core.specs.declared.event.Event.{Event};
-ghost use Rattle.host_core.specs.declared.event.Event.TheVariants.{Layouts as AskLayouts};
-ghost use Rattle.host_core.specs.declared.event.Reply.TheVariants.{Layouts as Known, Odd};
+ghost use Rattle.host_core.specs.declared.event.Event.TheVariants.{Answer as AnswerEvent, Claim as ClaimEvent, Layouts as AskLayouts};
+ghost use Rattle.host_core.specs.declared.event.Reply.TheVariants.{Layouts as Known, Done, Odd, Task as TaskReply};
 
 /// An event appends nothing, or a whole group, and keeps a journal legal. Where nothing is due, each entry that may stand is one that
 /// some event appends first. A job's number has 64 bits, so these hold of journals shorter than that.
@@ -41,4 +45,25 @@ pub fn worked_layouts()
     ensures answered { (step_of (to_do Store) noted_and_answered 0 (AskLayouts 1)).reply ≡ Odd }
     ensures unclaimed { (step_of (to_do Store) greeting 0 (AskLayouts 1)).reply ≡ Odd }
     ensures other_task { (step_of (to_do Store) (noting 2) 0 (AskLayouts 2)).reply ≡ Odd }
+{}
+
+/// A run may let its tasks be run again eight times, and no more.
+#[tactic(auto, using(crate::proofs::Limits::eight_times, crate::proofs::Limits::no_more))]
+pub fn worked_limits()
+    ensures eight { MayOpen (one_check_again 8) }
+    ensures nine { MayOpen (one_check_again 9) → ⊥ }
+{}
+
+/// A task whose child was lost is run again in place of its answer, where it may be, and is claimed for its next turn.
+pub fn worked_agains()
+    ensures again { (step_of (one_check_again 1) lost 0 (AnswerEvent 1 lost_answer)).group ≡ by_main (Again 1 lost_answer) ∷ [] }
+    ensures done { (step_of (one_check_again 1) lost 0 (AnswerEvent 1 lost_answer)).reply ≡ Done }
+    ensures next { (step_of (one_check_again 1) renewed 0 (ClaimEvent 0)).reply ≡ TaskReply 1 2 }
+    ensures let_go { (step_of (one_check_again 1) renewed 0 (AnswerEvent 1 lost_answer)).reply ≡ Odd }
+    ensures other_answer { (step_of (one_check_again 1) lost 0 (AnswerEvent 1 Memory)).group ≡ by_main (Answered 1 Memory) ∷ [] }
+    ensures other_number { (step_of (one_check_again 1) lost 1 (AnswerEvent 1 lost_answer)).reply ≡ Odd }
+    ensures never { (step_of (one_check_again 0) lost 0 (AnswerEvent 1 lost_answer)).group ≡ by_main (Answered 1 lost_answer) ∷ [] }
+    ensures once { (step_of (one_check_again 1) (claimed_again 2) 0 (AnswerEvent 1 lost_answer)).group ≡ by_main (Answered 1 lost_answer) ∷ [] }
+    ensures twice { (step_of (one_check_again 2) (claimed_again 2) 0 (AnswerEvent 1 lost_answer)).group ≡ by_main (Again 1 lost_answer) ∷ [] }
+    ensures childless { (step_of (one_check_again 2) (claimed_again 0) 0 (AnswerEvent 1 lost_answer)).group ≡ by_main (Answered 1 lost_answer) ∷ [] }
 {}

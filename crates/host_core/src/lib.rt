@@ -10,6 +10,7 @@ mod lines;
 mod machine;
 mod moves;
 mod requests;
+mod runs;
 mod serving;
 mod shared;
 mod talks;

@@ -1,15 +1,16 @@
-ghost use Rattle.std.specs.Prelude.{◌≡◌, ◌<◌, ◌≤◌, ◌*◌, ◌^◌, ◌++◌, [], length, true, false, All, IfOk, IsOk, IsTrue, OnOk, OnErr};
+ghost use Rattle.std.specs.Prelude.{◌≡◌, ◌<◌, ◌≤◌, ◌+◌, ◌*◌, ◌^◌, ◌++◌, [], length, true, false, All, IfOk, IsOk, IsTrue, OnOk, OnErr};
 ghost use Rattle.chunk_log.specs.NoteBooks.{in_order};
-ghost use Rattle.journal_model.specs.Beginnings.{MayBegin};
 ghost use Rattle.journal_model.specs.Journal.{is_tagged};
 ghost use Rattle.journal_model.specs.Legality.{Legal};
 ghost use Rattle.journal_model.specs.Limits.{most_tasks};
 ghost use Rattle.host_core.specs.Books.{notes_after};
 ghost use Rattle.host_core.specs.Mays.{IsMadeBy};
+ghost use Rattle.host_core.specs.Openings.{MayOpen, most_again};
 ghost use Rattle.host_core.specs.Steps.{step_of, takes_no_memory, is_free, unclaimed, told, shut_by};
 ghost use Rattle.host_core.specs.Settings.{registers_after};
 
 use crate::event::{Event, Reply};
+use crate::runs::{self, Run};
 use crate::serving::Past;
 use crate::waits::{Turn, Waits};
 use crate::{group, keeping, moves};
@@ -30,6 +31,8 @@ pub struct Core {
     journal: Journal,
     registers: Registers,
     notes: NoteBook,
+    // of each task, by its number
+    runs: Vec<Run>,
     shut: bool,
     // whom the last event concerns
     waits: Waits,
@@ -39,7 +42,8 @@ impl Model for Core {
     ghost use Rattle.std.specs.Prelude.{◌≤◌, ◌<◌, ◌^◌};
     ghost use Rattle.journal_model.specs.Room.{room_of};
     ghost use Rattle.journal_model.specs.Legality.{Legal};
-    ghost use Rattle.journal_model.specs.Beginnings.{MayBegin};
+    ghost use Rattle.host_core.specs.Openings.{MayOpen};
+    ghost use Rattle.host_core.specs.Runs.{AreRuns};
     ghost use Rattle.host_core.specs.Books.{IsNoted};
     ghost use Rattle.host_core.specs.CoreValue.{CoreValue};
     ghost use Rattle.host_core.specs.Settings.{IsServed};
@@ -48,18 +52,19 @@ impl Model for Core {
 
     ghost view = { λ c. record { opening = c.opening; journal = c.journal.entries; registers = c.registers; notes = c.notes; shut = c.shut } };
 
-    ghost invariant = { λ c. Legal c.opening c.journal.entries × MayBegin c.opening × (room_of c.opening c.journal.entries ≤ c.journal.room) × (c.journal.room < 2 ^ 64) × IsServed c.opening c.journal.entries c.registers × IsNoted c.opening c.journal.entries c.notes };
+    ghost invariant = { λ c. Legal c.opening c.journal.entries × MayOpen c.opening × (room_of c.opening c.journal.entries ≤ c.journal.room) × (c.journal.room < 2 ^ 64) × IsServed c.opening c.journal.entries c.registers × IsNoted c.opening c.journal.entries c.notes × AreRuns c.opening c.journal.entries c.runs.items };
 }
 
 impl Core {
     /// A core with an empty journal.
     pub fn new(alloc: Global, opening: Opening) -> Result<Core, NoMemory>
-        requires { MayBegin opening }
+        requires { MayOpen opening }
         ensures opening { IfOk result (λ c. c.opening ≡ opening) }
         ensures empty { IfOk result (λ c. c.journal ≡ []) }
         ensures shut { IfOk result (λ c. c.shut ≡ false) }
     {
         let (journal, registers, notes) = begun(alloc, &opening)?;
+        let runs = runs::first_runs(alloc, &opening)?;
         let _kept = opening.registers.wanted();
         let _in_order = opening.notes.line(0);
         Ok(Core {
@@ -68,6 +73,7 @@ impl Core {
             journal,
             registers,
             notes,
+            runs,
             shut: false,
             waits: Waits::none(),
         })
@@ -97,6 +103,7 @@ impl Core {
             journal: &self.journal,
             registers: &self.registers,
             notes: &self.notes,
+            runs: self.runs.as_slice(),
         };
         let step = moves::move_of(self.alloc, past, by, event)?;
         let more = group::group_room(&step.what, &step.due)?;
@@ -110,6 +117,7 @@ impl Core {
             &step.what,
             &step.due,
         )?;
+        runs::note(&mut self.runs, &step.what);
         group::push_group(&mut self.journal, by, step.what, step.due);
         let reply = moves::told(waits, over, step.reply);
         self.shut = shut;
@@ -186,15 +194,17 @@ impl Core {
     }
 }
 
-// What a core begins with: a journal with room for what the tasks may come to, and copies of the opening's registers and notes.
+// What a core begins with: a journal with room for what the runs of the tasks may come to, and copies of the opening's registers and notes.
 fn begun(alloc: Global, opening: &Opening) -> Result<(Journal, Registers, NoteBook), NoMemory>
-    requires { length opening.now.tasks ≤ most_tasks }
-    ensures journal { IfOk result (λ b. (b.0.entries ≡ []) × (b.0.room ≡ 2 * length opening.now.tasks)) }
+    requires few { length opening.now.tasks ≤ most_tasks }
+    requires again { opening.now.again ≤ most_again }
+    ensures journal { IfOk result (λ b. (b.0.entries ≡ []) × (b.0.room ≡ 2 * ((1 + opening.now.again) * length opening.now.tasks))) }
     ensures registers { IfOk result (λ b. b.1 ≡ opening.now.registers) }
     ensures notes { IfOk result (λ b. b.2 ≡ opening.now.notes) }
 {
     let mut journal = Journal::new(alloc);
-    journal.take_room(2 * opening.tasks.view().len())?;
+    let runs = 1 + opening.again as usize;
+    journal.take_room(2 * (runs * opening.tasks.view().len()))?;
     let registers = opening.registers.copy()?;
     let notes = opening.notes.copy()?;
     Ok((journal, registers, notes))

@@ -7,9 +7,10 @@ ghost use Rattle.journal_model.specs.Legality.{Legal, least_free};
 ghost use Rattle.journal_model.specs.Due.{made_by};
 ghost use Rattle.talk_serial.specs.Requests.{message_of, name_of};
 ghost use Rattle.wire_msg.specs.Shown.{host_shown};
-ghost use Rattle.host_core.specs.Steps.{is_free, step_of, claim, asking, next_job, next_on_wire, is_gone, gone, may_end, may_answer, may_add_note, told, unless_shut, shut_by, shut_for, is_awaited, is_idle, listening, resting, next_line};
+ghost use Rattle.host_core.specs.Steps.{is_free, step_of, claim, asking, next_job, next_on_wire, is_gone, gone, may_end, may_answer, closing, may_add_note, told, unless_shut, shut_by, shut_for, is_awaited, is_idle, listening, resting, next_line};
 ghost use Rattle.host_core.specs.Books.{IsNoted};
 ghost use Rattle.host_core.specs.Moves.{IsStep, group_made};
+ghost use Rattle.host_core.specs.Runs.{AreRuns};
 ghost use Rattle.host_core.specs.Settings.{IsServed, IsDueReply};
 ghost use Rattle.journal_model.specs.declared.verdict.Why.TheVariants.{Full};
 ghost use Rattle.journal_model.specs.declared.entry.Entry.{Entry};
@@ -20,6 +21,7 @@ ghost use Rattle.host_core.specs.declared.due.Due.TheVariants.{Nothing, EndedJob
 
 use crate::due::{Due, due_by_got};
 use crate::event::{Event, Reply};
+use crate::runs::{self, Run};
 use crate::serving::Past;
 use crate::{lines, requests};
 use ann_key::{Bytes, NoMemory};
@@ -78,13 +80,17 @@ fn gone(journal: &Journal, child: u32) -> Reply
 }
 
 /// The least free task, claimed for the child.
-fn least(opening: &Opening, journal: &Journal, by: u32, child: u32) -> Move
-    requires { length opening.now.tasks ≤ most_tasks }
+fn least(opening: &Opening, journal: &Journal, runs: &[Run], by: u32, child: u32) -> Move
+    requires few { length opening.now.tasks ≤ most_tasks }
+    requires runs { AreRuns opening.now journal.now.entries runs.now }
     ensures step { IsStep journal.now.entries by (claim opening.now journal.now.entries by child (least_free opening.now journal.now.entries)) result }
     ensures reply { IsDueReply journal.now.entries result.what result.due }
 {
     match least_free(opening, journal) {
-        Some(task) => append(What::Claim { task, child }, Reply::Task(task)),
+        Some(task) => {
+            let turn = runs::turn_of_task(runs, task);
+            append(What::Claim { task, child }, Reply::Task { task, turn })
+        }
         None => {
             if are_all_claimed(opening, journal) {
                 only(Reply::NoTask)
@@ -95,13 +101,14 @@ fn least(opening: &Opening, journal: &Journal, by: u32, child: u32) -> Move
     }
 }
 
-fn claim(opening: &Opening, journal: &Journal, by: u32, child: u32) -> Move
-    requires { length opening.now.tasks ≤ most_tasks }
+fn claim(opening: &Opening, journal: &Journal, runs: &[Run], by: u32, child: u32) -> Move
+    requires few { length opening.now.tasks ≤ most_tasks }
+    requires runs { AreRuns opening.now journal.now.entries runs.now }
     ensures step { IsStep journal.now.entries by (step_of opening.now journal.now.entries by (Event.Claim child)) result }
     ensures reply { IsDueReply journal.now.entries result.what result.due }
 {
     if child == 0 && by == 0 {
-        return least(opening, journal, by, child);
+        return least(opening, journal, runs, by, child);
     }
     if !is_started(journal, child) || !is_prepared(journal, child) {
         return only(Reply::Odd);
@@ -109,7 +116,7 @@ fn claim(opening: &Opening, journal: &Journal, by: u32, child: u32) -> Move
     if is_gone(journal, child) {
         return only(gone(journal, child));
     }
-    least(opening, journal, by, child)
+    least(opening, journal, runs, by, child)
 }
 
 fn start(opening: &Opening, journal: &Journal, by: u32, slot: u32, offer: bool) -> Move
@@ -432,12 +439,31 @@ fn may_answer(journal: &Journal, by: u32, task: u32) -> bool
     is_claimed_by(journal, by, task) && !has_open_job(journal, task)
 }
 
-fn answer_task(opening: &Opening, journal: &Journal, by: u32, task: u32, answer: Answer) -> Move
+/// The task is run again in place of the answer, or answered so.
+fn closing(opening: &Opening, runs: &[Run], task: u32, answer: Answer) -> What
+    ensures { (past : List Entry) → AreRuns opening.now past runs.now → result ≡ closing opening.now past task answer }
+{
+    if runs::is_run_again(opening, runs, task, answer) {
+        What::Again { task, answer }
+    } else {
+        What::Answer { task, answer }
+    }
+}
+
+fn answer_task(
+    opening: &Opening,
+    journal: &Journal,
+    runs: &[Run],
+    by: u32,
+    task: u32,
+    answer: Answer,
+) -> Move
+    requires { AreRuns opening.now journal.now.entries runs.now }
     ensures step { IsStep journal.now.entries by (step_of opening.now journal.now.entries by (Event.Answer task answer)) result }
     ensures reply { IsDueReply journal.now.entries result.what result.due }
 {
     if may_answer(journal, by, task) {
-        append(What::Answer { task, answer }, Reply::Done)
+        append(closing(opening, runs, task, answer), Reply::Done)
     } else {
         only(Reply::Odd)
     }
@@ -540,14 +566,16 @@ pub(super) fn move_of(
     requires legal { Legal past.opening.now past.journal.now.entries }
     requires served { IsServed past.opening.now past.journal.now.entries past.registers.now }
     requires noted { IsNoted past.opening.now past.journal.now.entries past.notes.now }
+    requires runs { AreRuns past.opening.now past.journal.now.entries past.runs.now }
     ensures step { IfOk result (IsStep past.entry.journal.now.entries by (step_of past.entry.opening.now past.entry.journal.now.entries by event)) }
     ensures reply { IfOk result (λ m. IsDueReply past.entry.journal.now.entries m.what m.due) }
     ensures free { is_free (step_of past.entry.opening.now past.entry.journal.now.entries by event) ≡ true → IsOk result }
 {
     let opening = past.opening;
     let journal = past.journal;
+    let runs = past.runs;
     let step = match event {
-        Event::Claim { child } => claim(opening, journal, by, child),
+        Event::Claim { child } => claim(opening, journal, runs, by, child),
         Event::Start { slot, offer } => start(opening, journal, by, slot, offer),
         Event::NoStart { slot } => no_start(opening, journal, by, slot),
         Event::Ask {
@@ -563,7 +591,7 @@ pub(super) fn move_of(
         Event::Stop { child, why } => stop(opening, journal, by, child, why),
         Event::Sent { child } => sent(opening, journal, by, child),
         Event::Mute { child } => mute(opening, journal, by, child),
-        Event::Answer { task, answer } => answer_task(opening, journal, by, task, answer),
+        Event::Answer { task, answer } => answer_task(opening, journal, runs, by, task, answer),
         Event::Note { task, chunk, count } => note(opening, journal, by, task, chunk, count),
         Event::Layouts { task } => layouts(past, by, task)?,
         Event::Shut { on } => shut(opening, journal, by, on),

@@ -12,6 +12,7 @@ ghost use Rattle.host_core.specs.Moves.{dues, first_room};
 ghost use Rattle.host_core.specs.Settings.{IsServed, IsLine, is_reply, set_in};
 
 use crate::due::Due;
+use crate::runs::Run;
 use ann_key::{Bytes, NoMemory};
 use ask_serve::replies_to;
 use chunk_log::NoteBook;
@@ -21,13 +22,14 @@ use reg_file::Registers;
 use std::alloc::Global;
 use wire_msg::{RemoteMsg, read_remote};
 
-/// What stands so far: what the run began with, the journal, and the registers and the notes after it.
+/// What stands so far: what the run began with, the journal, and after it the registers, the notes, and what is kept of each task.
 #[derive(Clone, Copy)]
 pub struct Past<'a> {
     pub opening: &'a Opening,
     pub journal: &'a Journal,
     pub registers: &'a Registers,
     pub notes: &'a NoteBook,
+    pub runs: &'a [Run],
 }
 
 /// The lines as they stand on the wire in that job.

@@ -75,6 +75,8 @@ fn may_come(wish: Wish, what: WhatRef<'_>) -> bool {
         | WhatRef::Got { .. }
         | WhatRef::Sent { .. }
         | WhatRef::Note { .. } => false,
+        // its number may not claim any more, and others may have seen no task that is left
+        WhatRef::Again { .. } => matches!(wish, Wish::Task),
         WhatRef::Ask { child, .. } => is_about(wish, child),
         WhatRef::Lead { child, .. } | WhatRef::Put { child, .. } => match wish {
             Wish::Line { child: of } => of == child,
@@ -174,7 +176,7 @@ impl Waits {
         match (self.answered, reply) {
             (_, Reply::Wait) => self.answered = Answered::Nothing,
             (Answered::Nothing, _) => {}
-            (Answered::One(old), Reply::Task(new)) if takes_over(opening, old, *new) => {
+            (Answered::One(old), Reply::Task { task, .. }) if takes_over(opening, old, *task) => {
                 self.answered = Answered::Nothing;
             }
             _ => self.wake_claimer(),

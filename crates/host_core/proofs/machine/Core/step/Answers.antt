@@ -16,12 +16,14 @@ use Rattle.host_core.specs.Books.{notes_after}
 use Rattle.host_core.specs.CoreValue.{CoreValue}
 use Rattle.host_core.specs.Mays.{IsMadeBy}
 use Rattle.host_core.specs.Moves.{group_made, group_room}
+use Rattle.host_core.specs.Runs.{AreRuns}
 use Rattle.host_core.specs.Settings.{set_in, registers_after, IsServed}
 use Rattle.host_core.proofs.Sharing.{step_made}
 use Rattle.host_core.proofs.Stepping.{Legal-step}
 use Rattle.host_core.proofs.Pushing.{group_fits, few_entries, free_room, free_first}
 use Rattle.host_core.proofs.Sparing.{event_free}
 use Rattle.host_core.proofs.Noting.{note_fits, notes_grow}
+use Rattle.host_core.proofs.Running.{runs_fit, runs_grow}
 use Rattle.host_core.proofs.Setting.{settings_group, line_fits, registers_grow}
 use Rattle.host_core.proofs.machine.Core.step.Goals as goal
 
@@ -41,6 +43,16 @@ keep_group-requires-clause-sized c =
     let past : List Entry = c.self.inside.journal.entries in
     let few = few_entries o past c.self.inside.journal.room c.self.invariant.0 c.self.invariant.2 c.self.invariant.3 in
     note_fits o past c.args.by c.args.event c.in_ok-step.step.what c.in_ok-step.step.due few c.in_ok-step.ensures.step.group_is
+
+pub keep_group-requires-clause-begins : goal.keep_group-requires-clause-begins
+keep_group-requires-clause-begins c = c.self.invariant.1.begins
+
+pub note-requires : goal.note-requires
+note-requires c =
+    let o : Opening = c.self.inside.opening in
+    let past : List Entry = c.self.inside.journal.entries in
+    let few = few_entries o past c.self.inside.journal.room c.self.invariant.0 c.self.invariant.2 c.self.invariant.3 in
+    runs_fit o past c.args.by c.args.event c.in_ok-step.step.what c.in_ok-step.step.due c.self.inside.runs.items few c.self.invariant.1.again c.self.invariant.6 c.in_ok-step.ensures.step.group_is
 
 pub push_group-requires : goal.push_group-requires
 push_group-requires c =
@@ -114,6 +126,9 @@ invariant_of-self-2 c =
       omega (arith, c.take_room.ensures.small, c.push_group.ensures.room),
       record { given = returns-clause-registers c; kept = c.self.invariant.4.kept; identity = c.self.invariant.4.identity },
       record { given = returns-clause-notes c; order = c.self.invariant.5.order },
+      subst (λ (es : List Entry). AreRuns o es c.note.new.runs.items) (sym grown)
+          (subst (AreRuns o (past ++ group_made past c.args.by what due)) (sym c.note.ensures)
+          (runs_grow o past c.args.by c.args.event what due c.self.inside.runs.items few c.self.invariant.1.again c.self.invariant.6 e)),
     )
 
 pub returns-clause-reply : goal.returns-clause-reply
