@@ -7,14 +7,14 @@ use Rattle.std.proofs.lemmas.Bool.Decides.{nat_tests}
 use Rattle.journal_model.specs.declared.verdict.Verdict.{Verdict}
 use Rattle.journal_model.specs.declared.verdict.Why.{Why}
 use Rattle.journal_model.specs.declared.entry.What.{What}
-use Rattle.journal_model.specs.declared.entry.What.TheVariants.{Claim, Start, NoStart, Lead, Ask, Put, Sent, Mute, Got, End, Verdict as Settled, Lost, Answer as Answered, Note}
+use Rattle.journal_model.specs.declared.entry.What.TheVariants.{Claim, Start, NoStart, Lead, Ask, Put, Sent, Mute, Got, End, Verdict as Settled, Lost, Answer as Answered, Note, Again}
 use Rattle.journal_model.specs.declared.entry.Entry.{Entry}
 use Rattle.journal_model.specs.declared.opening.Opening.{Opening}
 use Rattle.journal_model.specs.Journal.{any, asks, asked_jobs, each_of, ends, is_ended, is_open, is_started, open_jobs, starts, verdict_of, why_of, writes}
 use Rattle.journal_model.specs.Legality.{Legal, asks_prepare, count, is_busy, is_done, is_prepared, is_start, holder, prepares}
 use Rattle.journal_model.specs.Shares.{is_closed, is_of_child}
 use Rattle.journal_model.proofs.Fresh.{fresh}
-use Rattle.journal_model.proofs.Holding.{answered, claimed, holder_append, unturned}
+use Rattle.journal_model.proofs.Holding.{closed, claimed, holder_append, unturned}
 use Rattle.journal_model.proofs.Linking.{why_is_end, why_of-append}
 use Rattle.journal_model.proofs.Looks.{any-append, both, or_none, same, same_number, settled_none, true_not_false, verdict_of-append}
 use Rattle.journal_model.proofs.Testing.{by_either, or_left}
@@ -30,7 +30,7 @@ use Rattle.lone_rounds.specs.Stints.{in_stint}
 use Rattle.lone_rounds.proofs.Apart.{apart_in, no_start_in}
 use Rattle.lone_rounds.proofs.Tests.{any_none, each_none, each_without}
 use Rattle.crew_rounds.specs.PoolChildren.{MayServe}
-use Rattle.pool_starts.specs.Pools.{is_claim}
+use Rattle.pool_starts.specs.Pools.{changes_claim}
 use Rattle.pool_starts.specs.Slots.{in_pool, offers_tags}
 
 -- ---- one entry of the child
@@ -49,19 +49,22 @@ own_in c (Claim task child) h = absurd cc
 own_in c (Start child slot offer) h = absurd cc
 own_in c (NoStart slot) h = absurd cc
 own_in c (Answered task answer) h = absurd cc
+own_in c (Again task answer) h = absurd cc
 own_in c (Note task chunk number) h = absurd cc
 
-own_unclaiming : (c : ℕ) (w : What) → is_of_child c w ≡ true → is_claim w ≡ false
+own_unclaiming : (c : ℕ) (w : What) → is_of_child c w ≡ true → changes_claim w ≡ false
 own_unclaiming c (Claim task child) h = absurd cc
+own_unclaiming c (Again task answer) h = absurd cc
 own_unclaiming c w h = refl
 
 own_unclaimed : (c : ℕ) (w : What) → is_of_child c w ≡ true → claimed w ≡ None
 own_unclaimed c (Claim task child) h = absurd cc
 own_unclaimed c w h = refl
 
-own_unanswered : (c : ℕ) (w : What) → is_of_child c w ≡ true → answered w ≡ None
-own_unanswered c (Answered task answer) h = absurd cc
-own_unanswered c w h = refl
+own_unclosed : (c : ℕ) (w : What) → is_of_child c w ≡ true → closed w ≡ None
+own_unclosed c (Answered task answer) h = absurd cc
+own_unclosed c (Again task answer) h = absurd cc
+own_unclosed c w h = refl
 
 own_untagged : (c : ℕ) (w : What) → is_of_child c w ≡ true → offers_tags w ≡ false
 own_untagged c (Start child slot offer) h = absurd cc
@@ -90,6 +93,7 @@ own_pool first c le w h = go w h
     go (Start child slot offer) e = absurd cc
     go (NoStart slot) e = absurd cc
     go (Answered task answer) e = refl
+    go (Again task answer) e = refl
     go (Note task chunk number) e = refl
 
 -- a greeting's entries are its child's
@@ -110,8 +114,8 @@ module _ (c : ℕ) (xs : List Entry) (within : list_all (λ (e : Entry). is_of_c
   pub own_starts : any is_any_start xs ≡ false
   own_starts = any_none (is_of_child c) is_any_start (λ w h. no_start_in c w (own_in c w h)) xs within
 
-  pub own_claims : any is_claim xs ≡ false
-  own_claims = any_none (is_of_child c) is_claim (own_unclaiming c) xs within
+  pub own_claims : any changes_claim xs ≡ false
+  own_claims = any_none (is_of_child c) changes_claim (own_unclaiming c) xs within
 
   pub own_tags : any offers_tags xs ≡ false
   own_tags = any_none (is_of_child c) offers_tags (own_untagged c) xs within
@@ -119,11 +123,11 @@ module _ (c : ℕ) (xs : List Entry) (within : list_all (λ (e : Entry). is_of_c
   pub own_apart : (d : ℕ) → (c == d) ≡ false → any (is_of_child d) xs ≡ false
   own_apart d other = any_none (is_of_child c) (is_of_child d) (λ w h. apart_in c d other w (own_in c w h)) xs within
 
-  -- no task is taken or answered
+  -- no task is taken, answered or freed
   pub own_rests : (past : List Entry) → ((t : ℕ) → is_busy past t ≡ false) → (t : ℕ) → is_busy (past ++ xs) t ≡ false
   own_rests past rest t =
       ap is_some (holder_append past xs t)
-      ∙ ap is_some (unturned t (holder past t) xs (each_none claimed (is_of_child c) (own_unclaimed c) xs within) (each_none answered (is_of_child c) (own_unanswered c) xs within))
+      ∙ ap is_some (unturned t (holder past t) xs (each_none claimed (is_of_child c) (own_unclaimed c) xs within) (each_none closed (is_of_child c) (own_unclosed c) xs within))
       ∙ rest t
 
 -- ---- jobs

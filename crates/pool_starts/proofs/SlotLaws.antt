@@ -1,26 +1,31 @@
 -- Starts and claims that stand in their turn, as a journal grows.
 use Rattle.std.proofs.Common.{◌≡◌, ℕ, zero, suc, ◌+◌, ◌<◌, ◌≤◌, List, [], ◌∷◌, ◌++◌, refl, sym, ap, subst, ◌∙◌, append_assoc, append-nil, length, Bool, true, false, not, ◌==◌, cond, Some, None, Option, arith}
-use Rattle.std.specs.Prelude.{◌&&◌, ◌||◌, filter, min, option_and_then, unwrap_or}
+use Rattle.std.specs.Prelude.{◌&&◌, ◌||◌, filter, fold, min, option_and_then, unwrap_or}
 use Rattle.std.specs.List.{last_or}
 use Rattle.std.specs.Option.{option_or}
 use Rattle.journal_model.specs.declared.verdict.Verdict.{Verdict}
 use Rattle.journal_model.specs.declared.verdict.Verdict.TheVariants.{Done as DoneAt}
 use Rattle.journal_model.specs.declared.entry.What.{What}
-use Rattle.journal_model.specs.declared.entry.What.TheVariants.{Claim, Start, NoStart}
+use Rattle.journal_model.specs.declared.entry.What.TheVariants.{Claim, Start, NoStart, Again}
 use Rattle.journal_model.specs.declared.entry.Entry.{Entry}
 use Rattle.journal_model.specs.declared.opening.Opening.{Opening}
 use Rattle.annex_model.specs.Messages.{remote_reading}
 use Rattle.annex_model.specs.Tags.{names_async}
 use Rattle.journal_model.specs.Journal.{accepts_async, any, each_of, got_line, is_tagged, offers, verdict_of, starts}
-use Rattle.journal_model.specs.Legality.{Legal, claims, is_claimed, is_prepared, numbers_of, count, is_start}
+use Rattle.journal_model.specs.Legality.{Legal, claimed_after, claimed_on, is_busy, is_claimed, is_prepared, numbers_of, count, is_start}
+use Rattle.journal_model.specs.Makers.{is_of_task}
+use Rattle.journal_model.proofs.Holding.{claimed_append}
+use Rattle.journal_model.proofs.Idling.{claimed_positive}
+use Rattle.journal_model.proofs.Standing.{task_stands}
+use Rattle.journal_model.proofs.Working.{claimed_apart}
 use Rattle.journal_model.proofs.Looks.{any-append, both, each_of-append, either_left, either_right, verdict_of-append}
 use Rattle.journal_model.proofs.Projecting.{invariant}
 use Rattle.journal_model.proofs.Replying.{slice_get-left}
 use Rattle.journal_model.proofs.Testing.{or_left}
 use Rattle.host_core.specs.Steps.{unclaimed}
 use Rattle.lone_rounds.specs.Starting.{is_any_start, is_ready_untagged}
-use Rattle.lone_rounds.proofs.Tests.{each_without, or_false}
-use Rattle.pool_starts.specs.Pools.{is_claim}
+use Rattle.lone_rounds.proofs.Tests.{each_without}
+use Rattle.pool_starts.specs.Pools.{changes_claim}
 use Rattle.pool_starts.specs.Slots.{AllInTurn, IsManned, StandsInTurn, begins_by_start, first_in, has_pool, is_first_start, is_ready_pool, is_unclaimed_since, last_slot, slot_of, offers_tags}
 use Rattle.link_roles.proofs.Linked.{any_narrower}
 use Rattle.child_start.proofs.Begun.{later_unstarted}
@@ -40,14 +45,14 @@ turn_back o jobs past [] ys h = subst (λ (p : List Entry). AllInTurn o jobs p y
 turn_back o jobs past (e ∷ xs) ys h = subst (λ (p : List Entry). AllInTurn o jobs p ys) (append_assoc past (e ∷ []) xs) (turn_back o jobs (past ++ e ∷ []) xs ys h.1)
 
 -- entries with neither starts nor claims
-pub turn_quiet : (o : Opening) (jobs : ℕ) (past xs : List Entry) → any is_any_start xs ≡ false → any is_claim xs ≡ false → AllInTurn o jobs past xs
+pub turn_quiet : (o : Opening) (jobs : ℕ) (past xs : List Entry) → any is_any_start xs ≡ false → any changes_claim xs ≡ false → AllInTurn o jobs past xs
 turn_quiet o jobs past [] h k = tt
 turn_quiet o jobs past (e ∷ xs) h k = (
-  one e.what (either_left (is_any_start e.what) (any is_any_start xs) h) (either_left (is_claim e.what) (any is_claim xs) k),
-  turn_quiet o jobs (past ++ e ∷ []) xs (either_right (is_any_start e.what) (any is_any_start xs) h) (either_right (is_claim e.what) (any is_claim xs) k),
+  one e.what (either_left (is_any_start e.what) (any is_any_start xs) h) (either_left (changes_claim e.what) (any changes_claim xs) k),
+  turn_quiet o jobs (past ++ e ∷ []) xs (either_right (is_any_start e.what) (any is_any_start xs) h) (either_right (changes_claim e.what) (any changes_claim xs) k),
 )
   where
-    one : (w : What) → is_any_start w ≡ false → is_claim w ≡ false → StandsInTurn o jobs past w
+    one : (w : What) → is_any_start w ≡ false → changes_claim w ≡ false → StandsInTurn o jobs past w
     one (Start child slot offer) a b = absurd cc
     one (NoStart slot) a b = absurd cc
     one (Claim task child) a b = absurd cc
@@ -85,21 +90,21 @@ none_first (e ∷ xs) h = rw (unstarted e.what (either_left (is_any_start e.what
 pub slot_same : (past more : List Entry) → any is_any_start more ≡ false → last_slot (past ++ more) ≡ last_slot past
 slot_same past more none = ap (λ (s : Option ℕ). unwrap_or s 0) (last_same slot_of past more (each_without slot_of is_any_start slotless more none))
 
-pub since_same : (past more : List Entry) → any is_any_start more ≡ false → any is_claim more ≡ false → is_unclaimed_since (past ++ more) ≡ is_unclaimed_since past
+pub since_same : (past more : List Entry) → any is_any_start more ≡ false → any changes_claim more ≡ false → is_unclaimed_since (past ++ more) ≡ is_unclaimed_since past
 since_same past more starts claimed = ap (λ (s : Option Bool). unwrap_or s false) (last_same begins_by_start past more (none more starts claimed))
   where
-    one : (w : What) → is_any_start w ≡ false → is_claim w ≡ false → begins_by_start w ≡ None
+    one : (w : What) → is_any_start w ≡ false → changes_claim w ≡ false → begins_by_start w ≡ None
     one (Start child slot offer) a b = absurd cc
     one (NoStart slot) a b = absurd cc
     one (Claim task child) a b = absurd cc
     one w a b = refl
 
-    none : (xs : List Entry) → any is_any_start xs ≡ false → any is_claim xs ≡ false → each_of begins_by_start xs ≡ []
+    none : (xs : List Entry) → any is_any_start xs ≡ false → any changes_claim xs ≡ false → each_of begins_by_start xs ≡ []
     none [] a b = refl
     none (e ∷ xs) a b =
         rw (
-          one e.what (either_left (is_any_start e.what) (any is_any_start xs) a) (either_left (is_claim e.what) (any is_claim xs) b),
-          none xs (either_right (is_any_start e.what) (any is_any_start xs) a) (either_right (is_claim e.what) (any is_claim xs) b),
+          one e.what (either_left (is_any_start e.what) (any is_any_start xs) a) (either_left (changes_claim e.what) (any changes_claim xs) b),
+          none xs (either_right (is_any_start e.what) (any is_any_start xs) a) (either_right (changes_claim e.what) (any changes_claim xs) b),
         ) refl
 
 -- the child that the last start of slot 0 gave
@@ -133,26 +138,38 @@ fewer_left p q f (t ∷ ts) = go (p t) (q t) (f t) (fewer_left p q f ts)
     go false true f h = omega (arith, h)
     go false false f h = omega (arith, h)
 
--- no more tasks are left as the journal grows
-pub left_fewer : (o : Opening) (past more : List Entry) → length (unclaimed o (past ++ more)) ≤ length (unclaimed o past)
-left_fewer o past more = fewer_left (is_claimed past) (is_claimed (past ++ more)) (λ t h. any-append (claims t) past more ∙ or_left (is_claimed past t) (is_claimed more t) h) (numbers_of o)
+-- of the tasks that were claimed nothing is made more
+abbrev pub LeavesClaimed : List Entry → List Entry → Type 0
+LeavesClaimed past more = (t : ℕ) → is_claimed past t ≡ true → any (is_of_task t) more ≡ false
+
+-- so it is as a journal grows in which no task was busy
+pub leaves_claimed : (o : Opening) (past more : List Entry) → Legal o past → Legal o (past ++ more) → ((t : ℕ) → is_busy past t ≡ false) → LeavesClaimed past more
+leaves_claimed o past more legal whole idle t claimed = task_stands o past more legal whole t (claimed_positive o past legal t claimed) claimed (idle t)
+
+pub leaves_front : (past front rest more : List Entry) → more ≡ front ++ rest → LeavesClaimed past more → LeavesClaimed past front
+leaves_front past front rest more is h t claimed = either_left (any (is_of_task t) front) (any (is_of_task t) rest) (sym (any-append (is_of_task t) front rest) ∙ ap (any (is_of_task t)) (sym is) ∙ h t claimed)
+
+-- then no more tasks are left
+pub left_fewer : (o : Opening) (past more : List Entry) → LeavesClaimed past more → length (unclaimed o (past ++ more)) ≤ length (unclaimed o past)
+left_fewer o past more leaves = fewer_left (is_claimed past) (is_claimed (past ++ more)) (λ t h. claimed_apart past more t (leaves t h) ∙ h) (numbers_of o)
 
 all_kept : (p q : ℕ → Bool) → ((t : ℕ) → p t ≡ q t) → (ts : List ℕ) → filter (λ (t : ℕ). not (p t)) ts ≡ filter (λ (t : ℕ). not (q t)) ts
 all_kept p q f [] = refl
 all_kept p q f (t ∷ ts) = rw (f t, all_kept p q f ts) refl
 
-unclaiming : (t : ℕ) (w : What) → is_claim w ≡ false → claims t w ≡ false
-unclaiming t (Claim task child) h = absurd cc
-unclaiming t w h = refl
+-- entries that claim none and free none
+kept_claims : (t : ℕ) (b : Bool) (xs : List Entry) → any changes_claim xs ≡ false → fold (claimed_on t) b xs ≡ b
+kept_claims t b [] h = refl
+kept_claims t b (e ∷ xs) h = ap (λ (x : Bool). fold (claimed_on t) x xs) (one e.what (either_left (changes_claim e.what) (any changes_claim xs) h)) ∙ kept_claims t b xs (either_right (changes_claim e.what) (any changes_claim xs) h)
+  where
+    one : (w : What) → changes_claim w ≡ false → claimed_after t b w ≡ b
+    one (Claim task child) h = absurd cc
+    one (Again task answer) h = absurd cc
+    one w h = refl
 
-none_claimed : (t : ℕ) (xs : List Entry) → any is_claim xs ≡ false → is_claimed xs t ≡ false
-none_claimed t [] h = refl
-none_claimed t (e ∷ xs) h = rw (unclaiming t e.what (either_left (is_claim e.what) (any is_claim xs) h), none_claimed t xs (either_right (is_claim e.what) (any is_claim xs) h)) refl
-
--- the same are left where no task is claimed
-pub left_same : (o : Opening) (past more : List Entry) → any is_claim more ≡ false → unclaimed o (past ++ more) ≡ unclaimed o past
-left_same o past more none =
-    all_kept (is_claimed (past ++ more)) (is_claimed past) (λ t. any-append (claims t) past more ∙ ap (λ (b : Bool). is_claimed past t || b) (none_claimed t more none) ∙ or_false (is_claimed past t)) (numbers_of o)
+-- the same are left where no task is claimed or freed
+pub left_same : (o : Opening) (past more : List Entry) → any changes_claim more ≡ false → unclaimed o (past ++ more) ≡ unclaimed o past
+left_same o past more none = all_kept (is_claimed (past ++ more)) (is_claimed past) (λ t. claimed_append past more t ∙ kept_claims t (is_claimed past t) more none) (numbers_of o)
 
 -- ---- a pool that is whole
 
@@ -160,15 +177,15 @@ left_same o past more none =
 abbrev pub IsFilled : Opening → ℕ → List Entry → Type 0
 IsFilled o jobs past = min jobs (length (unclaimed o past)) ≤ last_slot past + 1
 
-pub filled_on : (o : Opening) (jobs : ℕ) (past more : List Entry) → any is_any_start more ≡ false → IsFilled o jobs past → IsFilled o jobs (past ++ more)
-filled_on o jobs past more none h =
-    let fewer = left_fewer o past more in
+pub filled_on : (o : Opening) (jobs : ℕ) (past more : List Entry) → any is_any_start more ≡ false → LeavesClaimed past more → IsFilled o jobs past → IsFilled o jobs (past ++ more)
+filled_on o jobs past more none leaves h =
+    let fewer = left_fewer o past more leaves in
     let slot = slot_same past more none in
     let full : min jobs (length (unclaimed o past)) ≤ last_slot past + 1 = h in
     omega arith
 
-pub manned_on : (o : Opening) (jobs : ℕ) (past more : List Entry) → any is_any_start more ≡ false → has_pool past ≡ true → IsManned o jobs past → IsManned o jobs (past ++ more)
-manned_on o jobs past more none pool h = λ later. filled_on o jobs past more none (h pool)
+pub manned_on : (o : Opening) (jobs : ℕ) (past more : List Entry) → any is_any_start more ≡ false → LeavesClaimed past more → has_pool past ≡ true → IsManned o jobs past → IsManned o jobs (past ++ more)
+manned_on o jobs past more none leaves pool h = λ later. filled_on o jobs past more none leaves (h pool)
 
 -- entries without starts, where each claim among them may stand
 turn_where : (o : Opening) (jobs : ℕ) (past xs : List Entry) → any is_any_start xs ≡ false → ((front rest : List Entry) → xs ≡ front ++ rest → IsManned o jobs (past ++ front)) → AllInTurn o jobs past xs
@@ -189,11 +206,12 @@ front_none : (p : What → Bool) (xs front rest : List Entry) → xs ≡ front +
 front_none p xs front rest is h = either_left (any p front) (any p rest) (sym (any-append p front rest) ∙ ap (any p) (sym is) ∙ h)
 
 -- after a pool whose slots are filled
-pub turn_filled : (o : Opening) (jobs : ℕ) (past xs : List Entry) → any is_any_start xs ≡ false → IsFilled o jobs past → AllInTurn o jobs past xs
-turn_filled o jobs past xs none h = turn_where o jobs past xs none (λ front rest is later. filled_on o jobs past front (front_none is_any_start xs front rest is none) h)
+pub turn_filled : (o : Opening) (jobs : ℕ) (past xs : List Entry) → any is_any_start xs ≡ false → LeavesClaimed past xs → IsFilled o jobs past → AllInTurn o jobs past xs
+turn_filled o jobs past xs none leaves h =
+    turn_where o jobs past xs none (λ front rest is later. filled_on o jobs past front (front_none is_any_start xs front rest is none) (leaves_front past front rest xs is leaves) h)
 
-pub turn_manned : (o : Opening) (jobs : ℕ) (past xs : List Entry) → any is_any_start xs ≡ false → has_pool past ≡ true → IsManned o jobs past → AllInTurn o jobs past xs
-turn_manned o jobs past xs none pool h = turn_filled o jobs past xs none (h pool)
+pub turn_manned : (o : Opening) (jobs : ℕ) (past xs : List Entry) → any is_any_start xs ≡ false → LeavesClaimed past xs → has_pool past ≡ true → IsManned o jobs past → AllInTurn o jobs past xs
+turn_manned o jobs past xs none leaves pool h = turn_filled o jobs past xs none leaves (h pool)
 
 -- in a run with one desk a pool is always whole
 pub filled_alone : (o : Opening) (jobs : ℕ) (past : List Entry) → jobs ≤ 1 → IsFilled o jobs past

@@ -29,7 +29,7 @@ use Rattle.lone_rounds.proofs.Losing.{lost_both}
 use Rattle.lone_rounds.proofs.Leaving.{adds_both, none_told, rose_both}
 use Rattle.lone_rounds.proofs.Tests.{UpTo, any_none, children_up_to, count-append, count_none, no_children, none_came, up_to_both, up_to_more}
 use Rattle.crew_rounds.specs.PoolChildren.{MayServe, PoolCan}
-use Rattle.pool_starts.specs.Pools.{AreSeated, Gathered, GathersBy, IsPool, OverBy, SeatValue, Serves, is_among, is_claim}
+use Rattle.pool_starts.specs.Pools.{AreSeated, Gathered, GathersBy, IsPool, OverBy, SeatValue, Serves, is_among, changes_claim}
 use Rattle.pool_starts.specs.Seats.{IsSlotStart, SeatsOne}
 use Rattle.pool_starts.specs.Slots.{AllInTurn, IsInSlot, IsNextSlot, StandsInTurn, begins_by_start, has_pool, in_pool, is_first_start, is_ready_pool, is_unclaimed_since, last_slot, offers_tags, slot_of}
 use Rattle.pool_starts.proofs.Own.{AreShut, low, own_apart, own_claims, own_pool, own_rests, own_starts, own_tags, prepared_apart, prepared_low, rest_shut, serve_on, shut_on, shut_open}
@@ -40,7 +40,7 @@ use Rattle.pool_starts.proofs.SlotLaws.{first_same, last_first, left_same, none_
 
 -- what one start in the slot says
 pub record SaysSlot (slot : ℕ) (past : List Entry) (first : What) : Type 0 where
-  pub unclaiming : is_claim first ≡ false
+  pub unclaiming : changes_claim first ≡ false
   pub untagged : offers_tags first ≡ false
   pub loses : (journal : List Entry) → IsLostIn journal first
   pub unoffering : (d : ℕ) → offers d first ≡ false
@@ -182,7 +182,7 @@ module _ {o : Opening} {jobs : ℕ} {program : List ℕ} {old mid new : List Ent
   starts_none : any is_any_start s.later ≡ false
   starts_none = own_starts (next_child mid) s.later s.within
 
-  claims_none : any is_claim s.later ≡ false
+  claims_none : any changes_claim s.later ≡ false
   claims_none = own_claims (next_child mid) s.later s.within
 
   apart : (d : ℕ) → d ≤ count is_start mid → any (is_of_child d) tail ≡ false
@@ -315,8 +315,8 @@ module _ {o : Opening} {jobs : ℕ} {program : List ℕ} {old mid new : List Ent
   first_none : any is_first_start tail ≡ false
   first_none = neither (is_first_start s.first) (any is_first_start s.later) (says.behind other) (none_first s.later starts_none)
 
-  unclaiming : any is_claim tail ≡ false
-  unclaiming = neither (is_claim s.first) (any is_claim s.later) says.unclaiming claims_none
+  unclaiming : any changes_claim tail ≡ false
+  unclaiming = neither (changes_claim s.first) (any changes_claim s.later) says.unclaiming claims_none
 
   unoffered : (d : ℕ) → any (offers d) tail ≡ false
   unoffered d = neither (offers d s.first) (any (offers d) s.later) (says.unoffering d) (any_none (is_of_child (next_child mid)) (offers d) (λ w h. offers_none w h) s.later s.within)
@@ -388,7 +388,7 @@ module _ {o : Opening} {jobs : ℕ} {program : List ℕ} {old mid new : List Ent
         let rest : list_all (λ (e : Entry). in_pool base e.what) s.later ≡ true =
         all-each (λ (e : Entry). is_of_child (next_child mid) e.what) (λ (e : Entry). in_pool base e.what) (λ e h. own_pool base (next_child mid) (let l = t.least in omega (arith, l)) e.what h) s.later s.within in
         rw (its, rest) refl);
-    unclaimed_yet = any-append is_claim g.later tail ∙ neither (any is_claim g.later) (any is_claim tail) g.unclaimed_yet unclaiming;
+    unclaimed_yet = any-append changes_claim g.later tail ∙ neither (any changes_claim g.later) (any changes_claim tail) g.unclaimed_yet unclaiming;
     untagged = any-append offers_tags g.later tail
         ∙ neither (any offers_tags g.later) (any offers_tags tail) g.untagged (neither (offers_tags s.first) (any offers_tags s.later) says.untagged (own_tags (next_child mid) s.later s.within));
     asks = all-join (λ (e : Entry). is_of_run e.what) g.later tail g.asks (let its = says.asks_run in let rest = s.asks in rw (its, rest) refl);

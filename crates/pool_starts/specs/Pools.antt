@@ -6,7 +6,7 @@ use Rattle.ann_outside.specs.declared.Source.{Ghosts as SourceGhosts}
 use Rattle.ann_outside.specs.Starts.{Starts}
 use Rattle.ann_outside.specs.Causes.{Stays}
 use Rattle.journal_model.specs.declared.entry.What.{What}
-use Rattle.journal_model.specs.declared.entry.What.TheVariants.{Claim}
+use Rattle.journal_model.specs.declared.entry.What.TheVariants.{Claim, Again}
 use Rattle.journal_model.specs.declared.entry.Entry.{Entry}
 use Rattle.journal_model.specs.declared.opening.Opening.{Opening}
 use Rattle.journal_model.specs.Journal.{any, is_ended}
@@ -29,10 +29,11 @@ use Rattle.pool_starts.specs.declared.pool.Seat.{Seat}
 use Rattle.pool_starts.specs.declared.pool.Seat.TheVariants.{Over, Serving}
 use Rattle.pool_starts.specs.Slots.{AllInTurn, in_pool, last_slot, offers_tags}
 
--- a task is claimed
-abbrev pub is_claim : What → Bool
-is_claim (Claim task child) = true
-is_claim w = false
+-- the entry claims a task, or frees one to be run again
+abbrev pub changes_claim : What → Bool
+changes_claim (Claim task child) = true
+changes_claim (Again task answer) = true
+changes_claim w = false
 
 -- the child is that of one of the links
 abbrev pub is_among : List LinkValue → ℕ → Bool
@@ -47,7 +48,7 @@ pub record Gathered (o : Opening) (jobs : ℕ) (old new : List Entry) (first : L
   pub is : new ≡ old ++ later
   pub main : are_by 0 later ≡ true
   pub within : list_all (λ e. in_pool (count is_start old + 1) e.what) later ≡ true
-  pub unclaimed_yet : any is_claim later ≡ false
+  pub unclaimed_yet : any changes_claim later ≡ false
   pub untagged : any offers_tags later ≡ false
   pub asks : list_all (λ e. is_of_run e.what) later ≡ true
   pub lost : AllLostWell old later
