@@ -1,11 +1,11 @@
 -- What stands after the word of a line.
-use Rattle.std.proofs.Common.{◌≡◌, ℕ, ◌<◌, ◌^◌, Bool, true, false, List, [], ◌∷◌, ◌++◌, Option, Some, None, Result, Ok, Err, IfOk, refl, sym, ap, ◌∙◌}
+use Rattle.std.proofs.Common.{◌≡◌, ℕ, ◌<◌, ◌≤◌, ◌^◌, Bool, true, false, List, [], ◌∷◌, ◌++◌, Option, Some, None, Result, Ok, Err, IfOk, refl, sym, ap, ◌∙◌}
 use mathlib.Core.Bool.{true≢false}
 use Rattle.std.specs.Prelude.{MatchOption, IsTrue, codes, decimal, bytes_eq}
 use Rattle.reg_file.proofs.Tables.{itself}
 use Rattle.chunk_log.specs.ChunkLines.{number_in}
 use Rattle.chunk_log.proofs.StampBack.{decimal_reads, Decimal}
-use Rattle.journal_lines.specs.JournalTexts.{worded, stamp_line}
+use Rattle.journal_lines.specs.JournalTexts.{worded, stamp_line, again_line}
 
 abbrev behind_one : List ℕ → List ℕ
 behind_one [] = []
@@ -39,6 +39,13 @@ pub numbered : {E : Type 0} (line text : List ℕ) → line ≡ worded (codes "s
 numbered line text is (Err e) h = tt
 numbered line text is (Ok None) h = λ n small e. h n small (worded_same (codes "stamp") text (decimal n) (sym is ∙ e))
 numbered line text is (Ok (Some n)) h = is ∙ ap (worded (codes "stamp")) h
+
+pub few_numbered : {E : Type 0} (line text : List ℕ) → line ≡ worded (codes "again") text → (r : Result (Option ℕ) E)
+    → IfOk r (λ found. MatchOption found ((n : ℕ) → n ≤ 8 → text ≡ decimal n → ⊥) (λ n. (text ≡ decimal n) × (n ≤ 8)))
+    → IfOk r (λ found. MatchOption found ((n : ℕ) → n ≤ 8 → line ≡ again_line n → ⊥) (λ n. (line ≡ again_line n) × (n ≤ 8)))
+few_numbered line text is (Err e) h = tt
+few_numbered line text is (Ok None) h = λ n few e. h n few (worded_same (codes "again") text (decimal n) (sym is ∙ e))
+few_numbered line text is (Ok (Some n)) h = (is ∙ ap (worded (codes "again")) h.0, h.1)
 
 pub number_read : (n : ℕ) → n < 2 ^ 64 → number_in (decimal n) ≡ Some n
 number_read n h = let d : Decimal n = decimal_reads n h in rw (d.number, d.value) refl
