@@ -2,7 +2,7 @@
 
 from typing import NamedTuple
 
-HEAD = "annex-journal 1"
+HEAD = "annex-journal 2"
 
 
 class Entry(NamedTuple):

@@ -39,7 +39,7 @@ text_fits text h = (and_parts (is_utf8 text) (not (has_newline text)) h).1
 along : (a b : List ℕ) → a ≡ b → not (has_newline b) ≡ true → not (has_newline a) ≡ true
 along a b e h = ap (λ (t : List ℕ). not (has_newline t)) e ∙ h
 
-few_again : (old : Bool) (n : ℕ) → IsAgain old n → n ≤ 8
+few_again : (early : Bool) (n : ℕ) → IsAgain early n → n ≤ 8
 few_again false n few = few
 few_again true n none = omega (arith, none)
 
@@ -66,4 +66,4 @@ module _ (opening : Opening) (journal : List Entry) (lines : List (List ℕ)) (i
   }
 
   pub may_again : opening.again ≤ 8
-  may_again = subst (λ (n : ℕ). n ≤ 8) (sym is.opening_is.again) (few_again is.told.old is.told.again is.class.again)
+  may_again = subst (λ (n : ℕ). n ≤ 8) (sym is.opening_is.again) (few_again is.told.early is.told.again is.class.again)

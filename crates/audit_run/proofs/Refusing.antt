@@ -48,7 +48,7 @@ pub reads_more : (old between new : Reading) (lines : List (List ℕ)) (line : L
 reads_more old between new [] line r f = let P : Reading → Type 0 = λ x. Follows x line new in (new, subst P r f, refl)
 reads_more old between new (first ∷ lines) line r f = (r.0, r.1, reads_more r.0 between new lines line r.2 f)
 
-after_open : (old : Bool) → is_open (after_stamp old) ≡ true
+after_open : (early : Bool) → is_open (after_stamp early) ≡ true
 after_open false = refl
 after_open true = refl
 
@@ -57,7 +57,7 @@ goes_open Head t line place new g = ap is_open g.1
 goes_open Uuid t line place new g = ap is_open g.2
 goes_open Name t line place new g = ap is_open g.2
 goes_open Gitdir t line place new g = ap is_open g.2
-goes_open Stamp t line place new g = ap is_open g.2 ∙ after_open t.old
+goes_open Stamp t line place new g = ap is_open g.2 ∙ after_open t.early
 goes_open Again t line place new g = ap is_open g.2
 goes_open Given t line place new (inl (inl g)) = ap is_open g.1
 goes_open Given t line place new (inl (inr g)) = ap is_open g.0

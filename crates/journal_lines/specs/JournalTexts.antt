@@ -14,7 +14,7 @@ use Rattle.entry_lines.specs.Entries.{entry_line}
 abbrev pub worded : List ℕ → List ℕ → List ℕ
 worded word text = word ++ 32 ∷ text
 
--- of a text as it is written now, or of an old one
+-- of a text as it is written now, or of an early one
 abbrev pub head : Bool → List ℕ
 head false = codes "annex-journal 2"
 head true = codes "annex-journal 1"
@@ -29,7 +29,7 @@ stamp_line stamp = worded (codes "stamp") (decimal stamp)
 abbrev pub again_line : ℕ → List ℕ
 again_line again = worded (codes "again") (decimal again)
 
--- an old text doesn't say it
+-- an early text doesn't say it
 abbrev pub again_lines : Bool → ℕ → List (List ℕ)
 again_lines false again = again_line again ∷ []
 again_lines true again = []
@@ -46,7 +46,7 @@ end_line count = worded (codes "end") (decimal count)
 
 -- a run as its text tells it: what is kept stands as the lines of a kept file
 pub record Told : Type 0 where
-  pub old : Bool
+  pub early : Bool
   pub uuid : List ℕ
   pub name : List ℕ
   pub gitdir : List ℕ
@@ -58,12 +58,12 @@ pub record Told : Type 0 where
 
 abbrev pub first_lines : Told → List (List ℕ)
 first_lines t =
-    head t.old
+    head t.early
     ∷ worded (codes "uuid") t.uuid
     ∷ worded (codes "name") t.name
     ∷ worded (codes "gitdir") t.gitdir
     ∷ stamp_line t.stamp
-    ∷ again_lines t.old t.again
+    ∷ again_lines t.early t.again
 
 abbrev pub last_lines : List Entry → List (List ℕ)
 last_lines entries = begin ∷ map entry_line entries ++ end_line (length entries) ∷ []
@@ -76,10 +76,10 @@ told_lines t = first_lines t ++ (map task_line t.tasks ++ (map keep_line t.kept 
 abbrev pub kept_lines : RegisterFile → List Note → List (List ℕ)
 kept_lines registers notes = map written_line (lines_of registers) ++ map written_note notes
 
--- an opening and a journal, as their text tells them; it is never written as an old one
+-- an opening and a journal, as their text tells them; it is never written as an early one
 abbrev pub told : Opening → List Entry → Told
 told o entries = record {
-  old = false;
+  early = false;
   uuid = o.identity.uuid;
   name = o.identity.name;
   gitdir = o.identity.gitdir;

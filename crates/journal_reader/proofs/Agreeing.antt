@@ -58,8 +58,8 @@ no_end_entry n e is same = let both : None ≡ Some e = sym (end_at n) ∙ ap en
 module _ (t : Told) (line : List ℕ) (p q : Place) (u v : Told) where
   head_same : Goes Head t line p u → Goes Head t line q v → Same p q u v
   head_same g h =
-      let same : u.old ≡ v.old = same_head u.old v.old (sym g.0 ∙ h.0) in
-      (third p q Uuid g.1 h.1, g.2 ∙ ap (λ (x : Bool). record t { old = x }) same ∙ sym h.2)
+      let same : u.early ≡ v.early = same_head u.early v.early (sym g.0 ∙ h.0) in
+      (third p q Uuid g.1 h.1, g.2 ∙ ap (λ (x : Bool). record t { early = x }) same ∙ sym h.2)
 
   uuid_same : Goes Uuid t line p u → Goes Uuid t line q v → Same p q u v
   uuid_same g h =
@@ -79,7 +79,7 @@ module _ (t : Told) (line : List ℕ) (p q : Place) (u v : Told) where
   stamp_same : Goes Stamp t line p u → Goes Stamp t line q v → Same p q u v
   stamp_same g h =
       let same : u.stamp ≡ v.stamp = same_number (codes "stamp") u.stamp v.stamp g.1 h.1 (sym g.0 ∙ h.0) in
-      (third p q (after_stamp t.old) g.2 h.2, g.3 ∙ ap (λ (x : ℕ). record t { stamp = x }) same ∙ sym h.3)
+      (third p q (after_stamp t.early) g.2 h.2, g.3 ∙ ap (λ (x : ℕ). record t { stamp = x }) same ∙ sym h.3)
 
   again_same : Goes Again t line p u → Goes Again t line q v → Same p q u v
   again_same g h =

@@ -39,7 +39,7 @@ leads_on p q r t u v xs ys h k n =
 module _ (t : Told) (is : IsTold t) where
   -- the first lines
   abbrev with_head : Told
-  with_head = record nothing_told { old = t.old }
+  with_head = record nothing_told { early = t.early }
 
   abbrev with_uuid : Told
   with_uuid = record with_head { uuid = t.uuid }
@@ -56,7 +56,7 @@ module _ (t : Told) (is : IsTold t) where
   abbrev with_again : Told
   with_again = record with_stamp { again = t.again }
 
-  stamp_read : (b : Bool) → t.old ≡ b → IsAgain b t.again → Leads Stamp with_gitdir (stamp_line t.stamp ∷ again_lines b t.again) Given with_again
+  stamp_read : (b : Bool) → t.early ≡ b → IsAgain b t.again → Leads Stamp with_gitdir (stamp_line t.stamp ∷ again_lines b t.again) Given with_again
   stamp_read false e few =
       leads_on Stamp Again Given with_gitdir with_stamp with_again (stamp_line t.stamp ∷ []) (again_line t.again ∷ [])
       (leads_one Stamp Again with_gitdir with_stamp (stamp_line t.stamp) (refl, is.stamp, ap after_stamp (sym e), refl))
@@ -65,7 +65,7 @@ module _ (t : Told) (is : IsTold t) where
       leads_one Stamp Given with_gitdir with_again (stamp_line t.stamp) (refl, is.stamp, ap after_stamp (sym e), ap (λ (n : ℕ). record with_stamp { again = n }) none)
 
   abbrev after_gitdir : List (List ℕ)
-  after_gitdir = stamp_line t.stamp ∷ again_lines t.old t.again
+  after_gitdir = stamp_line t.stamp ∷ again_lines t.early t.again
 
   abbrev after_name : List (List ℕ)
   after_name = worded (codes "gitdir") t.gitdir ∷ after_gitdir
@@ -78,14 +78,14 @@ module _ (t : Told) (is : IsTold t) where
 
   first_read : Leads Head nothing_told (first_lines t) Given with_again
   first_read =
-      leads_on Head Uuid Given nothing_told with_head with_again (head t.old ∷ []) after_head
-      (leads_one Head Uuid nothing_told with_head (head t.old) (refl, refl, refl))
+      leads_on Head Uuid Given nothing_told with_head with_again (head t.early ∷ []) after_head
+      (leads_one Head Uuid nothing_told with_head (head t.early) (refl, refl, refl))
       (leads_on Uuid Name Given with_head with_uuid with_again (worded (codes "uuid") t.uuid ∷ []) after_uuid
       (leads_one Uuid Name with_head with_uuid (worded (codes "uuid") t.uuid) (refl, is.uuid, refl, refl))
       (leads_on Name Gitdir Given with_uuid with_name with_again (worded (codes "name") t.name ∷ []) after_name
       (leads_one Name Gitdir with_uuid with_name (worded (codes "name") t.name) (refl, is.name, refl, refl))
       (leads_on Gitdir Stamp Given with_name with_gitdir with_again (worded (codes "gitdir") t.gitdir ∷ []) after_gitdir
-      (leads_one Gitdir Stamp with_name with_gitdir (worded (codes "gitdir") t.gitdir) (refl, is.gitdir, refl, refl)) (stamp_read t.old refl is.again))))
+      (leads_one Gitdir Stamp with_name with_gitdir (worded (codes "gitdir") t.gitdir) (refl, is.gitdir, refl, refl)) (stamp_read t.early refl is.again))))
 
   -- tasks
   abbrev with_tasks : List Task → Told
@@ -125,7 +125,7 @@ module _ (t : Told) (is : IsTold t) where
   abbrev with_entries : List Entry → Told
   with_entries entries = record (with_kept t.kept) { entries = entries }
 
-  entries_read : (entries more : List Entry) → ((n : ℕ) (entry : Entry) → slice_get more n ≡ Some entry → IsEntry entry) → ((n : ℕ) (entry : Entry) → slice_get more n ≡ Some entry → IsTrue (may_stand t.old entry.what))
+  entries_read : (entries more : List Entry) → ((n : ℕ) (entry : Entry) → slice_get more n ≡ Some entry → IsEntry entry) → ((n : ℕ) (entry : Entry) → slice_get more n ≡ Some entry → IsTrue (may_stand t.early entry.what))
       → Leads Entries (with_entries entries) (map entry_line more) Entries (with_entries (entries ++ more))
   entries_read entries [] h k =
       let P : List Entry → Type 0 = λ es. Leads Entries (with_entries entries) [] Entries (with_entries es) in

@@ -32,20 +32,20 @@ none_right = refl
 
 -- what is told of nothing but these
 abbrev told_first : Bool → List ℕ → List ℕ → List ℕ → ℕ → Told
-told_first old uuid name gitdir stamp = record nothing_told { old = old; uuid = uuid; name = name; gitdir = gitdir; stamp = stamp }
+told_first early uuid name gitdir stamp = record nothing_told { early = early; uuid = uuid; name = name; gitdir = gitdir; stamp = stamp }
 
-never_again : (old : Bool) → IsAgain old 0
+never_again : (early : Bool) → IsAgain early 0
 never_again false = omega arith
 never_again true = refl
 
-first_is_told : (old : Bool) (uuid name gitdir : List ℕ) (stamp : ℕ) → IsTrue (is_uuid uuid) → IsTrue (is_text name) → IsTrue (is_text gitdir) → stamp < 2 ^ 64
-    → IsTold (told_first old uuid name gitdir stamp)
-first_is_told old uuid name gitdir stamp u n g s = record {
+first_is_told : (early : Bool) (uuid name gitdir : List ℕ) (stamp : ℕ) → IsTrue (is_uuid uuid) → IsTrue (is_text name) → IsTrue (is_text gitdir) → stamp < 2 ^ 64
+    → IsTold (told_first early uuid name gitdir stamp)
+first_is_told early uuid name gitdir stamp u n g s = record {
   uuid = u;
   name = n;
   gitdir = g;
   stamp = s;
-  again = never_again old;
+  again = never_again early;
   few = omega arith;
   tasks = λ n task e. absurd cc;
   kept = NoneKept;
@@ -54,8 +54,8 @@ first_is_told old uuid name gitdir stamp u n g s = record {
 }
 
 -- of nothing at all
-nothing_is_told : (old : Bool) → IsTold (told_first old nil_uuid [] [] 0)
-nothing_is_told old = first_is_told old nil_uuid [] [] 0 nil_right none_right none_right (omega arith)
+nothing_is_told : (early : Bool) → IsTold (told_first early nil_uuid [] [] 0)
+nothing_is_told early = first_is_told early nil_uuid [] [] 0 nil_right none_right none_right (omega arith)
 
 -- a told text that begins with them
 begins_with : (lines more : List (List ℕ)) (t : Told) → IsTold t → told_lines t ≡ lines ++ more → Begins lines
@@ -78,24 +78,24 @@ entries_lines t =
 can_go_on : (at : Place) (t : Told) → IsSoFar at t → Begins (lines_told at t)
 can_go_on Head t s = let n = told_first false nil_uuid [] [] 0 in begins_with [] (told_lines n) n (nothing_is_told false) refl
 can_go_on Uuid t s =
-    let n = told_first t.old nil_uuid [] [] 0 in
-    begins_with (lines_told Uuid t) (worded (codes "uuid") nil_uuid ∷ worded (codes "name") [] ∷ worded (codes "gitdir") [] ∷ stamp_line 0 ∷ again_lines t.old 0 ++ last_lines []) n
-    (nothing_is_told t.old) refl
+    let n = told_first t.early nil_uuid [] [] 0 in
+    begins_with (lines_told Uuid t) (worded (codes "uuid") nil_uuid ∷ worded (codes "name") [] ∷ worded (codes "gitdir") [] ∷ stamp_line 0 ∷ again_lines t.early 0 ++ last_lines []) n
+    (nothing_is_told t.early) refl
 can_go_on Name t s =
-    let n = told_first t.old t.uuid [] [] 0 in
-    begins_with (lines_told Name t) (worded (codes "name") [] ∷ worded (codes "gitdir") [] ∷ stamp_line 0 ∷ again_lines t.old 0 ++ last_lines []) n
-    (first_is_told t.old t.uuid [] [] 0 s.0 none_right none_right (omega arith)) refl
+    let n = told_first t.early t.uuid [] [] 0 in
+    begins_with (lines_told Name t) (worded (codes "name") [] ∷ worded (codes "gitdir") [] ∷ stamp_line 0 ∷ again_lines t.early 0 ++ last_lines []) n
+    (first_is_told t.early t.uuid [] [] 0 s.0 none_right none_right (omega arith)) refl
 can_go_on Gitdir t s =
-    let n = told_first t.old t.uuid t.name [] 0 in
-    begins_with (lines_told Gitdir t) (worded (codes "gitdir") [] ∷ stamp_line 0 ∷ again_lines t.old 0 ++ last_lines []) n
-    (first_is_told t.old t.uuid t.name [] 0 s.0 s.1 none_right (omega arith)) refl
+    let n = told_first t.early t.uuid t.name [] 0 in
+    begins_with (lines_told Gitdir t) (worded (codes "gitdir") [] ∷ stamp_line 0 ∷ again_lines t.early 0 ++ last_lines []) n
+    (first_is_told t.early t.uuid t.name [] 0 s.0 s.1 none_right (omega arith)) refl
 can_go_on Stamp t s =
-    let n = told_first t.old t.uuid t.name t.gitdir 0 in
-    begins_with (lines_told Stamp t) (stamp_line 0 ∷ again_lines t.old 0 ++ last_lines []) n (first_is_told t.old t.uuid t.name t.gitdir 0 s.0 s.1 s.2 (omega arith)) refl
+    let n = told_first t.early t.uuid t.name t.gitdir 0 in
+    begins_with (lines_told Stamp t) (stamp_line 0 ∷ again_lines t.early 0 ++ last_lines []) n (first_is_told t.early t.uuid t.name t.gitdir 0 s.0 s.1 s.2 (omega arith)) refl
 can_go_on Again t s =
     let n = told_first false t.uuid t.name t.gitdir t.stamp in
     let rest = worded (codes "uuid") t.uuid ∷ worded (codes "name") t.name ∷ worded (codes "gitdir") t.gitdir ∷ stamp_line t.stamp ∷ again_line 0 ∷ last_lines [] in
-    let new : t.old ≡ false = ap (λ (u : Told). u.old) s.4 in
+    let new : t.early ≡ false = ap (λ (u : Told). u.early) s.4 in
     begins_with (lines_told Again t) (again_line 0 ∷ last_lines []) n (first_is_told false t.uuid t.name t.gitdir t.stamp s.0 s.1 s.2 s.3)
     (ap (λ (b : Bool). head b ∷ rest) (sym new))
 can_go_on Given t s = begins_with (lines_told Given t) (last_lines []) t s.0 (given_lines t s.1)

@@ -71,6 +71,6 @@ module _ (t : Told) (line : List ℕ) where
   no_kept text is h place new (inr g) =
       true≢false (sym g.1.class ∙ ap (may_be_kept t.kept) (sym (worded_same (codes "keep") text g.1.text (sym is ∙ g.1.spelled))) ∙ h)
 
-  pub no_entry : (line ≡ end_line (length t.entries) → ⊥) → ((entry : Entry) → IsEntry entry → may_stand t.old entry.what ≡ true → line ≡ entry_line entry → ⊥) → CannotGo Entries t line
+  pub no_entry : (line ≡ end_line (length t.entries) → ⊥) → ((entry : Entry) → IsEntry entry → may_stand t.early entry.what ≡ true → line ≡ entry_line entry → ⊥) → CannotGo Entries t line
   no_entry e h place new (inl g) = e g.0
   no_entry e h place new (inr g) = h g.1.entry g.1.class g.1.stands g.1.spelled

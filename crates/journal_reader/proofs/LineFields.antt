@@ -1,5 +1,5 @@
 -- What stands after the word of a line.
-use Rattle.std.proofs.Common.{◌≡◌, ℕ, ◌<◌, ◌≤◌, ◌^◌, Bool, true, false, List, [], ◌∷◌, ◌++◌, Option, Some, None, Result, Ok, Err, IfOk, refl, sym, ap, ◌∙◌}
+use Rattle.std.proofs.Common.{◌≡◌, ℕ, ◌<◌, ◌≤◌, ◌^◌, Bool, true, false, List, [], ◌∷◌, ◌++◌, Option, Some, None, Result, Ok, Err, IfOk, refl, sym, ap, ◌∙◌, arith}
 use mathlib.Core.Bool.{true≢false}
 use Rattle.std.specs.Prelude.{MatchOption, IsTrue, codes, decimal, bytes_eq}
 use Rattle.reg_file.proofs.Tables.{itself}
@@ -59,3 +59,15 @@ other_number m text read other n small is =
 
 pub no_number : (text : List ℕ) → ((n : ℕ) → number_in text ≡ Some n → ⊥) → (n : ℕ) → n < 2 ^ 64 → text ≡ decimal n → ⊥
 no_number text none n small is = none n (ap number_in is ∙ number_read n small)
+
+-- a number that is too large is another one
+pub not_few : (text : List ℕ) (found : Option ℕ) (m : ℕ) → MatchOption found ((n : ℕ) → n < 2 ^ 64 → text ≡ decimal n → ⊥) (λ n. text ≡ decimal n) → found ≡ Some m → m < 2 ^ 64 → 8 < m
+    → (n : ℕ) → n ≤ 8 → text ≡ decimal n → ⊥
+not_few text None m h e small many n few is = absurd cc
+not_few text (Some k) m h e small many n few is =
+    let found : k ≡ m = cc in
+    let less : n < 2 ^ 64 = omega (arith, few) in
+    let both : Some m ≡ Some n = sym (number_read m small) ∙ ap number_in (ap decimal (sym found) ∙ sym h ∙ is) ∙ number_read n less in
+    let same : m ≡ n = cc in
+    let no : ⊥ = omega (arith, many, few, same) in
+    no

@@ -57,35 +57,35 @@ to before line place at told new e k s =
 module _ (t : Told) (line : List ℕ) (place : Place) (new : Told) where
   head_step : t ≡ nothing_told → Goes Head t line place new → Step (lines_told Head t) line place new
   head_step s g =
-      to [] line place Uuid new (record t { old = new.old }) g.1 g.2
-      (record { so_far = ap (λ (u : Told). record u { old = new.old }) s; lines = ap (λ (l : List ℕ). l ∷ []) (sym g.0) })
+      to [] line place Uuid new (record t { early = new.early }) g.1 g.2
+      (record { so_far = ap (λ (u : Told). record u { early = new.early }) s; lines = ap (λ (l : List ℕ). l ∷ []) (sym g.0) })
 
   uuid_step : IsSoFar Uuid t → Goes Uuid t line place new → Step (lines_told Uuid t) line place new
   uuid_step s g =
       to (lines_told Uuid t) line place Name new (record t { uuid = new.uuid }) g.2 g.3
-      (record { so_far = (g.1, ap (λ (u : Told). record u { uuid = new.uuid }) s); lines = ap (λ (l : List ℕ). head t.old ∷ l ∷ []) (sym g.0) })
+      (record { so_far = (g.1, ap (λ (u : Told). record u { uuid = new.uuid }) s); lines = ap (λ (l : List ℕ). head t.early ∷ l ∷ []) (sym g.0) })
 
   name_step : IsSoFar Name t → Goes Name t line place new → Step (lines_told Name t) line place new
   name_step s g =
       to (lines_told Name t) line place Gitdir new (record t { name = new.name }) g.2 g.3 (record {
         so_far = (s.0, g.1, ap (λ (u : Told). record u { name = new.name }) s.1);
-        lines = ap (λ (l : List ℕ). head t.old ∷ worded (codes "uuid") t.uuid ∷ l ∷ []) (sym g.0);
+        lines = ap (λ (l : List ℕ). head t.early ∷ worded (codes "uuid") t.uuid ∷ l ∷ []) (sym g.0);
       })
 
   gitdir_step : IsSoFar Gitdir t → Goes Gitdir t line place new → Step (lines_told Gitdir t) line place new
   gitdir_step s g =
       to (lines_told Gitdir t) line place Stamp new (record t { gitdir = new.gitdir }) g.2 g.3 (record {
         so_far = (s.0, s.1, g.1, ap (λ (u : Told). record u { gitdir = new.gitdir }) s.2);
-        lines = ap (λ (l : List ℕ). head t.old ∷ worded (codes "uuid") t.uuid ∷ worded (codes "name") t.name ∷ l ∷ []) (sym g.0);
+        lines = ap (λ (l : List ℕ). head t.early ∷ worded (codes "uuid") t.uuid ∷ worded (codes "name") t.name ∷ l ∷ []) (sym g.0);
       })
 
   abbrev up_to_gitdir : Bool → List (List ℕ)
-  up_to_gitdir old = head old ∷ worded (codes "uuid") t.uuid ∷ worded (codes "name") t.name ∷ worded (codes "gitdir") t.gitdir ∷ []
+  up_to_gitdir early = head early ∷ worded (codes "uuid") t.uuid ∷ worded (codes "name") t.name ∷ worded (codes "gitdir") t.gitdir ∷ []
 
   abbrev stamped : Bool → ℕ → Told
-  stamped old n = record nothing_told { old = old; uuid = t.uuid; name = t.name; gitdir = t.gitdir; stamp = n }
+  stamped early n = record nothing_told { early = early; uuid = t.uuid; name = t.name; gitdir = t.gitdir; stamp = n }
 
-  stamped_step : IsSoFar Stamp t → Goes Stamp t line place new → (old : Bool) → Step (up_to_gitdir old) line (after_stamp old) (stamped old new.stamp)
+  stamped_step : IsSoFar Stamp t → Goes Stamp t line place new → (early : Bool) → Step (up_to_gitdir early) line (after_stamp early) (stamped early new.stamp)
   stamped_step s g false =
       record { so_far = (s.0, s.1, s.2, g.1, refl); lines = ap (λ (l : List ℕ). up_to_gitdir false ++ l ∷ []) (sym g.0) }
   stamped_step s g true = record {
@@ -109,8 +109,8 @@ module _ (t : Told) (line : List ℕ) (place : Place) (new : Told) where
 
   stamp_step : IsSoFar Stamp t → Goes Stamp t line place new → Step (lines_told Stamp t) line place new
   stamp_step s g =
-      let is : new ≡ stamped t.old new.stamp = g.3 ∙ ap (λ (u : Told). record u { stamp = new.stamp }) s.3 in
-      to (lines_told Stamp t) line place (after_stamp t.old) new (stamped t.old new.stamp) g.2 is (stamped_step s g t.old)
+      let is : new ≡ stamped t.early new.stamp = g.3 ∙ ap (λ (u : Told). record u { stamp = new.stamp }) s.3 in
+      to (lines_told Stamp t) line place (after_stamp t.early) new (stamped t.early new.stamp) g.2 is (stamped_step s g t.early)
 
   abbrev run_again : ℕ → Told
   run_again n = record (stamped false t.stamp) { again = n }
@@ -118,7 +118,7 @@ module _ (t : Told) (line : List ℕ) (place : Place) (new : Told) where
   again_step : IsSoFar Again t → Goes Again t line place new → Step (lines_told Again t) line place new
   again_step s g =
       let is : new ≡ run_again new.again = g.3 ∙ ap (λ (u : Told). record u { again = new.again }) s.4 in
-      let now : t.old ≡ false = ap (λ (u : Told). u.old) s.4 in
+      let now : t.early ≡ false = ap (λ (u : Told). u.early) s.4 in
       to (lines_told Again t) line place Given new (run_again new.again) g.2 is (record {
         so_far = (
           record {
@@ -231,7 +231,7 @@ module _ (t : Told) (line : List ℕ) (place : Place) (new : Told) where
           tasks = s.tasks;
           kept = s.kept;
           entries = each_more IsEntry t.entries g.1.entry s.entries g.1.class;
-          stand = each_more (λ (e : Entry). IsTrue (may_stand t.old e.what)) t.entries g.1.entry s.stand g.1.stands;
+          stand = each_more (λ (e : Entry). IsTrue (may_stand t.early e.what)) t.entries g.1.entry s.stand g.1.stands;
         };
         lines =
             ap (λ (l : List (List ℕ)). first_lines t ++ (map task_line t.tasks ++ (map keep_line t.kept ++ begin ∷ l))) (map-append entry_line t.entries (g.1.entry ∷ []))

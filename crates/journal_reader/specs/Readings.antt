@@ -19,7 +19,7 @@ pub record Reading : Type 0 where
   pub told : Told
 
 abbrev pub nothing_told : Told
-nothing_told = record { old = false; uuid = []; name = []; gitdir = []; stamp = 0; again = 0; tasks = []; kept = []; entries = [] }
+nothing_told = record { early = false; uuid = []; name = []; gitdir = []; stamp = 0; again = 0; tasks = []; kept = []; entries = [] }
 
 abbrev pub start : Reading
 start = record { place = Head; taken = 0; told = nothing_told }
@@ -45,23 +45,23 @@ pub record TakesEntry (t : Told) (line : List ℕ) (new : Told) : Type 0 where
   pub entry : Entry
   pub spelled : line ≡ entry_line entry
   pub class : IsEntry entry
-  pub stands : IsTrue (may_stand t.old entry.what)
+  pub stands : IsTrue (may_stand t.early entry.what)
   pub told : new ≡ record t { entries = t.entries ++ entry ∷ [] }
 
 -- ---- each line
 
--- what is awaited after the stamp: an old text doesn't say how often a task may be run again
+-- what is awaited after the stamp: an early text doesn't say how often a task may be run again
 abbrev pub after_stamp : Bool → Place
 after_stamp false = Again
 after_stamp true = Given
 
 -- Where this is awaited after what is told, the line may stand next; that is awaited then, and so much told.
 abbrev pub Goes : Place → Told → List ℕ → Place → Told → Type 0
-Goes Head t line place new = (line ≡ head new.old) × (place ≡ Uuid) × (new ≡ record t { old = new.old })
+Goes Head t line place new = (line ≡ head new.early) × (place ≡ Uuid) × (new ≡ record t { early = new.early })
 Goes Uuid t line place new = (line ≡ worded (codes "uuid") new.uuid) × IsTrue (is_uuid new.uuid) × (place ≡ Name) × (new ≡ record t { uuid = new.uuid })
 Goes Name t line place new = (line ≡ worded (codes "name") new.name) × IsTrue (is_text new.name) × (place ≡ Gitdir) × (new ≡ record t { name = new.name })
 Goes Gitdir t line place new = (line ≡ worded (codes "gitdir") new.gitdir) × IsTrue (is_text new.gitdir) × (place ≡ Stamp) × (new ≡ record t { gitdir = new.gitdir })
-Goes Stamp t line place new = (line ≡ stamp_line new.stamp) × (new.stamp < 2 ^ 64) × (place ≡ after_stamp t.old) × (new ≡ record t { stamp = new.stamp })
+Goes Stamp t line place new = (line ≡ stamp_line new.stamp) × (new.stamp < 2 ^ 64) × (place ≡ after_stamp t.early) × (new ≡ record t { stamp = new.stamp })
 Goes Again t line place new = (line ≡ again_line new.again) × (new.again ≤ 8) × (place ≡ Given) × (new ≡ record t { again = new.again })
 Goes Given t line place new =
     (((line ≡ begin) × (place ≡ Entries) × (new ≡ t)) ⊎ ((place ≡ Given) × TakesTask t line new)) ⊎ ((place ≡ Given) × TakesKept t line new)

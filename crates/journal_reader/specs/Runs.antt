@@ -32,11 +32,11 @@ pub record IsOpeningOf (o : Opening) (t : Told) : Type 0 where
 -- the lines that tell it
 abbrev pub lines_told : Place → Told → List (List ℕ)
 lines_told Head t = []
-lines_told Uuid t = head t.old ∷ []
-lines_told Name t = head t.old ∷ worded (codes "uuid") t.uuid ∷ []
-lines_told Gitdir t = head t.old ∷ worded (codes "uuid") t.uuid ∷ worded (codes "name") t.name ∷ []
-lines_told Stamp t = head t.old ∷ worded (codes "uuid") t.uuid ∷ worded (codes "name") t.name ∷ worded (codes "gitdir") t.gitdir ∷ []
-lines_told Again t = head t.old ∷ worded (codes "uuid") t.uuid ∷ worded (codes "name") t.name ∷ worded (codes "gitdir") t.gitdir ∷ stamp_line t.stamp ∷ []
+lines_told Uuid t = head t.early ∷ []
+lines_told Name t = head t.early ∷ worded (codes "uuid") t.uuid ∷ []
+lines_told Gitdir t = head t.early ∷ worded (codes "uuid") t.uuid ∷ worded (codes "name") t.name ∷ []
+lines_told Stamp t = head t.early ∷ worded (codes "uuid") t.uuid ∷ worded (codes "name") t.name ∷ worded (codes "gitdir") t.gitdir ∷ []
+lines_told Again t = head t.early ∷ worded (codes "uuid") t.uuid ∷ worded (codes "name") t.name ∷ worded (codes "gitdir") t.gitdir ∷ stamp_line t.stamp ∷ []
 lines_told Given t = first_lines t ++ (map task_line t.tasks ++ map keep_line t.kept)
 lines_told Entries t = first_lines t ++ (map task_line t.tasks ++ (map keep_line t.kept ++ begin ∷ map entry_line t.entries))
 lines_told Over t = told_lines t
@@ -45,11 +45,11 @@ lines_told (Refused number) t = []
 -- so much may be told, and nothing more is
 abbrev pub IsSoFar : Place → Told → Type 0
 IsSoFar Head t = t ≡ nothing_told
-IsSoFar Uuid t = t ≡ record nothing_told { old = t.old }
-IsSoFar Name t = IsTrue (is_uuid t.uuid) × (t ≡ record nothing_told { old = t.old; uuid = t.uuid })
-IsSoFar Gitdir t = IsTrue (is_uuid t.uuid) × IsTrue (is_text t.name) × (t ≡ record nothing_told { old = t.old; uuid = t.uuid; name = t.name })
+IsSoFar Uuid t = t ≡ record nothing_told { early = t.early }
+IsSoFar Name t = IsTrue (is_uuid t.uuid) × (t ≡ record nothing_told { early = t.early; uuid = t.uuid })
+IsSoFar Gitdir t = IsTrue (is_uuid t.uuid) × IsTrue (is_text t.name) × (t ≡ record nothing_told { early = t.early; uuid = t.uuid; name = t.name })
 IsSoFar Stamp t =
-    IsTrue (is_uuid t.uuid) × IsTrue (is_text t.name) × IsTrue (is_text t.gitdir) × (t ≡ record nothing_told { old = t.old; uuid = t.uuid; name = t.name; gitdir = t.gitdir })
+    IsTrue (is_uuid t.uuid) × IsTrue (is_text t.name) × IsTrue (is_text t.gitdir) × (t ≡ record nothing_told { early = t.early; uuid = t.uuid; name = t.name; gitdir = t.gitdir })
 IsSoFar Again t =
     IsTrue (is_uuid t.uuid) × IsTrue (is_text t.name) × IsTrue (is_text t.gitdir) × (t.stamp < 2 ^ 64)
     × (t ≡ record nothing_told { uuid = t.uuid; name = t.name; gitdir = t.gitdir; stamp = t.stamp })

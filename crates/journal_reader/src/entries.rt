@@ -32,7 +32,7 @@ impl Reader {
         requires more { line.now ≡ end_line (length self.old.told.entries) → ⊥ }
         ensures { Took self.old line.now self.new result }
     {
-        match entry_of(self.alloc, line, self.old)? {
+        match entry_of(self.alloc, line, self.early)? {
             Some(entry) => {
                 self.entries.push(entry)?;
                 Ok(true)
@@ -51,21 +51,21 @@ fn is_end(alloc: Global, line: &[u8], count: usize) -> Result<bool, NoMemory>
 }
 
 // The entry whose line this is, if it may stand in the text.
-fn entry_of(alloc: Global, line: &[u8], old: bool) -> Result<Option<Entry>, NoMemory>
-    ensures { IfOk result (λ found. MatchOption found ((entry : Entry) → IsEntry entry → IsTrue (may_stand old entry.what) → line.now ≡ entry_line entry → ⊥) (λ entry. (line.now ≡ entry_line entry) × IsEntry entry × IsTrue (may_stand old entry.what))) }
+fn entry_of(alloc: Global, line: &[u8], early: bool) -> Result<Option<Entry>, NoMemory>
+    ensures { IfOk result (λ found. MatchOption found ((entry : Entry) → IsEntry entry → IsTrue (may_stand early entry.what) → line.now ≡ entry_line entry → ⊥) (λ entry. (line.now ≡ entry_line entry) × IsEntry entry × IsTrue (may_stand early entry.what))) }
 {
     match read_entry(alloc, line)? {
-        Some(entry) if is_entry(&entry) && may_stand(old, &entry.what) => Ok(Some(entry)),
+        Some(entry) if is_entry(&entry) && may_stand(early, &entry.what) => Ok(Some(entry)),
         _ => Ok(None),
     }
 }
 
-fn may_stand(old: bool, what: &What) -> bool
-    ensures { result ≡ may_stand old what.now }
+fn may_stand(early: bool, what: &What) -> bool
+    ensures { result ≡ may_stand early what.now }
 {
     let again = match what {
         What::Again { .. } => true,
         _ => false,
     };
-    !(old && again)
+    !(early && again)
 }

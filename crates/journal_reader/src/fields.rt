@@ -138,11 +138,7 @@ fn few_of(alloc: Global, text: &[u8]) -> Result<Option<u32>, NoMemory>
     let Some(n) = number_of(alloc, text)? else {
         return Ok(None);
     };
-    if n <= 8 {
-        Ok(Some(n as u32))
-    } else {
-        Ok(None)
-    }
+    if n <= 8 { Ok(Some(n as u32)) } else { Ok(None) }
 }
 
 fn number_of(alloc: Global, text: &[u8]) -> Result<Option<u64>, NoMemory>

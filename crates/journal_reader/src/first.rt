@@ -15,9 +15,9 @@ impl Reader {
         requires { self.old.place ≡ Place.Head }
         ensures { Took self.old line.now self.new (Ok result) }
     {
-        let old = line == b"annex-journal 1".as_slice();
-        if old || line == b"annex-journal 2".as_slice() {
-            self.old = old;
+        let early = line == b"annex-journal 1".as_slice();
+        if early || line == b"annex-journal 2".as_slice() {
+            self.early = early;
             self.place = Place::Uuid;
             true
         } else {
@@ -69,7 +69,7 @@ impl Reader {
             return Ok(false);
         };
         self.stamp = stamp;
-        self.place = after_stamp(self.old);
+        self.place = after_stamp(self.early);
         Ok(true)
     }
 
@@ -86,8 +86,8 @@ impl Reader {
     }
 }
 
-fn after_stamp(old: bool) -> Place
-    ensures { result ≡ after_stamp old }
+fn after_stamp(early: bool) -> Place
+    ensures { result ≡ after_stamp early }
 {
-    if old { Place::Given } else { Place::Again }
+    if early { Place::Given } else { Place::Again }
 }

@@ -6,7 +6,7 @@ pub enum Place {
     Name,
     Gitdir,
     Stamp,
-    /// How often a task may be run again; an old text doesn't say it.
+    /// How often a task may be run again; an early text doesn't say it.
     Again,
     /// A task, or what is kept, or the journal's begin.
     Given,

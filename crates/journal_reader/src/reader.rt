@@ -13,7 +13,7 @@ pub struct Reader {
     pub(crate) alloc: Global,
     pub(crate) place: Place,
     pub(crate) taken: u64,
-    pub(crate) old: bool,
+    pub(crate) early: bool,
     pub(crate) uuid: Text,
     pub(crate) name: Text,
     pub(crate) gitdir: Text,
@@ -32,7 +32,7 @@ impl Model for Reader {
 
     ghost Value = { Reading };
 
-    ghost view = { λ r. record { place = r.place; taken = r.taken; told = record { old = r.old; uuid = r.uuid; name = r.name; gitdir = r.gitdir; stamp = r.stamp; again = r.again; tasks = r.tasks.items; kept = r.kept.items; entries = r.entries.items } } };
+    ghost view = { λ r. record { place = r.place; taken = r.taken; told = record { early = r.early; uuid = r.uuid; name = r.name; gitdir = r.gitdir; stamp = r.stamp; again = r.again; tasks = r.tasks.items; kept = r.kept.items; entries = r.entries.items } } };
 
     ghost invariant = { λ r. IsTrue (list_all is_kept r.kept.items) };
 }
@@ -51,7 +51,7 @@ impl Reader {
             alloc,
             place: Place::Head,
             taken: 0,
-            old: false,
+            early: false,
             uuid: Text::from_string(String::new(alloc)),
             name: Text::from_string(String::new(alloc)),
             gitdir: Text::from_string(String::new(alloc)),
