@@ -74,7 +74,7 @@ unfolding digits
 spelled = refl
 
 is_one : IsEntry unsent_again
-is_one = (omega arith, omega arith, tt)
+is_one = (omega arith, (omega arith, tt))
 
 pub entry_goes : Goes Entries nothing_told (codes "0 again 1 unsent") Entries (record nothing_told { entries = unsent_again ∷ [] })
 entry_goes = inr (refl, record { entry = unsent_again; spelled = spelled; class = is_one; stands = refl; told = refl })
