@@ -176,12 +176,14 @@ pub(super) fn event_of(
         WhatRef::Got { child, line } => got_event(alloc, core, child, line),
         WhatRef::End { child, why } => end_event(alloc, core, child, why),
         WhatRef::Lost { child, task } => lost_event(alloc, core, child, task),
-        WhatRef::Answer { task, answer } | WhatRef::Again { task, answer } => {
-            Ok(Some(Event::Answer {
-                task: task,
-                answer: answer,
-            }))
-        }
+        WhatRef::Answer { task, answer } => Ok(Some(Event::Answer {
+            task: task,
+            answer: answer,
+        })),
+        WhatRef::Again { task, answer } => Ok(Some(Event::Answer {
+            task: task,
+            answer: answer,
+        })),
         WhatRef::Note { task, chunk, count } => Ok(Some(Event::Note {
             task: task,
             chunk: chunk,
