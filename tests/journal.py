@@ -2,7 +2,7 @@
 
 from typing import NamedTuple
 
-HEAD = "annex-journal 1"
+HEAD = "annex-journal 2"
 
 
 class Entry(NamedTuple):
@@ -18,7 +18,7 @@ class Entry(NamedTuple):
         """The child's number; of a claim it is the second part, of a failed start there is none."""
         if self.word == "claim":
             return int(self.parts[1])
-        return None if self.word in ("nostart", "answer", "note") else int(self.parts[0])
+        return None if self.word in ("nostart", "answer", "note", "again") else int(self.parts[0])
 
     @property
     def line(self):
@@ -37,6 +37,7 @@ class Journal(NamedTuple):
     name: str
     gitdir: str
     stamp: int
+    again: int
     tasks: list
     keep: list
     entries: list
@@ -55,21 +56,23 @@ class Journal(NamedTuple):
         return [entry.line for entry in self.of("got") if entry.child == child]
 
     def most_busy(self):
-        """How many tasks were claimed and not yet answered, at most."""
+        """How many tasks were claimed and not yet answered or given up for another run, at most."""
         busy = most = 0
-        for entry in self.of("claim", "answer"):
+        for entry in self.of("claim", "answer", "again"):
             busy += 1 if entry.word == "claim" else -1
             most = max(most, busy)
         return most
 
     def odd_tasks(self):
-        """The tasks that were not claimed once and then answered once by the number that claimed them."""
+        """The tasks that were not claimed once for each run and then answered, each run ended by the number that claimed it."""
         turns = {str(task): [] for task in range(1, len(self.tasks) + 1)}
-        for entry in self.of("claim", "answer"):
+        for entry in self.of("claim", "answer", "again"):
             turns[entry.parts[0]].append((entry.word, entry.by))
         return [
             task for task, turn in turns.items()
-            if [word for word, _ in turn] != ["claim", "answer"] or turn[0][1] != turn[1][1]
+            if [word for word, _ in turn[:-2]] != ["claim", "again"] * (len(turn) // 2 - 1)
+            or [word for word, _ in turn[-2:]] != ["claim", "answer"]
+            or any(turn[at][1] != turn[at + 1][1] for at in range(0, len(turn), 2))
         ]
 
     def waits(self, first, second):
@@ -99,7 +102,7 @@ def read(text):
     if lines.pop(0) != HEAD:
         raise ValueError("the first line is another one")
     head = []
-    for word in ("uuid", "name", "gitdir", "stamp"):
+    for word in ("uuid", "name", "gitdir", "stamp", "again"):
         got, _, value = lines.pop(0).partition(" ")
         if got != word:
             raise ValueError(f"no line {word}")
@@ -111,4 +114,4 @@ def read(text):
     entries = [entry_of(place, line) for place, line in enumerate(lines[1:-1])]
     if lines[-1] != f"end {len(entries)}":
         raise ValueError("the last line is another one")
-    return Journal(*head[:3], int(head[3]), tasks, keep, entries)
+    return Journal(*head[:3], int(head[3]), int(head[4]), tasks, keep, entries)

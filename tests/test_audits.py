@@ -18,7 +18,7 @@ After `=>` comes what is found: `legal`, `wrong ENTRY KIND`, or the line that is
 import scenes
 from harness import SPECIAL, TOP, Done, audit, expect, finish, limits, require, start, table
 
-HEAD = "annex-journal 1\nuuid 00000000-0000-0000-0000-000000000000\nname \ngitdir \nstamp 0\n"
+HEAD = "annex-journal 2\nuuid 00000000-0000-0000-0000-000000000000\nname \ngitdir \nstamp 0\nagain 0\n"
 
 
 def edited(lines, edits, first):
@@ -108,7 +108,7 @@ def case_the_input_is_read_to_its_end_before_a_line_is_refused(room):
 def case_a_text_may_have_65536_tasks(room):
     task = "task drop WORM--a\n"
     expect(audit(HEAD + task * 65536 + "begin\nend 0\n"), done_of("legal"), "as many as there may be")
-    expect(audit(HEAD + task * 65537 + "begin\nend 0\n"), done_of("line 65542: entry"), "one more")
+    expect(audit(HEAD + task * 65537 + "begin\nend 0\n"), done_of("line 65543: entry"), "one more")
 
 
 @table([(name, name) for name in ("chunked", "plain", "tagged")])

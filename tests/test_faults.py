@@ -6,7 +6,7 @@ import time
 from faults import closed_output, failing_input, limited
 from harness import ANNEX_REMOTE_DIR, SPECIAL, UUID, Done, audit, expect, finish, require, run, start, table
 
-EMPTY = "annex-journal 1\nuuid 00000000-0000-0000-0000-000000000000\nname \ngitdir \nstamp 0\nbegin\nend 0\n"
+EMPTY = "annex-journal 2\nuuid 00000000-0000-0000-0000-000000000000\nname \ngitdir \nstamp 0\nagain 0\nbegin\nend 0\n"
 RUN = ["run", "--program", "./remote.sh", "--uuid", UUID, "--jobs", "1", "--work", "w"]
 FAILED = "special: file failed\n"
 
@@ -155,7 +155,7 @@ def a_journal_file_that_cannot_be_added_to_has_its_first_lines(room, size, whole
     furnish(room)
     expect(journaled(room, size=size), Done(6, "1 present\n", FAILED))
     expect(room.text("keep"), "annex-keep 1\nstate WORM--a there\n", "the kept file")
-    lines = "annex-journal 1\n" + f"uuid {UUID}\n" + "name remote\ngitdir .git\n"
+    lines = "annex-journal 2\n" + f"uuid {UUID}\n" + "name remote\ngitdir .git\n"
     expect(room.text("journal")[:whole], lines[:whole], "the journal file")
     require(len(room.read("journal")) <= size, "the journal file ends where the write failed")
 

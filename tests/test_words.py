@@ -93,7 +93,7 @@ def expect_run(room, words, wanted):
     expect_identity([] if is_large else heard, uuid, name, gitdir)
     expect_asked([line for lines in heard for line in lines], int(chunk), work)
     keep = None if keep == "none" else keep.strip('"')
-    for file, front in ((keep, "annex-keep 1\n"), (journal, "annex-journal 1\n")):
+    for file, front in ((keep, "annex-keep 1\n"), (journal, "annex-journal 2\n")):
         if file and not (file == keep == journal and "keep" in front):
             require((trial.text(file) or "").startswith(front), f"the file {file} begins with {front}")
     if not keep and not journal:

@@ -6,7 +6,7 @@ use Rattle.journal_reader.specs.Readings.{Reading, IsEndAs, is_open, start}
 use Rattle.journal_reader.specs.RunTexts.{IsWhole}
 use Rattle.journal_reader.specs.Runs.{Reads, IsOpeningOf}
 use Rattle.journal_reader.specs.declared.place.Place.{Place}
-use Rattle.journal_reader.specs.declared.place.Place.TheVariants.{Head, Uuid, Name, Gitdir, Stamp, Given, Entries, Over, Refused}
+use Rattle.journal_reader.specs.declared.place.Place.TheVariants.{Head, Uuid, Name, Gitdir, Stamp, Again, Given, Entries, Over, Refused}
 use Rattle.journal_reader.specs.declared.error.JournalError.TheVariants.{BadLine, Cut}
 use Rattle.journal_reader.proofs.Agreeing.{reads_same}
 use Rattle.journal_reader.proofs.Complete.{whole_is_read}
@@ -26,6 +26,7 @@ no_bad_end Uuid taken n o h = absurd cc
 no_bad_end Name taken n o h = absurd cc
 no_bad_end Gitdir taken n o h = absurd cc
 no_bad_end Stamp taken n o h = absurd cc
+no_bad_end Again taken n o h = absurd cc
 no_bad_end Given taken n o h = absurd cc
 no_bad_end Entries taken n o h = absurd cc
 no_bad_end Over taken n o h = absurd cc
@@ -43,6 +44,7 @@ cut_at Uuid taken n h = (λ e. absurd cc, cc)
 cut_at Name taken n h = (λ e. absurd cc, cc)
 cut_at Gitdir taken n h = (λ e. absurd cc, cc)
 cut_at Stamp taken n h = (λ e. absurd cc, cc)
+cut_at Again taken n h = (λ e. absurd cc, cc)
 cut_at Given taken n h = (λ e. absurd cc, cc)
 cut_at Entries taken n h = (λ e. absurd cc, cc)
 cut_at Over taken n h = absurd cc

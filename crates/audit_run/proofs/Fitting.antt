@@ -1,5 +1,5 @@
 -- A run may begin with the opening of a text.
-use Rattle.std.proofs.Common.{◌≡◌, ℕ, ◌≤◌, true, false, not, List, Option, Some, None, length, get_or, refl, sym, ap, subst, ◌∙◌, arith}
+use Rattle.std.proofs.Common.{◌≡◌, ℕ, ◌≤◌, Bool, true, false, not, List, Option, Some, None, length, get_or, refl, sym, ap, subst, ◌∙◌, arith}
 use mathlib.Core.Bool.{false≢true}
 use Rattle.std.specs.Prelude.{All}
 use Rattle.std.specs.Str.{is_utf8}
@@ -15,7 +15,7 @@ use Rattle.chunk_log.specs.ChunkLines.{IsWrittenUuid}
 use Rattle.task_text.specs.TaskLines.{IsTask}
 use Rattle.journal_model.specs.Beginnings.{MayBegin}
 use Rattle.journal_model.specs.Replies.{IsLineIdentity}
-use Rattle.journal_reader.specs.RunTexts.{is_text, is_written_uuid}
+use Rattle.journal_reader.specs.RunTexts.{IsAgain, is_text, is_written_uuid}
 use Rattle.cli_words.proofs.Fits.{uuid_fits}
 use Rattle.audit_run.specs.Inputs.{IsTextOf}
 
@@ -39,6 +39,10 @@ text_fits text h = (and_parts (is_utf8 text) (not (has_newline text)) h).1
 along : (a b : List ℕ) → a ≡ b → not (has_newline b) ≡ true → not (has_newline a) ≡ true
 along a b e h = ap (λ (t : List ℕ). not (has_newline t)) e ∙ h
 
+few_again : (early : Bool) (n : ℕ) → IsAgain early n → n ≤ 8
+few_again false n few = few
+few_again true n none = omega (arith, none)
+
 module _ (opening : Opening) (journal : List Entry) (lines : List (List ℕ)) (is : IsTextOf opening journal lines) where
   few_tasks : length opening.tasks ≤ 65536
   few_tasks = let same = ap (λ (ts : List Task). length ts) is.opening_is.tasks in let few = is.class.few in omega arith
@@ -60,3 +64,6 @@ module _ (opening : Opening) (journal : List Entry) (lines : List (List ℕ)) (i
     lines = line_identity;
     uuid = subst IsWrittenUuid (sym is.opening_is.uuid) (written_uuid is.told.uuid (parsed is.told.uuid) refl is.class.uuid);
   }
+
+  pub may_again : opening.again ≤ 8
+  may_again = subst (λ (n : ℕ). n ≤ 8) (sym is.opening_is.again) (few_again is.told.early is.told.again is.class.again)

@@ -3,11 +3,11 @@ use Rattle.std.proofs.Common.{◌≡◌, ℕ, ◌+◌, inl, inr, Bool, true, fal
 use Rattle.std.proofs.lemmas.List.{append-nil}
 use Rattle.task_input.specs.InputLines.{with_rest}
 use Rattle.journal_lines.specs.JournalTexts.{Told}
-use Rattle.journal_reader.specs.Readings.{Reading, Goes, CannotGo, Follows, IsFault, RefusedAs, is_open, start}
+use Rattle.journal_reader.specs.Readings.{Reading, Goes, CannotGo, Follows, IsFault, RefusedAs, after_stamp, is_open, start}
 use Rattle.journal_reader.specs.RunTexts.{Begins}
 use Rattle.journal_reader.specs.Runs.{Reads}
 use Rattle.journal_reader.specs.declared.place.Place.{Place}
-use Rattle.journal_reader.specs.declared.place.Place.TheVariants.{Head, Uuid, Name, Gitdir, Stamp, Given, Entries, Over, Refused}
+use Rattle.journal_reader.specs.declared.place.Place.TheVariants.{Head, Uuid, Name, Gitdir, Stamp, Again, Given, Entries, Over, Refused}
 use Rattle.journal_reader.specs.declared.error.JournalError.TheVariants.{BadLine}
 use Rattle.journal_reader.proofs.Continuing.{taken_begins, refused_is_in_none}
 use Rattle.journal_reader.proofs.Sound.{all_told}
@@ -48,12 +48,17 @@ pub reads_more : (old between new : Reading) (lines : List (List ℕ)) (line : L
 reads_more old between new [] line r f = let P : Reading → Type 0 = λ x. Follows x line new in (new, subst P r f, refl)
 reads_more old between new (first ∷ lines) line r f = (r.0, r.1, reads_more r.0 between new lines line r.2 f)
 
+after_open : (early : Bool) → is_open (after_stamp early) ≡ true
+after_open false = refl
+after_open true = refl
+
 goes_open : (at : Place) (t : Told) (line : List ℕ) (place : Place) (new : Told) → Goes at t line place new → is_open place ≡ true
 goes_open Head t line place new g = ap is_open g.1
 goes_open Uuid t line place new g = ap is_open g.2
 goes_open Name t line place new g = ap is_open g.2
 goes_open Gitdir t line place new g = ap is_open g.2
-goes_open Stamp t line place new g = ap is_open g.2
+goes_open Stamp t line place new g = ap is_open g.2 ∙ after_open t.early
+goes_open Again t line place new g = ap is_open g.2
 goes_open Given t line place new (inl (inl g)) = ap is_open g.1
 goes_open Given t line place new (inl (inr g)) = ap is_open g.0
 goes_open Given t line place new (inr g) = ap is_open g.0
@@ -75,6 +80,7 @@ refused_says Uuid old line bad new o h = (h.0, h.1)
 refused_says Name old line bad new o h = (h.0, h.1)
 refused_says Gitdir old line bad new o h = (h.0, h.1)
 refused_says Stamp old line bad new o h = (h.0, h.1)
+refused_says Again old line bad new o h = (h.0, h.1)
 refused_says Given old line bad new o h = (h.0, h.1)
 refused_says Entries old line bad new o h = (h.0, h.1)
 refused_says Over old line bad new o h = (h.0, h.1)

@@ -1,5 +1,5 @@
 // Reads an input and audits it.
-ghost use Rattle.std.specs.Prelude.{◌≡◌, ℕ, List, IfOk, IfSome, true};
+ghost use Rattle.std.specs.Prelude.{◌≡◌, ◌≤◌, ℕ, List, IfOk, IfSome, true};
 ghost use Rattle.journal_audit.specs.Audits.{IsAudit};
 ghost use Rattle.journal_model.specs.Beginnings.{MayBegin};
 ghost use Rattle.ann_outside.specs.Causes.{StaysUntold};
@@ -43,7 +43,8 @@ pub fn audit_input<S: Source>(
 
 // What is found of the journal, which goes with its opening when that is done.
 fn audit_all(alloc: Global, opening: Opening, journal: Journal) -> Result<Audit, NoMemory>
-    requires { MayBegin opening }
+    requires begins { MayBegin opening }
+    requires again { opening.again ≤ 8 }
     ensures audit { IfOk result (IsAudit opening journal.entries) }
 {
     audit(alloc, &opening, &journal)

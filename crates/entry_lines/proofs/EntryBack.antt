@@ -6,7 +6,7 @@ use Rattle.journal_model.specs.declared.verdict.Verdict.{Verdict as VerdictType}
 use Rattle.journal_model.specs.declared.answer.Answer.{Answer as AnswerType}
 use Rattle.journal_model.specs.declared.verdict.Why.{Why}
 use Rattle.journal_model.specs.declared.entry.What.{What}
-use Rattle.journal_model.specs.declared.entry.What.TheVariants.{Claim, Start, NoStart, Lead, Ask, Put, Sent, Mute, Got, End, Verdict, Lost, Answer, Note}
+use Rattle.journal_model.specs.declared.entry.What.TheVariants.{Claim, Start, NoStart, Lead, Ask, Put, Sent, Mute, Got, End, Verdict, Lost, Answer, Note, Again}
 use Rattle.journal_model.specs.declared.entry.Entry.{Entry}
 use Rattle.entry_lines.specs.Answers.{answer_fields, answer_at}
 use Rattle.entry_lines.specs.Entries.{offer_word, offer_at, what_fields, what_at, what_rows, entry_at, entry_line, IsWhat, IsEntry}
@@ -64,6 +64,10 @@ answered_back : (task : ℕ) (answer : AnswerType) → task < 2 ^ 32 → answer_
     → by_rows what_rows (codes "answer") (spaced (decimal task ∷ answer_fields answer)) ≡ Some (Answer task answer)
 answered_back task answer h k = rw (small_back task (answer_fields answer) h, small_rest task (answer_fields answer) h, k) refl
 
+again_back : (task : ℕ) (answer : AnswerType) → task < 2 ^ 32 → answer_at (spaced (answer_fields answer)) ≡ Some answer
+    → by_rows what_rows (codes "again") (spaced (decimal task ∷ answer_fields answer)) ≡ Some (Again task answer)
+again_back task answer h k = rw (small_back task (answer_fields answer) h, small_rest task (answer_fields answer) h, k) refl
+
 noted_back : (task chunk count : ℕ) → task < 2 ^ 32 → chunk < 2 ^ 64 → count < 2 ^ 64
     → by_rows what_rows (codes "note") (spaced (decimal task ∷ decimal chunk ∷ decimal count ∷ [])) ≡ Some (Note task chunk count)
 noted_back task chunk count h k l = rw (numbers_back task chunk (decimal count ∷ []) h k, numbers_rest task chunk (decimal count ∷ []) h k, number_back count [] l) refl
@@ -88,6 +92,7 @@ what_back (Lost child task) h =
 what_back (Answer task answer) h = worded (by_rows what_rows) (codes "answer") (decimal task ∷ answer_fields answer) refl ∙ answered_back task answer h.0 (answer_back answer h.1)
 what_back (Note task chunk count) h =
     worded (by_rows what_rows) (codes "note") (decimal task ∷ decimal chunk ∷ decimal count ∷ []) refl ∙ noted_back task chunk count h.0 h.1 h.2
+what_back (Again task answer) h = worded (by_rows what_rows) (codes "again") (decimal task ∷ answer_fields answer) refl ∙ again_back task answer h.0 (answer_back answer h.1)
 
 pub entry_back : (entry : Entry) → IsEntry entry → entry_at (entry_line entry) ≡ Some entry
 entry_back entry h = rw (small_back entry.by (what_fields entry.what) h.0, small_rest entry.by (what_fields entry.what) h.0, what_back entry.what h.1) refl

@@ -2,7 +2,7 @@
 use Rattle.std.specs.Prelude.{ℕ, ◌<◌, ◌^◌, Bool, true, false, not, List, [], ◌∷◌, Option, codes, decimal, option_map, option_and_then, bytes_eq, IsTrue}
 use Rattle.annex_model.specs.Lines.{has_newline}
 use Rattle.journal_model.specs.declared.entry.What.{What}
-use Rattle.journal_model.specs.declared.entry.What.TheVariants.{Claim, Start, NoStart, Lead, Ask, Put, Sent, Mute, Got, End, Verdict, Lost, Answer, Note}
+use Rattle.journal_model.specs.declared.entry.What.TheVariants.{Claim, Start, NoStart, Lead, Ask, Put, Sent, Mute, Got, End, Verdict, Lost, Answer, Note, Again}
 use Rattle.journal_model.specs.declared.entry.Entry.{Entry}
 use Rattle.entry_lines.specs.Answers.{answer_fields, answer_at, IsAnswer}
 use Rattle.entry_lines.specs.Fields.{spaced, first_of, rest_of, number_at, small_at, smalls_at, numbers_at, Row, by_rows}
@@ -29,6 +29,7 @@ what_fields (Verdict child job verdict) = codes "verdict" ∷ decimal child ∷ 
 what_fields (Lost child task) = codes "lost" ∷ decimal child ∷ decimal task ∷ []
 what_fields (Answer task answer) = codes "answer" ∷ decimal task ∷ answer_fields answer
 what_fields (Note task chunk count) = codes "note" ∷ decimal task ∷ decimal chunk ∷ decimal count ∷ []
+what_fields (Again task answer) = codes "again" ∷ decimal task ∷ answer_fields answer
 
 -- without byte 10
 abbrev pub entry_line : Entry → List ℕ
@@ -50,6 +51,7 @@ IsWhat (Verdict child job verdict) = (child < 2 ^ 32) × (job < 2 ^ 64) × IsVer
 IsWhat (Lost child task) = (child < 2 ^ 32) × (task < 2 ^ 32)
 IsWhat (Answer task answer) = (task < 2 ^ 32) × IsAnswer answer
 IsWhat (Note task chunk count) = (task < 2 ^ 32) × (chunk < 2 ^ 64) × (count < 2 ^ 64)
+IsWhat (Again task answer) = (task < 2 ^ 32) × IsAnswer answer
 
 abbrev pub IsEntry : Entry → Type 0
 IsEntry entry = (entry.by < 2 ^ 32) × IsWhat entry.what
@@ -81,6 +83,9 @@ note_at text = option_and_then (λ numbers. option_map (Note numbers.0 numbers.1
 abbrev pub answer_what : List ℕ → Option What
 answer_what text = option_and_then (λ task. option_map (Answer task) (answer_at (rest_of text))) (small_at text)
 
+abbrev pub again_what : List ℕ → Option What
+again_what text = option_and_then (λ task. option_map (Again task) (answer_at (rest_of text))) (small_at text)
+
 abbrev pub what_rows : List (Row What)
 what_rows =
     record { word = codes "ask"; read = ask_at }
@@ -88,6 +93,7 @@ what_rows =
     ∷ record { word = codes "lead"; read = lead_at }
     ∷ record { word = codes "got"; read = got_at }
     ∷ record { word = codes "answer"; read = answer_what }
+    ∷ record { word = codes "again"; read = again_what }
     ∷ record { word = codes "claim"; read = λ text. option_map (λ t. Claim t.0 t.1) (smalls_at text) }
     ∷ record { word = codes "start"; read = λ text. option_map (λ t. Start t.0 t.1 (offer_at (rest_of (rest_of text)))) (smalls_at text) }
     ∷ record { word = codes "nostart"; read = λ text. option_map NoStart (small_at text) }

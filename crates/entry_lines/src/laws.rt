@@ -20,5 +20,6 @@ pub fn worked_lines()
     ensures foul { entry_line (record { by = 0; what = what.End 1 (why.Foul 14) }) ≡ codes "0 end 1 foul 14" }
     ensures ended { entry_line (record { by = 0; what = what.Verdict 1 2 (verdict.Ended why.Eof) }) ≡ codes "0 verdict 1 2 ended eof" }
     ensures size { entry_line (record { by = 0; what = what.Answer 7 (answer.Size 10) }) ≡ codes "0 answer 7 size 10" }
+    ensures again { entry_line (record { by = 2; what = what.Again 7 (answer.Ended why.Eof) }) ≡ codes "2 again 7 ended eof" }
     ensures renamed { entry_line (record { by = 0; what = what.Answer 7 answer.Renamed }) ≡ codes "0 answer 7 renamed" }
 {}

@@ -1,6 +1,6 @@
 // What happened, as the fields of a line say it.
 ghost use Rattle.std.specs.Prelude.{◌≡◌, IfOk, drop};
-ghost use Rattle.entry_lines.specs.Entries.{what_at, what_rows, ask_at, lead_at, put_at, got_at, verdict_what, note_at, answer_what, entry_at};
+ghost use Rattle.entry_lines.specs.Entries.{what_at, what_rows, ask_at, lead_at, put_at, got_at, verdict_what, note_at, answer_what, again_what, entry_at};
 ghost use Rattle.entry_lines.specs.Fields.{by_rows};
 
 use crate::answers::answer_at;
@@ -44,6 +44,8 @@ fn by_word(alloc: Global, word: &[u8], text: &[u8]) -> Result<Option<What>, NoMe
         got_at(alloc, text)
     } else if word == b"answer".as_slice() {
         answered(alloc, text)
+    } else if word == b"again".as_slice() {
+        again_at(alloc, text)
     } else {
         Ok(of_run(word, text))
     }
@@ -110,9 +112,21 @@ fn answered(alloc: Global, text: &[u8]) -> Result<Option<What>, NoMemory>
     }
 }
 
+fn again_at(alloc: Global, text: &[u8]) -> Result<Option<What>, NoMemory>
+    ensures { IfOk result (λ what. what ≡ again_what text.now) }
+{
+    let Some(task) = small_at(text) else {
+        return Ok(None);
+    };
+    match answer_at(alloc, rest_of(text))? {
+        Some(answer) => Ok(Some(What::Again { task, answer })),
+        None => Ok(None),
+    }
+}
+
 // Starts, claims and what becomes of them.
 fn of_run(word: &[u8], text: &[u8]) -> Option<What>
-    ensures { result ≡ by_rows (drop 5 what_rows) word.now text.now }
+    ensures { result ≡ by_rows (drop 6 what_rows) word.now text.now }
 {
     if word == b"claim".as_slice() {
         let (task, child) = smalls_at(text)?;
@@ -134,7 +148,7 @@ fn of_run(word: &[u8], text: &[u8]) -> Option<What>
 
 // What happens with a child.
 fn of_child(word: &[u8], text: &[u8]) -> Option<What>
-    ensures { result ≡ by_rows (drop 9 what_rows) word.now text.now }
+    ensures { result ≡ by_rows (drop 10 what_rows) word.now text.now }
 {
     if word == b"sent".as_slice() {
         let child = small_at(text)?;

@@ -98,6 +98,10 @@ fn push_what(alloc: Global, line: &mut Vec<u8>, what: WhatRef<'_>) -> Result<(),
         WhatRef::Note { task, chunk, count } => {
             push_three(alloc, line, b"note", task as u64, chunk, count)
         }
+        WhatRef::Again { task, answer } => {
+            push_one(alloc, line, b"again", task as u64)?;
+            push_answer(alloc, line, &answer)
+        }
     }
 }
 

@@ -36,6 +36,7 @@ init_opening words registers notes = record {
   notes = notes;
   identity = init_identity words;
   stamp = 0;
+  again = 0;
 }
 
 -- the opening is the words', over what the text of their kept file hands on

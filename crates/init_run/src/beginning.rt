@@ -44,6 +44,7 @@ fn init_opening(
         notes,
         identity: words.identity(alloc)?,
         stamp: 0,
+        again: 0,
     })
 }
 

@@ -11,12 +11,13 @@ use Rattle.annex_model.specs.Talks.{has_lead}
 use Rattle.annex_model.specs.Turns.{is_at}
 use Rattle.annex_model.specs.declared.turn.Turn.TheVariants.{Later}
 use Rattle.journal_model.specs.declared.entry.What.{What}
-use Rattle.journal_model.specs.declared.entry.What.TheVariants.{Claim, Lead, Ask, Got, Lost}
+use Rattle.journal_model.specs.declared.entry.What.TheVariants.{Claim, Lead, Ask, Got, Lost, Answer as Answered, Again}
+use Rattle.journal_model.specs.declared.answer.Answer.{Answer}
 use Rattle.journal_model.specs.declared.entry.Entry.{Entry}
 use Rattle.journal_model.specs.declared.opening.Opening.{Opening}
 use Rattle.journal_model.specs.Due.{made_by}
 use Rattle.journal_model.specs.Journal.{each_of, is_started, is_ended, is_mute, is_live, is_full, addressed, on_wire}
-use Rattle.journal_model.specs.Legality.{MayStand, asks_job, claimed_for, is_led, least_free, is_prepared, is_in_turn, is_text, may_ask, may_come, may_lead, is_number, asks_in_turn, needs_lead, says_name}
+use Rattle.journal_model.specs.Legality.{MayStand, asks_job, claimed_for, is_led, least_free, is_prepared, is_in_turn, is_text, may_ask, may_come, may_lead, is_number, is_claimed_by, is_run_again, has_open_job, asks_in_turn, needs_lead, says_name}
 use Rattle.journal_model.proofs.Looks.{differ, entry, same_number, both}
 use Rattle.journal_model.proofs.Named.{same_addressed, same_ask}
 use Rattle.annex_model.proofs.Classes.{askable_test}
@@ -26,7 +27,7 @@ use Rattle.talk_serial.specs.declared.request.Request.{Request}
 use Rattle.talk_serial.specs.declared.request.Request.TheVariants.{TransferExport, CheckExport, RemoveExport, RenameExport}
 use Rattle.talk_serial.specs.Requests.{message_of, name_of, is_request}
 use Rattle.talk_serial.proofs.Reading.{unnamed}
-use Rattle.host_core.specs.declared.event.Event.TheVariants.{Claim as ClaimEvent, Ask as AskEvent, Got as GotEvent}
+use Rattle.host_core.specs.declared.event.Event.TheVariants.{Claim as ClaimEvent, Ask as AskEvent, Got as GotEvent, Answer as AnswerEvent}
 use Rattle.host_core.specs.declared.event.Reply.TheVariants.{Job}
 use Rattle.host_core.specs.Steps.{Step, step_of, group_of, append, asking, odd, gone, is_named_well, next_job, next_on_wire, may_request}
 use Rattle.journal_audit.specs.Replays.{AsksAfter, IsLedBy, MayBeNext, Pairs, Says, SaysName, Suits, name_in}
@@ -63,6 +64,24 @@ suits_claim o past by w task child is = subst (λ (v : What). Suits o past by v 
     go by h =
         let t = both (is_number task (least_free o past)) ((child == 0 && by == 0) || (is_prepared past child && is_live past child && not (is_mute past child))) h in
         claimed o past by task child (child == 0 && by == 0) refl (numbered task (least_free o past) t.0) t.1
+
+-- ---- a task that is answered, or to be run again
+
+pub suits_answer : (o : Opening) (past : List Entry) (by : ℕ) (w : What) (task : ℕ) (answer : Answer) → w ≡ Answered task answer → Suits o past by w (Some (AnswerEvent task answer))
+suits_answer o past by w task answer is = subst (λ (v : What). Suits o past by v (Some (AnswerEvent task answer))) (sym is) (λ h. go h)
+  where
+    go : may_come o past by (Answered task answer) ≡ true → (step_of o past by (AnswerEvent task answer)).group ≡ group_of o past by (Answered task answer)
+    go h =
+        let t = both (is_claimed_by past by task && not (has_open_job past task)) (not (is_run_again o past task answer)) h in
+        rw (t.0, is_not (is_run_again o past task answer) t.1) refl
+
+pub suits_again : (o : Opening) (past : List Entry) (by : ℕ) (w : What) (task : ℕ) (answer : Answer) → w ≡ Again task answer → Suits o past by w (Some (AnswerEvent task answer))
+suits_again o past by w task answer is = subst (λ (v : What). Suits o past by v (Some (AnswerEvent task answer))) (sym is) (λ h. go h)
+  where
+    go : may_come o past by (Again task answer) ≡ true → (step_of o past by (AnswerEvent task answer)).group ≡ group_of o past by (Again task answer)
+    go h =
+        let t = both (is_claimed_by past by task && not (has_open_job past task)) (is_run_again o past task answer) h in
+        rw (t.0, t.1) refl
 
 -- ---- a request
 

@@ -1,6 +1,6 @@
 // Whether two entries are equal.
 ghost use Rattle.std.specs.Prelude.{◌≡◌, ◌↔◌, IsTrue};
-ghost use Rattle.journal_model.specs.declared.entry.What.TheVariants.{Claim, Start, NoStart, Lead, Ask, Put, Sent, Mute, Got, End, Verdict as Settled, Lost, Answer as Answered, Note};
+ghost use Rattle.journal_model.specs.declared.entry.What.TheVariants.{Claim, Start, NoStart, Lead, Ask, Put, Sent, Mute, Got, End, Verdict as Settled, Lost, Answer as Answered, Note, Again};
 ghost use Rattle.journal_look.specs.Shown.{what_shown, entry_shown};
 
 use ann_digest::Digest;
@@ -188,6 +188,15 @@ fn is_note(what: WhatRef<'_>, t: u32, s: u64, n: u64) -> bool
     }
 }
 
+fn is_again(what: WhatRef<'_>, t: u32, a: Answer) -> bool
+    ensures { IsTrue result ↔ (what_shown what.entry ≡ Again t a) }
+{
+    match what {
+        WhatRef::Again { task, answer } => task == t && is_same_answer(&answer, &a),
+        _ => false,
+    }
+}
+
 fn is_what(what: WhatRef<'_>, other: WhatRef<'_>) -> bool
     ensures { IsTrue result ↔ (what_shown what.entry ≡ what_shown other.entry) }
 {
@@ -215,6 +224,7 @@ fn is_what(what: WhatRef<'_>, other: WhatRef<'_>) -> bool
         WhatRef::Lost { child, task } => is_lost(what, child, task),
         WhatRef::Answer { task, answer } => is_answer(what, task, answer),
         WhatRef::Note { task, chunk, count } => is_note(what, task, chunk, count),
+        WhatRef::Again { task, answer } => is_again(what, task, answer),
     }
 }
 

@@ -180,6 +180,10 @@ pub(super) fn event_of(
             task: task,
             answer: answer,
         })),
+        WhatRef::Again { task, answer } => Ok(Some(Event::Answer {
+            task: task,
+            answer: answer,
+        })),
         WhatRef::Note { task, chunk, count } => Ok(Some(Event::Note {
             task: task,
             chunk: chunk,

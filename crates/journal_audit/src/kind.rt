@@ -23,5 +23,6 @@ pub(super) fn kind_of(what: WhatRef<'_>) -> u8
         WhatRef::Answer { .. } => 12,
         WhatRef::Note { .. } => 13,
         WhatRef::Lead { .. } => 14,
+        WhatRef::Again { .. } => 15,
     }
 }

@@ -1,5 +1,5 @@
 // Makes the journal again, by a core of its own.
-ghost use Rattle.std.specs.Prelude.{ℕ, ◌≡◌, ◌↔◌, ◌<◌, ◌^◌, ◌++◌, List, [], Option, Some, None, Ok, true, false, length, slice_get, option_map, IfOk, IfSome, IsNone, OnOk, IsTrue};
+ghost use Rattle.std.specs.Prelude.{ℕ, ◌≡◌, ◌↔◌, ◌<◌, ◌≤◌, ◌^◌, ◌++◌, List, [], Option, Some, None, Ok, true, false, length, slice_get, option_map, IfOk, IfSome, IsNone, OnOk, IsTrue};
 ghost use Rattle.journal_model.specs.Beginnings.{MayBegin};
 ghost use Rattle.journal_model.specs.declared.entry.Entry.{Entry};
 ghost use Rattle.journal_model.specs.declared.entry.What.TheVariants.{Lead};
@@ -205,7 +205,8 @@ fn found_by(
 
 /// A core that has made nothing.
 fn fresh_core(alloc: Global, opening: &Opening) -> Result<Core, NoMemory>
-    requires { MayBegin opening.now }
+    requires begins { MayBegin opening.now }
+    requires again { opening.now.again ≤ 8 }
     ensures { IfOk result (λ core. (core.opening ≡ opening.now) × (core.journal ≡ [])) }
 {
     let opening = opening.copy(alloc)?;
@@ -215,7 +216,8 @@ fn fresh_core(alloc: Global, opening: &Opening) -> Result<Core, NoMemory>
 /// What is found of the journal of a run that began so. It does the run again: a core is told each entry, and has to append the
 /// same. It takes memory for a copy of the opening and of the journal.
 pub fn audit(alloc: Global, opening: &Opening, journal: &Journal) -> Result<Audit, NoMemory>
-    requires { MayBegin opening.now }
+    requires begins { MayBegin opening.now }
+    requires again { opening.now.again ≤ 8 }
     ensures audit { IfOk result (IsAudit opening.now journal.now.entries) }
 {
     let mut core = fresh_core(alloc, opening)?;

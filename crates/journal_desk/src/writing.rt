@@ -107,7 +107,7 @@ fn line_count(opening: &Opening, kept: Kept<'_>, journal: &Journal) -> Result<u6
     let notes = kept.notes.len() as u64;
     let listed = registers.checked_add(notes).ok_or(NoMemory)?;
     let given = tasks.checked_add(listed).ok_or(NoMemory)?;
-    let entries = journal.len().checked_add(7).ok_or(NoMemory)?;
+    let entries = journal.len().checked_add(8).ok_or(NoMemory)?;
     given.checked_add(entries).ok_or(NoMemory)
 }
 

@@ -1,5 +1,5 @@
 // Printing the text of a run, line by line.
-ghost use Rattle.std.specs.Prelude.{◌≡◌, ◌++◌, ◌∷◌, [], ◌<◌, IfOk, Some, length, map, slice_get};
+ghost use Rattle.std.specs.Prelude.{◌≡◌, ◌++◌, ◌∷◌, [], ◌<◌, IfOk, Some, decimal, length, map, slice_get};
 ghost use Rattle.reg_file.specs.RegLines.{line_of, lines_of};
 ghost use Rattle.chunk_log.specs.NoteBooks.{IsNote};
 ghost use Rattle.keep_text.specs.KeptFiles.{written_note};
@@ -55,31 +55,36 @@ pub fn print_kept(
     requires notes { map (λ note. note.now) kept.notes.now ≡ opening.now.notes }
     ensures { IfOk result (λ line. line ≡ slice_get (journal_lines opening.now journal.now.entries) n) }
 {
-    if n < 5 {
+    if n < 6 {
         let line = first_line(alloc, opening, n)?;
         Ok(Some(line))
     } else {
-        behind_stamp(alloc, opening, kept, journal, n - 5)
+        after_first(alloc, opening, kept, journal, n - 6)
     }
 }
 
-// One of the first five lines.
+// One of the first six lines.
 fn first_line(alloc: Global, opening: &Opening, n: u64) -> Result<Bytes, NoMemory>
-    requires { n < 5 }
+    requires { n < 6 }
     ensures { IfOk result (λ line. Some line ≡ slice_get (first_lines (told opening.now [])) n) }
 {
-    let stamp = opening.stamp;
     let identity = &opening.identity;
     match n {
-        0 => Bytes::copy(alloc, b"annex-journal 1"),
+        0 => Bytes::copy(alloc, b"annex-journal 2"),
         1 => worded(alloc, b"uuid", identity.uuid.view().as_bytes()),
         2 => worded(alloc, b"name", identity.name.view().as_bytes()),
         3 => worded(alloc, b"gitdir", identity.gitdir.view().as_bytes()),
-        _ => {
-            let digits = format!(in alloc; "{stamp}")?;
-            worded(alloc, b"stamp", digits.as_bytes())
-        }
+        4 => numbered(alloc, b"stamp", opening.stamp),
+        _ => numbered(alloc, b"again", opening.again as u64),
     }
+}
+
+// A word, a space, and a number.
+fn numbered(alloc: Global, word: &[u8], n: u64) -> Result<Bytes, NoMemory>
+    ensures { IfOk result (λ line. line ≡ worded word.now (decimal n)) }
+{
+    let digits = format!(in alloc; "{n}")?;
+    worded(alloc, word, digits.as_bytes())
 }
 
 // A word, a space, and a text.
@@ -92,7 +97,7 @@ fn worded(alloc: Global, word: &[u8], text: &[u8]) -> Result<Bytes, NoMemory>
     Ok(Bytes::from_vec(line))
 }
 
-fn behind_stamp(
+fn after_first(
     alloc: Global,
     opening: &Opening,
     kept: Kept<'_>,
@@ -188,8 +193,7 @@ fn behind_begin(alloc: Global, journal: &Journal, n: u64) -> Result<Option<Bytes
             if n > count {
                 return Ok(None);
             }
-            let digits = format!(in alloc; "{count}")?;
-            let line = worded(alloc, b"end", digits.as_bytes())?;
+            let line = numbered(alloc, b"end", count)?;
             Ok(Some(line))
         }
     }

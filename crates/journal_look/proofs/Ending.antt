@@ -6,7 +6,7 @@ use Rattle.std.proofs.Math.Seq.{take-length}
 use Rattle.std.proofs.lemmas.Bool.Decides.{nat_tests}
 use Rattle.std.proofs.lemmas.List.Elements.{All-head, All-tail}
 use Rattle.journal_model.specs.declared.entry.What.{What}
-use Rattle.journal_model.specs.declared.entry.What.TheVariants.{Claim, Start, NoStart, Lead, Ask, Put, Sent, Mute, Got, End, Verdict as Settled, Lost, Answer as Answered, Note as Noted}
+use Rattle.journal_model.specs.declared.entry.What.TheVariants.{Claim, Start, NoStart, Lead, Ask, Put, Sent, Mute, Got, End, Verdict as Settled, Lost, Answer as Answered, Note as Noted, Again}
 use Rattle.journal_model.specs.declared.entry.Entry.{Entry}
 use Rattle.journal_model.specs.Journal.{asks, asked_jobs, is_open, is_settled}
 use Rattle.journal_model.proofs.Looks.{same, same_number, both}
@@ -38,6 +38,7 @@ asks_hosts c j (Settled child job v) h = absurd cc
 asks_hosts c j (Lost child task) h = absurd cc
 asks_hosts c j (Answered task answer) h = absurd cc
 asks_hosts c j (Noted task chunk count) h = absurd cc
+asks_hosts c j (Again task answer) h = absurd cc
 
 or_right : (a b : Bool) → b ≡ true → (a || b) ≡ true
 or_right true b h = refl

@@ -1,9 +1,9 @@
 // The journal of a run: what it keeps, which journals are legal, and what they mean.
 #![tactic(auto)]
 
+pub mod again_laws;
 mod answer;
 mod entry;
-pub mod again_laws;
 pub mod half_laws;
 mod holder;
 pub mod laws;

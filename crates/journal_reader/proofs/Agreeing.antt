@@ -1,17 +1,17 @@
 -- Lines lead to one reading at most.
-use Rattle.std.proofs.Common.{◌≡◌, ℕ, ◌<◌, ◌^◌, inl, inr, List, [], ◌∷◌, ◌++◌, Some, None, length, refl, sym, ap, subst, ◌∙◌}
-use Rattle.std.specs.Prelude.{codes}
+use Rattle.std.proofs.Common.{◌≡◌, ℕ, ◌<◌, ◌≤◌, ◌^◌, Bool, true, false, inl, inr, get_or, arith, List, [], ◌∷◌, ◌++◌, Some, None, length, refl, sym, ap, subst, ◌∙◌}
+use Rattle.std.specs.Prelude.{codes, decimal}
 use Rattle.task_text.specs.TaskLines.{line_of, IsTask}
 use Rattle.task_text.specs.declared.task.Task.{Task}
 use Rattle.task_text.proofs.Spelled.{at_most_one}
 use Rattle.journal_model.specs.declared.entry.Entry.{Entry}
 use Rattle.entry_lines.specs.Entries.{entry_line, entry_at, IsEntry}
 use Rattle.entry_lines.proofs.EntryBack.{entry_back}
-use Rattle.journal_lines.specs.JournalTexts.{Told, stamp_line, task_line, end_line}
-use Rattle.journal_reader.specs.Readings.{Reading, Goes, Follows}
+use Rattle.journal_lines.specs.JournalTexts.{Told, worded, head, task_line, end_line}
+use Rattle.journal_reader.specs.Readings.{Reading, Goes, Follows, after_stamp}
 use Rattle.journal_reader.specs.Runs.{Reads}
 use Rattle.journal_reader.specs.declared.place.Place.{Place}
-use Rattle.journal_reader.specs.declared.place.Place.TheVariants.{Head, Uuid, Name, Gitdir, Stamp, Given, Entries, Over, Refused}
+use Rattle.journal_reader.specs.declared.place.Place.TheVariants.{Head, Uuid, Name, Gitdir, Stamp, Again, Given, Entries, Over, Refused}
 use Rattle.journal_reader.proofs.Going.{task_begin, keep_begin, task_keep}
 use Rattle.journal_reader.proofs.LineFields.{worded_same, number_read}
 use Rattle.chunk_log.specs.ChunkLines.{number_in}
@@ -25,10 +25,19 @@ third a b c e k = e ∙ sym k
 
 -- ---- the fields of a line
 
-same_stamp : (m n : ℕ) → m < 2 ^ 64 → n < 2 ^ 64 → stamp_line m ≡ stamp_line n → m ≡ n
-same_stamp m n small less e =
-    let both : Some m ≡ Some n = sym (number_read m small) ∙ ap number_in (worded_same (codes "stamp") _ _ e) ∙ number_read n less in
+same_head : (a b : Bool) → head a ≡ head b → a ≡ b
+same_head false false e = refl
+same_head true true e = refl
+same_head false true e = let last : 50 ≡ 49 = ap (λ (l : List ℕ). get_or l 14 0) e in absurd (omega (arith, last))
+same_head true false e = let last : 49 ≡ 50 = ap (λ (l : List ℕ). get_or l 14 0) e in absurd (omega (arith, last))
+
+same_number : (word : List ℕ) (m n : ℕ) → m < 2 ^ 64 → n < 2 ^ 64 → worded word (decimal m) ≡ worded word (decimal n) → m ≡ n
+same_number word m n small less e =
+    let both : Some m ≡ Some n = sym (number_read m small) ∙ ap number_in (worded_same word _ _ e) ∙ number_read n less in
     cc
+
+few_small : (n : ℕ) → n ≤ 8 → n < 2 ^ 64
+few_small n h = omega (arith, h)
 
 same_task : (a b : Task) → IsTask a → IsTask b → task_line a ≡ task_line b → a ≡ b
 same_task a b p q e =
@@ -47,6 +56,11 @@ no_end_entry n e is same = let both : None ≡ Some e = sym (end_at n) ∙ ap en
 -- ---- where one line leads
 
 module _ (t : Told) (line : List ℕ) (p q : Place) (u v : Told) where
+  head_same : Goes Head t line p u → Goes Head t line q v → Same p q u v
+  head_same g h =
+      let same : u.early ≡ v.early = same_head u.early v.early (sym g.0 ∙ h.0) in
+      (third p q Uuid g.1 h.1, g.2 ∙ ap (λ (x : Bool). record t { early = x }) same ∙ sym h.2)
+
   uuid_same : Goes Uuid t line p u → Goes Uuid t line q v → Same p q u v
   uuid_same g h =
       let same : u.uuid ≡ v.uuid = worded_same (codes "uuid") u.uuid v.uuid (sym g.0 ∙ h.0) in
@@ -64,8 +78,13 @@ module _ (t : Told) (line : List ℕ) (p q : Place) (u v : Told) where
 
   stamp_same : Goes Stamp t line p u → Goes Stamp t line q v → Same p q u v
   stamp_same g h =
-      let same : u.stamp ≡ v.stamp = same_stamp u.stamp v.stamp g.1 h.1 (sym g.0 ∙ h.0) in
-      (third p q Given g.2 h.2, g.3 ∙ ap (λ (x : ℕ). record t { stamp = x }) same ∙ sym h.3)
+      let same : u.stamp ≡ v.stamp = same_number (codes "stamp") u.stamp v.stamp g.1 h.1 (sym g.0 ∙ h.0) in
+      (third p q (after_stamp t.early) g.2 h.2, g.3 ∙ ap (λ (x : ℕ). record t { stamp = x }) same ∙ sym h.3)
+
+  again_same : Goes Again t line p u → Goes Again t line q v → Same p q u v
+  again_same g h =
+      let same : u.again ≡ v.again = same_number (codes "again") u.again v.again (few_small u.again g.1) (few_small v.again h.1) (sym g.0 ∙ h.0) in
+      (third p q Given g.2 h.2, g.3 ∙ ap (λ (x : ℕ). record t { again = x }) same ∙ sym h.3)
 
   given_same : Goes Given t line p u → Goes Given t line q v → Same p q u v
   given_same (inl (inl g)) (inl (inl h)) = (third p q Entries g.1 h.1, third u v t g.2 h.2)
@@ -91,11 +110,12 @@ module _ (t : Told) (line : List ℕ) (p q : Place) (u v : Told) where
       (third p q Entries g.0 h.0, g.1.told ∙ ap (λ (x : Entry). record t { entries = t.entries ++ x ∷ [] }) same ∙ sym h.1.told)
 
 one_way : (at : Place) (t : Told) (line : List ℕ) (p q : Place) (u v : Told) → Goes at t line p u → Goes at t line q v → Same p q u v
-one_way Head t line p q u v g h = (third p q Uuid g.1 h.1, third u v t g.2 h.2)
+one_way Head t line p q u v g h = head_same t line p q u v g h
 one_way Uuid t line p q u v g h = uuid_same t line p q u v g h
 one_way Name t line p q u v g h = name_same t line p q u v g h
 one_way Gitdir t line p q u v g h = gitdir_same t line p q u v g h
 one_way Stamp t line p q u v g h = stamp_same t line p q u v g h
+one_way Again t line p q u v g h = again_same t line p q u v g h
 one_way Given t line p q u v g h = given_same t line p q u v g h
 one_way Entries t line p q u v g h = entries_same t line p q u v g h
 one_way Over t line p q u v g h = absurd g

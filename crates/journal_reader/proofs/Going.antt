@@ -7,10 +7,10 @@ use Rattle.task_text.specs.declared.task.Task.{Task}
 use Rattle.journal_model.specs.declared.entry.Entry.{Entry}
 use Rattle.entry_lines.specs.Entries.{entry_line, IsEntry}
 use Rattle.journal_lines.specs.JournalTexts.{Told, worded, begin, end_line}
-use Rattle.journal_reader.specs.RunTexts.{may_be_kept}
+use Rattle.journal_reader.specs.RunTexts.{may_be_kept, may_stand}
 use Rattle.journal_reader.specs.Readings.{Reading, Goes, CannotGo, Took, RefusedAs, is_open}
 use Rattle.journal_reader.specs.declared.place.Place.{Place}
-use Rattle.journal_reader.specs.declared.place.Place.TheVariants.{Head, Uuid, Name, Gitdir, Stamp, Given, Entries, Over, Refused}
+use Rattle.journal_reader.specs.declared.place.Place.TheVariants.{Head, Uuid, Name, Gitdir, Stamp, Again, Given, Entries, Over, Refused}
 use Rattle.journal_reader.proofs.LineFields.{worded_same}
 
 -- ---- at the place where a reader stands
@@ -33,6 +33,7 @@ refused_as Uuid old line bad new o h k e = (h, k, e)
 refused_as Name old line bad new o h k e = (h, k, e)
 refused_as Gitdir old line bad new o h k e = (h, k, e)
 refused_as Stamp old line bad new o h k e = (h, k, e)
+refused_as Again old line bad new o h k e = (h, k, e)
 refused_as Given old line bad new o h k e = (h, k, e)
 refused_as Entries old line bad new o h k e = (h, k, e)
 refused_as Over old line bad new o h k e = (h, k, e)
@@ -70,6 +71,6 @@ module _ (t : Told) (line : List ℕ) where
   no_kept text is h place new (inr g) =
       true≢false (sym g.1.class ∙ ap (may_be_kept t.kept) (sym (worded_same (codes "keep") text g.1.text (sym is ∙ g.1.spelled))) ∙ h)
 
-  pub no_entry : (line ≡ end_line (length t.entries) → ⊥) → ((entry : Entry) → IsEntry entry → line ≡ entry_line entry → ⊥) → CannotGo Entries t line
+  pub no_entry : (line ≡ end_line (length t.entries) → ⊥) → ((entry : Entry) → IsEntry entry → may_stand t.early entry.what ≡ true → line ≡ entry_line entry → ⊥) → CannotGo Entries t line
   no_entry e h place new (inl g) = e g.0
-  no_entry e h place new (inr g) = h g.1.entry g.1.class g.1.spelled
+  no_entry e h place new (inr g) = h g.1.entry g.1.class g.1.stands g.1.spelled

@@ -8,5 +8,6 @@ mod KeptWritten
 mod LineFields
 mod OneText
 mod ReadBack
+mod RunLines
 mod SameNotes
 pub mod Sound

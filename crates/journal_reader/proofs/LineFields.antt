@@ -1,11 +1,11 @@
 -- What stands after the word of a line.
-use Rattle.std.proofs.Common.{◌≡◌, ℕ, ◌<◌, ◌^◌, Bool, true, false, List, [], ◌∷◌, ◌++◌, Option, Some, None, Result, Ok, Err, IfOk, refl, sym, ap, ◌∙◌}
+use Rattle.std.proofs.Common.{◌≡◌, ℕ, ◌<◌, ◌≤◌, ◌^◌, Bool, true, false, List, [], ◌∷◌, ◌++◌, Option, Some, None, Result, Ok, Err, IfOk, refl, sym, ap, ◌∙◌, arith}
 use mathlib.Core.Bool.{true≢false}
 use Rattle.std.specs.Prelude.{MatchOption, IsTrue, codes, decimal, bytes_eq}
 use Rattle.reg_file.proofs.Tables.{itself}
 use Rattle.chunk_log.specs.ChunkLines.{number_in}
 use Rattle.chunk_log.proofs.StampBack.{decimal_reads, Decimal}
-use Rattle.journal_lines.specs.JournalTexts.{worded, stamp_line}
+use Rattle.journal_lines.specs.JournalTexts.{worded, stamp_line, again_line}
 
 abbrev behind_one : List ℕ → List ℕ
 behind_one [] = []
@@ -40,6 +40,13 @@ numbered line text is (Err e) h = tt
 numbered line text is (Ok None) h = λ n small e. h n small (worded_same (codes "stamp") text (decimal n) (sym is ∙ e))
 numbered line text is (Ok (Some n)) h = is ∙ ap (worded (codes "stamp")) h
 
+pub few_numbered : {E : Type 0} (line text : List ℕ) → line ≡ worded (codes "again") text → (r : Result (Option ℕ) E)
+    → IfOk r (λ found. MatchOption found ((n : ℕ) → n ≤ 8 → text ≡ decimal n → ⊥) (λ n. (text ≡ decimal n) × (n ≤ 8)))
+    → IfOk r (λ found. MatchOption found ((n : ℕ) → n ≤ 8 → line ≡ again_line n → ⊥) (λ n. (line ≡ again_line n) × (n ≤ 8)))
+few_numbered line text is (Err e) h = tt
+few_numbered line text is (Ok None) h = λ n few e. h n few (worded_same (codes "again") text (decimal n) (sym is ∙ e))
+few_numbered line text is (Ok (Some n)) h = (is ∙ ap (worded (codes "again")) h.0, h.1)
+
 pub number_read : (n : ℕ) → n < 2 ^ 64 → number_in (decimal n) ≡ Some n
 number_read n h = let d : Decimal n = decimal_reads n h in rw (d.number, d.value) refl
 
@@ -52,3 +59,15 @@ other_number m text read other n small is =
 
 pub no_number : (text : List ℕ) → ((n : ℕ) → number_in text ≡ Some n → ⊥) → (n : ℕ) → n < 2 ^ 64 → text ≡ decimal n → ⊥
 no_number text none n small is = none n (ap number_in is ∙ number_read n small)
+
+-- a number that is too large is another one
+pub not_few : (text : List ℕ) (found : Option ℕ) (m : ℕ) → MatchOption found ((n : ℕ) → n < 2 ^ 64 → text ≡ decimal n → ⊥) (λ n. text ≡ decimal n) → found ≡ Some m → m < 2 ^ 64 → 8 < m
+    → (n : ℕ) → n ≤ 8 → text ≡ decimal n → ⊥
+not_few text None m h e small many n few is = absurd cc
+not_few text (Some k) m h e small many n few is =
+    let found : k ≡ m = cc in
+    let less : n < 2 ^ 64 = omega (arith, few) in
+    let both : Some m ≡ Some n = sym (number_read m small) ∙ ap number_in (ap decimal (sym found) ∙ sym h ∙ is) ∙ number_read n less in
+    let same : m ≡ n = cc in
+    let no : ⊥ = omega (arith, many, few, same) in
+    no

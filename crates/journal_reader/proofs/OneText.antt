@@ -46,18 +46,20 @@ told_is_given o journal is =
       name = refl;
       gitdir = refl;
       stamp = refl;
+      again = refl;
       tasks = refl;
       registers = sym (ap (set_by_lines nothing_set) (said.set ∙ append-nil (lines_of o.registers)) ∙ lines_again o.registers is.registers);
       notes = subst (λ (ns : List Note). CountsAs (map cut_note o.notes) ns) (sym said.noted) (λ key uuid chunk. refl);
     }
 
-same_opening : (a b : Opening) → a.tasks ≡ b.tasks → a.registers ≡ b.registers → a.notes ≡ b.notes → a.identity ≡ b.identity → a.stamp ≡ b.stamp → a ≡ b
-same_opening a b t r n i s =
-    ap (λ (x : List Task). record { tasks = x; registers = a.registers; notes = a.notes; identity = a.identity; stamp = a.stamp }) t
-    ∙ ap (λ (x : RegisterFile). record { tasks = b.tasks; registers = x; notes = a.notes; identity = a.identity; stamp = a.stamp }) r
-    ∙ ap (λ (x : List Note). record { tasks = b.tasks; registers = b.registers; notes = x; identity = a.identity; stamp = a.stamp }) n
-    ∙ ap (λ (x : Identity). record { tasks = b.tasks; registers = b.registers; notes = b.notes; identity = x; stamp = a.stamp }) i
-    ∙ ap (λ (x : ℕ). record { tasks = b.tasks; registers = b.registers; notes = b.notes; identity = b.identity; stamp = x }) s
+same_opening : (a b : Opening) → a.tasks ≡ b.tasks → a.registers ≡ b.registers → a.notes ≡ b.notes → a.identity ≡ b.identity → a.stamp ≡ b.stamp → a.again ≡ b.again → a ≡ b
+same_opening a b t r n i s g =
+    ap (λ (x : List Task). record a { tasks = x }) t
+    ∙ ap (λ (x : RegisterFile). record a { tasks = b.tasks; registers = x }) r
+    ∙ ap (λ (x : List Note). record a { tasks = b.tasks; registers = b.registers; notes = x }) n
+    ∙ ap (λ (x : Identity). record b { identity = x; stamp = a.stamp; again = a.again }) i
+    ∙ ap (λ (x : ℕ). record b { stamp = x; again = a.again }) s
+    ∙ ap (λ (x : ℕ). record b { again = x }) g
 
 abbrev Entries : List Entry → Type 0
 Entries journal = (n : ℕ) (entry : Entry) → slice_get journal n ≡ Some entry → IsEntry entry
@@ -67,6 +69,6 @@ pub one_run : (o p : Opening) (journal entries : List Entry) → IsTellable o �
 one_run o p journal entries is other given more same =
     let one : told o journal ≡ told p entries = one_told (told o journal) (told p entries) (written_is_told o journal is given) (written_is_told p entries other more) same in
     let read = written_is_read o (as_told p) journal is (cut_order p.notes ∙ other.order) (subst (IsOpeningOf (as_told p)) (sym one) (told_is_given p entries other)) in (
-      sym (same_opening (as_told p) (as_told o) read.tasks read.registers read.notes read.identity read.stamp),
+      sym (same_opening (as_told p) (as_told o) read.tasks read.registers read.notes read.identity read.stamp read.again),
       ap (λ (t : Told). t.entries) one,
     )

@@ -1,5 +1,5 @@
 -- What is written of an opening and a journal is a text of a run, and is read back.
-use Rattle.std.proofs.Common.{◌≡◌, ℕ, List, [], ◌++◌, map, Some, ap, subst, ◌∙◌}
+use Rattle.std.proofs.Common.{◌≡◌, ℕ, List, [], ◌++◌, map, Some, refl, ap, subst, ◌∙◌}
 use Rattle.std.specs.Prelude.{IsTrue}
 use Rattle.std.specs.List.{slice_get}
 use Rattle.std.proofs.lemmas.List.{append-nil}
@@ -28,10 +28,12 @@ written_is_told o journal is entries = record {
   name = is.name;
   gitdir = is.gitdir;
   stamp = is.stamp;
+  again = is.again;
   few = is.few;
   tasks = is.tasks;
   kept = kept_in_order o.registers is.registers o.notes is.notes is.order;
   entries = entries;
+  stand = λ n entry e. refl;
 }
 
 same_identity : (i j : Identity) → i.uuid ≡ j.uuid → i.name ≡ j.name → i.gitdir ≡ j.gitdir → i ≡ j
@@ -53,4 +55,5 @@ written_is_read o p journal is order read =
       notes = same_notes p.notes (map cut_note o.notes) order (cut_order o.notes ∙ is.order) (subst P said.noted read.notes);
       identity = same_identity p.identity o.identity read.uuid read.name read.gitdir;
       stamp = read.stamp;
+      again = read.again;
     }

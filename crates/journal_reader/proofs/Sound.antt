@@ -1,19 +1,19 @@
 -- What was taken line by line is told, and may be.
-use Rattle.std.proofs.Common.{◌≡◌, ℕ, zero, suc, ◌+◌, ◌<◌, inl, inr, List, [], ◌∷◌, ◌++◌, map, length, Some, refl, sym, ap, subst, ◌∙◌, arith, append_assoc, length-append}
-use Rattle.std.specs.Prelude.{codes}
+use Rattle.std.proofs.Common.{◌≡◌, ℕ, zero, suc, ◌+◌, ◌<◌, Bool, true, false, inl, inr, List, [], ◌∷◌, ◌++◌, map, length, Some, refl, sym, ap, subst, ◌∙◌, arith, append_assoc, length-append}
+use Rattle.std.specs.Prelude.{codes, IsTrue}
 use Rattle.std.specs.List.{slice_get}
 use Rattle.std.proofs.lemmas.List.{append-nil}
 use Rattle.task_text.specs.TaskLines.{IsTask}
 use Rattle.task_text.specs.declared.task.Task.{Task}
 use Rattle.journal_model.specs.declared.entry.Entry.{Entry}
 use Rattle.entry_lines.specs.Entries.{entry_line, IsEntry}
-use Rattle.journal_lines.specs.JournalTexts.{Told, worded, head, begin, task_line, keep_line, end_line, first_lines, told_lines}
+use Rattle.journal_lines.specs.JournalTexts.{Told, worded, head, begin, stamp_line, task_line, keep_line, end_line, first_lines, told_lines}
 use Rattle.journal_lines.proofs.Sections.{map-append}
-use Rattle.journal_reader.specs.RunTexts.{is_uuid, is_text, IsTold, NoneKept, OneMore}
-use Rattle.journal_reader.specs.Readings.{Reading, Goes, start, nothing_told, TakesTask, TakesKept}
+use Rattle.journal_reader.specs.RunTexts.{is_uuid, is_text, may_stand, IsTold, NoneKept, OneMore}
+use Rattle.journal_reader.specs.Readings.{Reading, Goes, start, nothing_told, after_stamp, TakesTask, TakesKept}
 use Rattle.journal_reader.specs.Runs.{Reads, lines_told, IsSoFar}
 use Rattle.journal_reader.specs.declared.place.Place.{Place}
-use Rattle.journal_reader.specs.declared.place.Place.TheVariants.{Head, Uuid, Name, Gitdir, Stamp, Given, Entries, Over, Refused}
+use Rattle.journal_reader.specs.declared.place.Place.TheVariants.{Head, Uuid, Name, Gitdir, Stamp, Again, Given, Entries, Over, Refused}
 
 -- ---- one more after some
 module _ {X : Type 0} (P : X → Type 0) where
@@ -56,62 +56,88 @@ to before line place at told new e k s =
 
 module _ (t : Told) (line : List ℕ) (place : Place) (new : Told) where
   head_step : t ≡ nothing_told → Goes Head t line place new → Step (lines_told Head t) line place new
-  head_step s g = to [] line place Uuid new t g.1 g.2 (record { so_far = s; lines = ap (λ (l : List ℕ). l ∷ []) (sym g.0) })
+  head_step s g =
+      to [] line place Uuid new (record t { early = new.early }) g.1 g.2
+      (record { so_far = ap (λ (u : Told). record u { early = new.early }) s; lines = ap (λ (l : List ℕ). l ∷ []) (sym g.0) })
 
-  uuid_step : t ≡ nothing_told → Goes Uuid t line place new → Step (lines_told Uuid t) line place new
+  uuid_step : IsSoFar Uuid t → Goes Uuid t line place new → Step (lines_told Uuid t) line place new
   uuid_step s g =
-      to (lines_told Uuid t) line place Name new new g.2 refl
-      (record { so_far = (g.1, g.3 ∙ ap (λ (u : Told). record u { uuid = new.uuid }) s); lines = ap (λ (l : List ℕ). head ∷ l ∷ []) (sym g.0) })
+      to (lines_told Uuid t) line place Name new (record t { uuid = new.uuid }) g.2 g.3
+      (record { so_far = (g.1, ap (λ (u : Told). record u { uuid = new.uuid }) s); lines = ap (λ (l : List ℕ). head t.early ∷ l ∷ []) (sym g.0) })
 
   name_step : IsSoFar Name t → Goes Name t line place new → Step (lines_told Name t) line place new
   name_step s g =
-      let same : new.uuid ≡ t.uuid = ap (λ (u : Told). u.uuid) g.3 in
-      to (lines_told Name t) line place Gitdir new new g.2 refl (record {
-        so_far = (ap is_uuid same ∙ s.0, g.1, g.3 ∙ ap (λ (u : Told). record u { name = new.name }) s.1 ∙ ap (λ (u : List ℕ). record nothing_told { uuid = u; name = new.name }) (sym same));
-        lines = ap (λ (l : List ℕ). head ∷ worded (codes "uuid") new.uuid ∷ l ∷ []) (sym g.0) ∙ ap (λ (u : List ℕ). head ∷ worded (codes "uuid") u ∷ line ∷ []) same;
+      to (lines_told Name t) line place Gitdir new (record t { name = new.name }) g.2 g.3 (record {
+        so_far = (s.0, g.1, ap (λ (u : Told). record u { name = new.name }) s.1);
+        lines = ap (λ (l : List ℕ). head t.early ∷ worded (codes "uuid") t.uuid ∷ l ∷ []) (sym g.0);
       })
 
   gitdir_step : IsSoFar Gitdir t → Goes Gitdir t line place new → Step (lines_told Gitdir t) line place new
   gitdir_step s g =
-      let same : new.uuid ≡ t.uuid = ap (λ (u : Told). u.uuid) g.3 in
-      let named : new.name ≡ t.name = ap (λ (u : Told). u.name) g.3 in
-      to (lines_told Gitdir t) line place Stamp new new g.2 refl (record {
-        so_far = (
-          ap is_uuid same ∙ s.0,
-          ap is_text named ∙ s.1,
-          g.1,
-          g.3
-              ∙ ap (λ (u : Told). record u { gitdir = new.gitdir }) s.2
-              ∙ ap (λ (u : List ℕ). record nothing_told { uuid = u; name = t.name; gitdir = new.gitdir }) (sym same)
-              ∙ ap (λ (u : List ℕ). record nothing_told { uuid = new.uuid; name = u; gitdir = new.gitdir }) (sym named),
-        );
-        lines =
-            ap (λ (l : List ℕ). head ∷ worded (codes "uuid") new.uuid ∷ worded (codes "name") new.name ∷ l ∷ []) (sym g.0)
-            ∙ ap (λ (u : List ℕ). head ∷ worded (codes "uuid") u ∷ worded (codes "name") new.name ∷ line ∷ []) same
-            ∙ ap (λ (u : List ℕ). head ∷ worded (codes "uuid") t.uuid ∷ worded (codes "name") u ∷ line ∷ []) named;
+      to (lines_told Gitdir t) line place Stamp new (record t { gitdir = new.gitdir }) g.2 g.3 (record {
+        so_far = (s.0, s.1, g.1, ap (λ (u : Told). record u { gitdir = new.gitdir }) s.2);
+        lines = ap (λ (l : List ℕ). head t.early ∷ worded (codes "uuid") t.uuid ∷ worded (codes "name") t.name ∷ l ∷ []) (sym g.0);
       })
 
-  abbrev stamped : ℕ → Told
-  stamped n = record nothing_told { uuid = t.uuid; name = t.name; gitdir = t.gitdir; stamp = n }
+  abbrev up_to_gitdir : Bool → List (List ℕ)
+  up_to_gitdir early = head early ∷ worded (codes "uuid") t.uuid ∷ worded (codes "name") t.name ∷ worded (codes "gitdir") t.gitdir ∷ []
+
+  abbrev stamped : Bool → ℕ → Told
+  stamped early n = record nothing_told { early = early; uuid = t.uuid; name = t.name; gitdir = t.gitdir; stamp = n }
+
+  stamped_step : IsSoFar Stamp t → Goes Stamp t line place new → (early : Bool) → Step (up_to_gitdir early) line (after_stamp early) (stamped early new.stamp)
+  stamped_step s g false =
+      record { so_far = (s.0, s.1, s.2, g.1, refl); lines = ap (λ (l : List ℕ). up_to_gitdir false ++ l ∷ []) (sym g.0) }
+  stamped_step s g true = record {
+    so_far = (
+      record {
+        uuid = s.0;
+        name = s.1;
+        gitdir = s.2;
+        stamp = g.1;
+        again = refl;
+        few = omega arith;
+        tasks = λ n task e. absurd cc;
+        kept = NoneKept;
+        entries = λ n entry e. absurd cc;
+        stand = λ n entry e. absurd cc;
+      },
+      refl,
+    );
+    lines = ap (λ (l : List ℕ). up_to_gitdir true ++ l ∷ []) (sym g.0);
+  }
 
   stamp_step : IsSoFar Stamp t → Goes Stamp t line place new → Step (lines_told Stamp t) line place new
   stamp_step s g =
-      let is : new ≡ stamped new.stamp = g.3 ∙ ap (λ (u : Told). record u { stamp = new.stamp }) s.3 in
-      to (lines_told Stamp t) line place Given new (stamped new.stamp) g.2 is (record {
+      let is : new ≡ stamped t.early new.stamp = g.3 ∙ ap (λ (u : Told). record u { stamp = new.stamp }) s.3 in
+      to (lines_told Stamp t) line place (after_stamp t.early) new (stamped t.early new.stamp) g.2 is (stamped_step s g t.early)
+
+  abbrev run_again : ℕ → Told
+  run_again n = record (stamped false t.stamp) { again = n }
+
+  again_step : IsSoFar Again t → Goes Again t line place new → Step (lines_told Again t) line place new
+  again_step s g =
+      let is : new ≡ run_again new.again = g.3 ∙ ap (λ (u : Told). record u { again = new.again }) s.4 in
+      let now : t.early ≡ false = ap (λ (u : Told). u.early) s.4 in
+      to (lines_told Again t) line place Given new (run_again new.again) g.2 is (record {
         so_far = (
           record {
             uuid = s.0;
             name = s.1;
             gitdir = s.2;
-            stamp = g.1;
+            stamp = s.3;
+            again = g.1;
             few = omega arith;
             tasks = λ n task e. absurd cc;
             kept = NoneKept;
             entries = λ n entry e. absurd cc;
+            stand = λ n entry e. absurd cc;
           },
           refl,
         );
-        lines = ap (λ (l : List ℕ). head ∷ worded (codes "uuid") t.uuid ∷ worded (codes "name") t.name ∷ worded (codes "gitdir") t.gitdir ∷ l ∷ []) (sym g.0);
+        lines =
+            ap (λ (l : List ℕ). up_to_gitdir false ++ stamp_line t.stamp ∷ l ∷ []) (sym g.0)
+            ∙ ap (λ (b : Bool). up_to_gitdir b ++ stamp_line t.stamp ∷ line ∷ []) (sym now);
       })
 
   abbrev tasked : Task → Told
@@ -128,10 +154,12 @@ module _ (t : Told) (line : List ℕ) (place : Place) (new : Told) where
             name = s.name;
             gitdir = s.gitdir;
             stamp = s.stamp;
+            again = s.again;
             few = omega arith;
             tasks = each_more IsTask t.tasks g.task s.tasks g.class;
             kept = s.kept;
             entries = s.entries;
+            stand = s.stand;
           },
           none,
         );
@@ -153,10 +181,12 @@ module _ (t : Told) (line : List ℕ) (place : Place) (new : Told) where
             name = s.name;
             gitdir = s.gitdir;
             stamp = s.stamp;
+            again = s.again;
             few = s.few;
             tasks = s.tasks;
             kept = OneMore t.kept g.text s.kept g.class;
             entries = s.entries;
+            stand = s.stand;
           },
           none,
         );
@@ -196,10 +226,12 @@ module _ (t : Told) (line : List ℕ) (place : Place) (new : Told) where
           name = s.name;
           gitdir = s.gitdir;
           stamp = s.stamp;
+          again = s.again;
           few = s.few;
           tasks = s.tasks;
           kept = s.kept;
           entries = each_more IsEntry t.entries g.1.entry s.entries g.1.class;
+          stand = each_more (λ (e : Entry). IsTrue (may_stand t.early e.what)) t.entries g.1.entry s.stand g.1.stands;
         };
         lines =
             ap (λ (l : List (List ℕ)). first_lines t ++ (map task_line t.tasks ++ (map keep_line t.kept ++ begin ∷ l))) (map-append entry_line t.entries (g.1.entry ∷ []))
@@ -213,6 +245,7 @@ step Uuid t line place new s g = uuid_step t line place new s g
 step Name t line place new s g = name_step t line place new s g
 step Gitdir t line place new s g = gitdir_step t line place new s g
 step Stamp t line place new s g = stamp_step t line place new s g
+step Again t line place new s g = again_step t line place new s g
 step Given t line place new s g = given_step t line place new s g
 step Entries t line place new s g = entry_step t line place new s g
 step Over t line place new s g = absurd g

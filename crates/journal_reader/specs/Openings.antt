@@ -14,6 +14,7 @@ pub record IsTellable (o : Opening) : Type 0 where
   pub name : IsTrue (is_text o.identity.name)
   pub gitdir : IsTrue (is_text o.identity.gitdir)
   pub stamp : o.stamp < 2 ^ 64
+  pub again : o.again ≤ 8
   pub few : length o.tasks ≤ 65536
   pub tasks : (n : ℕ) (task : Task) → slice_get o.tasks n ≡ Some task → IsTask task
   pub registers : IsKept o.registers
@@ -28,6 +29,7 @@ pub record IsReadBack (read written : Opening) : Type 0 where
   pub notes : read.notes ≡ map cut_note written.notes
   pub identity : read.identity ≡ written.identity
   pub stamp : read.stamp ≡ written.stamp
+  pub again : read.again ≡ written.again
 
 -- What the text of an opening tells of it: all but users and passwords, and the stamps of notes cut to microseconds.
 abbrev pub as_told : Opening → Opening
@@ -37,4 +39,5 @@ as_told o = record {
   notes = map cut_note o.notes;
   identity = o.identity;
   stamp = o.stamp;
+  again = o.again;
 }

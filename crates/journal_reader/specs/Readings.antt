@@ -1,14 +1,14 @@
 -- How far a reader has come, and which line may stand next.
-use Rattle.std.specs.Prelude.{ℕ, ◌≡◌, ◌+◌, ◌<◌, ◌^◌, ◌⊎◌, Bool, true, false, List, [], ◌∷◌, ◌++◌, Result, Ok, Err, length, codes, IsTrue}
+use Rattle.std.specs.Prelude.{ℕ, ◌≡◌, ◌+◌, ◌<◌, ◌≤◌, ◌^◌, ◌⊎◌, Bool, true, false, List, [], ◌∷◌, ◌++◌, Result, Ok, Err, length, codes, IsTrue}
 use Rattle.ann_key.specs.declared.bytes.NoMemory.{NoMemory as OutOfMemory}
 use Rattle.task_text.specs.TaskLines.{IsTask}
 use Rattle.task_text.specs.declared.task.Task.{Task}
 use Rattle.journal_model.specs.declared.entry.Entry.{Entry}
 use Rattle.entry_lines.specs.Entries.{entry_line, IsEntry}
-use Rattle.journal_lines.specs.JournalTexts.{Told, worded, head, begin, stamp_line, task_line, keep_line, end_line}
-use Rattle.journal_reader.specs.RunTexts.{is_uuid, is_text, may_be_kept}
+use Rattle.journal_lines.specs.JournalTexts.{Told, worded, head, begin, stamp_line, again_line, task_line, keep_line, end_line}
+use Rattle.journal_reader.specs.RunTexts.{is_uuid, is_text, may_be_kept, may_stand}
 use Rattle.journal_reader.specs.declared.place.Place.{Place}
-use Rattle.journal_reader.specs.declared.place.Place.TheVariants.{Head, Uuid, Name, Gitdir, Stamp, Given, Entries, Over, Refused}
+use Rattle.journal_reader.specs.declared.place.Place.TheVariants.{Head, Uuid, Name, Gitdir, Stamp, Again, Given, Entries, Over, Refused}
 use Rattle.journal_reader.specs.declared.error.JournalError.{JournalError}
 use Rattle.journal_reader.specs.declared.error.JournalError.TheVariants.{BadLine, Cut, NoMemory}
 
@@ -19,7 +19,7 @@ pub record Reading : Type 0 where
   pub told : Told
 
 abbrev pub nothing_told : Told
-nothing_told = record { uuid = []; name = []; gitdir = []; stamp = 0; tasks = []; kept = []; entries = [] }
+nothing_told = record { early = false; uuid = []; name = []; gitdir = []; stamp = 0; again = 0; tasks = []; kept = []; entries = [] }
 
 abbrev pub start : Reading
 start = record { place = Head; taken = 0; told = nothing_told }
@@ -45,17 +45,24 @@ pub record TakesEntry (t : Told) (line : List ℕ) (new : Told) : Type 0 where
   pub entry : Entry
   pub spelled : line ≡ entry_line entry
   pub class : IsEntry entry
+  pub stands : IsTrue (may_stand t.early entry.what)
   pub told : new ≡ record t { entries = t.entries ++ entry ∷ [] }
 
 -- ---- each line
 
+-- what is awaited after the stamp: an early text doesn't say how often a task may be run again
+abbrev pub after_stamp : Bool → Place
+after_stamp false = Again
+after_stamp true = Given
+
 -- Where this is awaited after what is told, the line may stand next; that is awaited then, and so much told.
 abbrev pub Goes : Place → Told → List ℕ → Place → Told → Type 0
-Goes Head t line place new = (line ≡ head) × (place ≡ Uuid) × (new ≡ t)
+Goes Head t line place new = (line ≡ head new.early) × (place ≡ Uuid) × (new ≡ record t { early = new.early })
 Goes Uuid t line place new = (line ≡ worded (codes "uuid") new.uuid) × IsTrue (is_uuid new.uuid) × (place ≡ Name) × (new ≡ record t { uuid = new.uuid })
 Goes Name t line place new = (line ≡ worded (codes "name") new.name) × IsTrue (is_text new.name) × (place ≡ Gitdir) × (new ≡ record t { name = new.name })
 Goes Gitdir t line place new = (line ≡ worded (codes "gitdir") new.gitdir) × IsTrue (is_text new.gitdir) × (place ≡ Stamp) × (new ≡ record t { gitdir = new.gitdir })
-Goes Stamp t line place new = (line ≡ stamp_line new.stamp) × (new.stamp < 2 ^ 64) × (place ≡ Given) × (new ≡ record t { stamp = new.stamp })
+Goes Stamp t line place new = (line ≡ stamp_line new.stamp) × (new.stamp < 2 ^ 64) × (place ≡ after_stamp t.early) × (new ≡ record t { stamp = new.stamp })
+Goes Again t line place new = (line ≡ again_line new.again) × (new.again ≤ 8) × (place ≡ Given) × (new ≡ record t { again = new.again })
 Goes Given t line place new =
     (((line ≡ begin) × (place ≡ Entries) × (new ≡ t)) ⊎ ((place ≡ Given) × TakesTask t line new)) ⊎ ((place ≡ Given) × TakesKept t line new)
 Goes Entries t line place new = ((line ≡ end_line (length t.entries)) × (place ≡ Over) × (new ≡ t)) ⊎ ((place ≡ Entries) × TakesEntry t line new)

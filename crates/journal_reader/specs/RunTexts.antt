@@ -5,6 +5,8 @@ use Rattle.uuid.specs.Text.{parsed, hyphenated_text, lower}
 use Rattle.annex_model.specs.Lines.{has_newline}
 use Rattle.task_text.specs.TaskLines.{IsTask}
 use Rattle.task_text.specs.declared.task.Task.{Task}
+use Rattle.journal_model.specs.declared.entry.What.{What}
+use Rattle.journal_model.specs.declared.entry.What.TheVariants.{Again}
 use Rattle.journal_model.specs.declared.entry.Entry.{Entry}
 use Rattle.entry_lines.specs.Entries.{IsEntry}
 use Rattle.keep_text.specs.Orders.{is_written_line, comes_before}
@@ -39,16 +41,31 @@ pub data AreInOrder : List (List ℕ) → Type 0 where
   NoneKept : AreInOrder []
   OneMore : (kept : List (List ℕ)) (line : List ℕ) → AreInOrder kept → may_be_kept kept line ≡ true → AreInOrder (kept ++ line ∷ [])
 
+-- how often a task may be run again: in an early text never
+abbrev pub IsAgain : Bool → ℕ → Type 0
+IsAgain false again = again ≤ 8
+IsAgain true again = again ≡ 0
+
+abbrev pub is_again : What → Bool
+is_again (Again task answer) = true
+is_again what = false
+
+-- what an early text may hold, or another: no task was run again in an early one
+abbrev pub may_stand : Bool → What → Bool
+may_stand early what = not (early && is_again what)
+
 -- what a text may tell
 pub record IsTold (t : Told) : Type 0 where
   pub uuid : IsTrue (is_uuid t.uuid)
   pub name : IsTrue (is_text t.name)
   pub gitdir : IsTrue (is_text t.gitdir)
   pub stamp : t.stamp < 2 ^ 64
+  pub again : IsAgain t.early t.again
   pub few : length t.tasks ≤ 65536
   pub tasks : (n : ℕ) (task : Task) → slice_get t.tasks n ≡ Some task → IsTask task
   pub kept : AreInOrder t.kept
   pub entries : (n : ℕ) (entry : Entry) → slice_get t.entries n ≡ Some entry → IsEntry entry
+  pub stand : (n : ℕ) (entry : Entry) → slice_get t.entries n ≡ Some entry → IsTrue (may_stand t.early entry.what)
 
 -- the lines are the text of a run
 abbrev pub IsWhole : List (List ℕ) → Type 0

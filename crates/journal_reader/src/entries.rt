@@ -1,15 +1,16 @@
 // Taking the lines of entries, and the end.
-ghost use Rattle.std.specs.Prelude.{◌≡◌, IfOk, MatchOption, bytes_eq, length};
+ghost use Rattle.std.specs.Prelude.{◌≡◌, IfOk, IsTrue, MatchOption, bytes_eq, length};
 ghost use Rattle.journal_model.specs.declared.entry.Entry.{Entry};
 ghost use Rattle.journal_lines.specs.JournalTexts.{end_line};
 ghost use Rattle.entry_lines.specs.Entries.{entry_line, IsEntry};
+ghost use Rattle.journal_reader.specs.RunTexts.{may_stand};
 
 use crate::place::Place;
 use crate::reader::Reader;
 use crate::typed::is_entry;
 use ann_key::NoMemory;
 use entry_lines::read_entry;
-use journal_model::Entry;
+use journal_model::{Entry, What};
 use std::alloc::Global;
 
 impl Reader {
@@ -31,7 +32,7 @@ impl Reader {
         requires more { line.now ≡ end_line (length self.old.told.entries) → ⊥ }
         ensures { Took self.old line.now self.new result }
     {
-        match entry_of(self.alloc, line)? {
+        match entry_of(self.alloc, line, self.early)? {
             Some(entry) => {
                 self.entries.push(entry)?;
                 Ok(true)
@@ -49,12 +50,22 @@ fn is_end(alloc: Global, line: &[u8], count: usize) -> Result<bool, NoMemory>
     Ok(end.as_bytes() == line)
 }
 
-// The entry whose line this is.
-fn entry_of(alloc: Global, line: &[u8]) -> Result<Option<Entry>, NoMemory>
-    ensures { IfOk result (λ found. MatchOption found ((entry : Entry) → IsEntry entry → line.now ≡ entry_line entry → ⊥) (λ entry. (line.now ≡ entry_line entry) × IsEntry entry)) }
+// The entry whose line this is, if it may stand in the text.
+fn entry_of(alloc: Global, line: &[u8], early: bool) -> Result<Option<Entry>, NoMemory>
+    ensures { IfOk result (λ found. MatchOption found ((entry : Entry) → IsEntry entry → IsTrue (may_stand early entry.what) → line.now ≡ entry_line entry → ⊥) (λ entry. (line.now ≡ entry_line entry) × IsEntry entry × IsTrue (may_stand early entry.what))) }
 {
     match read_entry(alloc, line)? {
-        Some(entry) if is_entry(&entry) => Ok(Some(entry)),
+        Some(entry) if is_entry(&entry) && may_stand(early, &entry.what) => Ok(Some(entry)),
         _ => Ok(None),
     }
+}
+
+fn may_stand(early: bool, what: &What) -> bool
+    ensures { result ≡ may_stand early what.now }
+{
+    let again = match what {
+        What::Again { .. } => true,
+        _ => false,
+    };
+    !(early && again)
 }

@@ -5,7 +5,7 @@ ghost use Rattle.ann_key.specs.Numbers.{is_digit, value_of};
 ghost use Rattle.chunk_log.specs.ChunkLines.{number_in};
 ghost use Rattle.uuid.specs.Text.{parsed, hyphenated_text, lower};
 ghost use Rattle.annex_model.specs.Lines.{has_newline};
-ghost use Rattle.journal_lines.specs.JournalTexts.{worded, stamp_line};
+ghost use Rattle.journal_lines.specs.JournalTexts.{worded, stamp_line, again_line};
 ghost use Rattle.journal_reader.specs.RunTexts.{is_text, is_uuid};
 
 use ann_key::{NoMemory, Text};
@@ -119,6 +119,26 @@ pub(crate) fn stamp_of(alloc: Global, line: &[u8]) -> Result<Option<u64>, NoMemo
         Some(text) => number_of(alloc, text),
         None => Ok(None),
     }
+}
+
+/// The number of a line on how often a task may be run again.
+pub(crate) fn again_of(alloc: Global, line: &[u8]) -> Result<Option<u32>, NoMemory>
+    ensures { IfOk result (λ found. MatchOption found ((n : ℕ) → n ≤ 8 → line.now ≡ again_line n → ⊥) (λ n. (line.now ≡ again_line n) × (n ≤ 8))) }
+{
+    match behind(line, b"again") {
+        Some(text) => few_of(alloc, text),
+        None => Ok(None),
+    }
+}
+
+// The number that the text is, if it is at most 8.
+fn few_of(alloc: Global, text: &[u8]) -> Result<Option<u32>, NoMemory>
+    ensures { IfOk result (λ found. MatchOption found ((n : ℕ) → n ≤ 8 → text.now ≡ decimal n → ⊥) (λ n. (text.now ≡ decimal n) × (n ≤ 8))) }
+{
+    let Some(n) = number_of(alloc, text)? else {
+        return Ok(None);
+    };
+    if n <= 8 { Ok(Some(n as u32)) } else { Ok(None) }
 }
 
 fn number_of(alloc: Global, text: &[u8]) -> Result<Option<u64>, NoMemory>

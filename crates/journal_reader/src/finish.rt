@@ -60,6 +60,7 @@ impl Reader {
                 gitdir: self.gitdir,
             },
             stamp: self.stamp,
+            again: self.again,
         };
         Ok((opening, Journal::from_entries(self.entries)))
     }

@@ -1,5 +1,8 @@
 // Taking the first lines.
-use crate::fields::{stamp_of, text_behind, uuid_behind, written};
+ghost use Rattle.std.specs.Prelude.{◌≡◌};
+ghost use Rattle.journal_reader.specs.Readings.{after_stamp};
+
+use crate::fields::{again_of, stamp_of, text_behind, uuid_behind, written};
 use crate::place::Place;
 use crate::reader::Reader;
 use ann_key::{NoMemory, Text};
@@ -12,7 +15,9 @@ impl Reader {
         requires { self.old.place ≡ Place.Head }
         ensures { Took self.old line.now self.new (Ok result) }
     {
-        if line == b"annex-journal 1".as_slice() {
+        let early = line == b"annex-journal 1".as_slice();
+        if early || line == b"annex-journal 2".as_slice() {
+            self.early = early;
             self.place = Place::Uuid;
             true
         } else {
@@ -64,7 +69,25 @@ impl Reader {
             return Ok(false);
         };
         self.stamp = stamp;
+        self.place = after_stamp(self.early);
+        Ok(true)
+    }
+
+    pub(crate) fn take_again(&mut self, line: &[u8]) -> Result<bool, NoMemory>
+        requires { self.old.place ≡ Place.Again }
+        ensures { Took self.old line.now self.new result }
+    {
+        let Some(again) = again_of(self.alloc, line)? else {
+            return Ok(false);
+        };
+        self.again = again;
         self.place = Place::Given;
         Ok(true)
     }
+}
+
+fn after_stamp(early: bool) -> Place
+    ensures { result ≡ after_stamp early }
+{
+    if early { Place::Given } else { Place::Again }
 }

@@ -1,12 +1,14 @@
 // Laws over whole texts, each the contract of a function with nothing to do.
-ghost use Rattle.std.specs.Prelude.{◌≡◌, ℕ, List, [], ◌∷◌, ◌++◌, Some, length, slice_get, IsTrue};
+ghost use Rattle.std.specs.Prelude.{◌≡◌, ℕ, List, [], ◌∷◌, ◌++◌, Some, length, slice_get, codes, true, IsTrue};
 ghost use Rattle.chunk_log.specs.NoteBooks.{in_order};
 ghost use Rattle.entry_lines.specs.Entries.{IsEntry};
 ghost use Rattle.journal_lines.specs.JournalTexts.{Told, journal_lines, told, told_lines};
+ghost use Rattle.journal_model.specs.declared.answer.Answer.TheVariants.{Unsent};
 ghost use Rattle.journal_model.specs.declared.entry.Entry.{Entry};
+ghost use Rattle.journal_model.specs.declared.entry.What.TheVariants.{Again};
 ghost use Rattle.journal_model.specs.declared.opening.Opening.{Opening};
 ghost use Rattle.journal_reader.specs.Openings.{IsReadBack, IsTellable, as_told};
-ghost use Rattle.journal_reader.specs.Readings.{Reading, CannotGo, start};
+ghost use Rattle.journal_reader.specs.Readings.{Reading, Goes, CannotGo, nothing_told, start};
 ghost use Rattle.journal_reader.specs.RunTexts.{Begins, IsTold};
 ghost use Rattle.journal_reader.specs.Runs.{IsOpeningOf, Reads};
 ghost use Rattle.journal_reader.specs.declared.place.Place.TheVariants as at;
@@ -45,4 +47,17 @@ pub fn what_is_written_is_read()
 pub fn one_text_tells_one_run()
     ensures told { (t u : Told) → IsTold t → IsTold u → told_lines t ≡ told_lines u → t ≡ u }
     ensures run { (o p : Opening) (journal entries : List Entry) → IsTellable o → IsTellable p → ((n : ℕ) (entry : Entry) → slice_get journal n ≡ Some entry → IsEntry entry) → ((n : ℕ) (entry : Entry) → slice_get entries n ≡ Some entry → IsEntry entry) → journal_lines o journal ≡ journal_lines p entries → (as_told o ≡ as_told p) × (journal ≡ entries) }
+{}
+
+/// Each text says after its stamp how often a task may be run again. A text with the head of before doesn't, and holds no Again.
+pub fn lines_on_runs()
+    ensures head { Goes at.Head nothing_told (codes "annex-journal 2") at.Uuid nothing_told }
+    ensures early_head { Goes at.Head nothing_told (codes "annex-journal 1") at.Uuid (record nothing_told { early = true }) }
+    ensures no_head { CannotGo at.Head nothing_told (codes "annex-journal 3") }
+    ensures most { Goes at.Again nothing_told (codes "again 8") at.Given (record nothing_told { again = 8 }) }
+    ensures too_many { CannotGo at.Again nothing_told (codes "again 9") }
+    ensures missing { CannotGo at.Again nothing_told (codes "begin") }
+    ensures early { (t : Told) → CannotGo at.Given t (codes "again 0") }
+    ensures entry { Goes at.Entries nothing_told (codes "0 again 1 unsent") at.Entries (record nothing_told { entries = record { by = 0; what = Again 1 Unsent } ∷ [] }) }
+    ensures early_entry { CannotGo at.Entries (record nothing_told { early = true }) (codes "0 again 1 unsent") }
 {}

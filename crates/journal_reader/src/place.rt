@@ -6,6 +6,8 @@ pub enum Place {
     Name,
     Gitdir,
     Stamp,
+    /// How often a task may be run again; an early text doesn't say it.
+    Again,
     /// A task, or what is kept, or the journal's begin.
     Given,
     /// An entry, or the end.

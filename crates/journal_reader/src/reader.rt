@@ -13,10 +13,12 @@ pub struct Reader {
     pub(crate) alloc: Global,
     pub(crate) place: Place,
     pub(crate) taken: u64,
+    pub(crate) early: bool,
     pub(crate) uuid: Text,
     pub(crate) name: Text,
     pub(crate) gitdir: Text,
     pub(crate) stamp: u64,
+    pub(crate) again: u32,
     pub(crate) tasks: Vec<Task>,
     pub(crate) kept: Vec<Bytes>,
     pub(crate) entries: Vec<Entry>,
@@ -30,7 +32,7 @@ impl Model for Reader {
 
     ghost Value = { Reading };
 
-    ghost view = { λ r. record { place = r.place; taken = r.taken; told = record { uuid = r.uuid; name = r.name; gitdir = r.gitdir; stamp = r.stamp; tasks = r.tasks.items; kept = r.kept.items; entries = r.entries.items } } };
+    ghost view = { λ r. record { place = r.place; taken = r.taken; told = record { early = r.early; uuid = r.uuid; name = r.name; gitdir = r.gitdir; stamp = r.stamp; again = r.again; tasks = r.tasks.items; kept = r.kept.items; entries = r.entries.items } } };
 
     ghost invariant = { λ r. IsTrue (list_all is_kept r.kept.items) };
 }
@@ -49,10 +51,12 @@ impl Reader {
             alloc,
             place: Place::Head,
             taken: 0,
+            early: false,
             uuid: Text::from_string(String::new(alloc)),
             name: Text::from_string(String::new(alloc)),
             gitdir: Text::from_string(String::new(alloc)),
             stamp: 0,
+            again: 0,
             tasks: Vec::new(alloc),
             kept: Vec::new(alloc),
             entries: Vec::new(alloc),
@@ -99,6 +103,7 @@ impl Reader {
             Place::Name => self.take_name(line),
             Place::Gitdir => self.take_gitdir(line),
             Place::Stamp => self.take_stamp(line),
+            Place::Again => self.take_again(line),
             Place::Given => self.take_given(line),
             Place::Entries => self.take_entry_or_end(line),
             Place::Over | Place::Refused { .. } => Ok(false),

@@ -93,6 +93,11 @@ fn is_what(what: &What) -> bool
             let _numbers = (*task, *chunk, *count);
             true
         }
+        What::Again { task, answer } => {
+            let _number = *task;
+            answer_is_typed(*answer);
+            true
+        }
     }
 }
 

@@ -3,7 +3,7 @@ use Rattle.std.proofs.Common.{sym, subst, ◌≡◌, ℕ, List, [], ◌∷◌, r
 use Rattle.std.specs.Prelude.{find, IfSome, filter, option_and_then, is_some, ◌==◌, ◌&&◌, ◌||◌}
 use Rattle.std.specs.List.{cons_option}
 use Rattle.journal_model.specs.declared.entry.What.{What}
-use Rattle.journal_model.specs.declared.entry.What.TheVariants.{Claim, Start, NoStart, Lead, Ask, Put, Sent, Mute, Got, End, Verdict as Settled, Lost, Answer as Answered, Note as Noted}
+use Rattle.journal_model.specs.declared.entry.What.TheVariants.{Claim, Start, NoStart, Lead, Ask, Put, Sent, Mute, Got, End, Verdict as Settled, Lost, Answer as Answered, Note as Noted, Again}
 use Rattle.journal_model.specs.declared.entry.Entry.{Entry}
 use Rattle.journal_model.specs.declared.verdict.Verdict.{Verdict}
 use Rattle.journal_model.specs.Journal.{first_of, each_of, is_settled, settles, verdict_in, verdict_of}
@@ -49,6 +49,7 @@ settles_gives c j (End child why) = refl
 settles_gives c j (Lost child task) = refl
 settles_gives c j (Answered task answer) = refl
 settles_gives c j (Noted task chunk count) = refl
+settles_gives c j (Again task answer) = refl
 
 pub verdict_by_find : (past : List Entry) (c j : ℕ) → verdict_of past c j ≡ option_and_then (λ e. verdict_in c j e.what) (find (λ e. settles c j e.what) past)
 verdict_by_find past c j = first_given (verdict_in c j) (settles c j) (settles_gives c j) past

@@ -6,7 +6,7 @@ use Rattle.std.proofs.lemmas.Bool.Decides.{nat_tests}
 use Rattle.std.proofs.Math.Dec.{leb}
 use Rattle.annex_model.specs.Messages.{remote_reading}
 use Rattle.journal_model.specs.declared.entry.What.{What}
-use Rattle.journal_model.specs.declared.entry.What.TheVariants.{Claim, Start, NoStart, Lead, Ask, Put, Sent, Mute, Got, End, Verdict as Settled, Lost, Answer as Answered, Note as Noted}
+use Rattle.journal_model.specs.declared.entry.What.TheVariants.{Claim, Start, NoStart, Lead, Ask, Put, Sent, Mute, Got, End, Verdict as Settled, Lost, Answer as Answered, Note as Noted, Again}
 use Rattle.journal_model.specs.declared.entry.Entry.{Entry}
 use Rattle.journal_model.specs.Journal.{first_of, each_of, writes, is_job, got_from, line_from, got_lines, unsent, sends, is_unsent}
 use Rattle.journal_model.specs.Due.{is_version_one}
@@ -97,6 +97,7 @@ got_gives c (Settled child job verdict) = refl
 got_gives c (Lost child task) = refl
 got_gives c (Answered task answer) = refl
 got_gives c (Noted task chunk count) = refl
+got_gives c (Again task answer) = refl
 
 pub first_line : (past : List Entry) (c : ℕ) → first_of (got_lines past c) ≡ option_and_then (λ e. line_from c e.what) (find (λ e. got_from c e.what) past)
 first_line past c = first_given (line_from c) (got_from c) (got_gives c) past
@@ -139,6 +140,7 @@ found_line (d ∷ past) c e h = go (got_from c d.what) refl h (found_line past c
     given (Lost child task) t = absurd cc
     given (Answered task answer) t = absurd cc
     given (Noted task chunk count) t = absurd cc
+    given (Again task answer) t = absurd cc
 
     go : (b : Bool) → got_from c d.what ≡ b → Some e ≡ cond b (Some d) (find (λ x. got_from c x.what) past)
         → (Some e ≡ find (λ x. got_from c x.what) past → line_from c e.what ≡ Some (got_line e.what)) → line_from c e.what ≡ Some (got_line e.what)
@@ -191,6 +193,7 @@ written_is c (Settled child job verdict) l h = absurd cc
 written_is c (Lost child task) l h = absurd cc
 written_is c (Answered task answer) l h = absurd cc
 written_is c (Noted task chunk count) l h = absurd cc
+written_is c (Again task answer) l h = absurd cc
 
 hosts_is : (w : What) → (written_in w).1 ≡ hosts_line w
 hosts_is (Ask child job task line) = refl
@@ -207,6 +210,7 @@ hosts_is (Settled child job verdict) = refl
 hosts_is (Lost child task) = refl
 hosts_is (Answered task answer) = refl
 hosts_is (Noted task chunk count) = refl
+hosts_is (Again task answer) = refl
 
 written_by : (c : ℕ) (past : List Entry) → each_of (writes c) past ≡ map (λ (e : Entry). written_in e.what) (filter (λ e. is_written c e.what) past)
 written_by c [] = refl

@@ -30,7 +30,9 @@ fn claimed_on(before: bool, entry: &Entry, t: u32) -> bool
 pub fn is_claimed(entries: &[Entry], task: u32) -> bool
     ensures { result ≡ is_claimed entries.now task }
 {
-    entries.iter().fold(false, |before, e| claimed_on(before, e, task))
+    entries
+        .iter()
+        .fold(false, |before, e| claimed_on(before, e, task))
 }
 
 /// Whether the entry says that the task is to be run again.

@@ -136,7 +136,7 @@ begins seed tasks few = record {
 }
 
 pub begins_of : (seed tasks : ℕ) (list : List Task) (registers : RegisterFile) (notes : List Note) (who : Identity) → tasks ≤ 65536 → list ≡ tasks_of seed tasks → who ≡ nobody
-    → MayBegin (record { tasks = list; registers = registers; notes = notes; identity = who; stamp = 0 })
+    → MayBegin (record { tasks = list; registers = registers; notes = notes; identity = who; stamp = 0; again = 0 })
 begins_of seed tasks list registers notes who few same nil =
     let o = begins seed tasks few in
     record {

@@ -81,6 +81,7 @@ opening_of seed tasks = record {
   notes = [];
   identity = nobody;
   stamp = 0;
+  again = 0;
 }
 
 abbrev pub file_of : ℕ → List ℕ × List ℕ

@@ -33,5 +33,6 @@ pub fn opening_of(alloc: Global, seed: u32, tasks: u32) -> Result<Opening, NoMem
         notes: NoteBook::new(alloc),
         identity: nobody(alloc)?,
         stamp: 0,
+        again: 0,
     })
 }

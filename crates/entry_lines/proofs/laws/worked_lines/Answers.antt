@@ -26,6 +26,10 @@ pub returns-clause-size : goal.returns-clause-size
 unfolding digits
 returns-clause-size c = refl
 
+pub returns-clause-again : goal.returns-clause-again
+unfolding digits
+returns-clause-again c = refl
+
 pub returns-clause-renamed : goal.returns-clause-renamed
 unfolding digits
 returns-clause-renamed c = refl
