@@ -4,7 +4,7 @@ ghost use Rattle.task_text.specs.TaskLines.{IsTask};
 ghost use Rattle.chunk_log.specs.ChunkLines.{IsWrittenUuid};
 ghost use Rattle.journal_model.specs.Limits.{most_tasks};
 ghost use Rattle.journal_model.specs.Replies.{IsLineIdentity};
-ghost use Rattle.host_core.specs.Openings.{MayOpen};
+ghost use Rattle.journal_model.specs.Beginnings.{MayBegin};
 
 use ann_key::{NoMemory, Text};
 use chunk_log::NoteBook;
@@ -18,7 +18,7 @@ pub(crate) const CHECK: &str =
 
 /// What a run of the tasks begins with that the lines spell. They may be run again so often, but for the limit.
 pub(crate) fn opening(alloc: Global, lines: &[String], again: u32) -> Result<Opening, NoMemory>
-    ensures { IfOk result MayOpen }
+    ensures { IfOk result MayBegin }
 {
     let list = tasks(alloc, lines)?;
     let identity = identity(alloc)?;

@@ -10,4 +10,3 @@ pub mod Sparing
 pub mod Answered
 pub mod Noting
 pub mod Running
-pub mod Limits

@@ -13,7 +13,6 @@ ghost use Rattle.journal_model.specs.Notes.{AreCurrentAt};
 ghost use Rattle.journal_model.specs.NoteRows.{to_do, known_since, claimed, stored, noting, noted_and_answered};
 ghost use Rattle.journal_model.specs.Rows.{by_main, greeting};
 ghost use Rattle.task_text.specs.declared.task.Work.TheVariants.{Store, Drop};
-ghost use Rattle.host_core.specs.Openings.{MayOpen};
 ghost use Rattle.host_core.specs.Steps.{step_of, Comes, Appends};
 ghost use Rattle.host_core.specs.declared.event.Event.{Event};
 ghost use Rattle.host_core.specs.declared.event.Event.TheVariants.{Answer as AnswerEvent, Claim as ClaimEvent, Layouts as AskLayouts};
@@ -45,13 +44,6 @@ pub fn worked_layouts()
     ensures answered { (step_of (to_do Store) noted_and_answered 0 (AskLayouts 1)).reply ≡ Odd }
     ensures unclaimed { (step_of (to_do Store) greeting 0 (AskLayouts 1)).reply ≡ Odd }
     ensures other_task { (step_of (to_do Store) (noting 2) 0 (AskLayouts 2)).reply ≡ Odd }
-{}
-
-/// A run may let its tasks be run again eight times, and no more.
-#[tactic(auto, using(crate::proofs::Limits::eight_times, crate::proofs::Limits::no_more))]
-pub fn worked_limits()
-    ensures eight { MayOpen (one_check_again 8) }
-    ensures nine { MayOpen (one_check_again 9) → ⊥ }
 {}
 
 /// A task whose child was lost is run again in place of its answer, where it may be, and is claimed for its next turn.

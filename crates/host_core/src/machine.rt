@@ -1,11 +1,11 @@
 ghost use Rattle.std.specs.Prelude.{◌≡◌, ◌<◌, ◌≤◌, ◌+◌, ◌*◌, ◌^◌, ◌++◌, [], length, true, false, All, IfOk, IsOk, IsTrue, OnOk, OnErr};
 ghost use Rattle.chunk_log.specs.NoteBooks.{in_order};
+ghost use Rattle.journal_model.specs.Beginnings.{MayBegin};
 ghost use Rattle.journal_model.specs.Journal.{is_tagged};
 ghost use Rattle.journal_model.specs.Legality.{Legal};
-ghost use Rattle.journal_model.specs.Limits.{most_tasks};
+ghost use Rattle.journal_model.specs.Limits.{most_again, most_tasks};
 ghost use Rattle.host_core.specs.Books.{notes_after};
 ghost use Rattle.host_core.specs.Mays.{IsMadeBy};
-ghost use Rattle.host_core.specs.Openings.{MayOpen, most_again};
 ghost use Rattle.host_core.specs.Steps.{step_of, takes_no_memory, is_free, unclaimed, told, shut_by};
 ghost use Rattle.host_core.specs.Settings.{registers_after};
 
@@ -42,7 +42,7 @@ impl Model for Core {
     ghost use Rattle.std.specs.Prelude.{◌≤◌, ◌<◌, ◌^◌};
     ghost use Rattle.journal_model.specs.Room.{room_of};
     ghost use Rattle.journal_model.specs.Legality.{Legal};
-    ghost use Rattle.host_core.specs.Openings.{MayOpen};
+    ghost use Rattle.journal_model.specs.Beginnings.{MayBegin};
     ghost use Rattle.host_core.specs.Runs.{AreRuns};
     ghost use Rattle.host_core.specs.Books.{IsNoted};
     ghost use Rattle.host_core.specs.CoreValue.{CoreValue};
@@ -52,13 +52,13 @@ impl Model for Core {
 
     ghost view = { λ c. record { opening = c.opening; journal = c.journal.entries; registers = c.registers; notes = c.notes; shut = c.shut } };
 
-    ghost invariant = { λ c. Legal c.opening c.journal.entries × MayOpen c.opening × (room_of c.opening c.journal.entries ≤ c.journal.room) × (c.journal.room < 2 ^ 64) × IsServed c.opening c.journal.entries c.registers × IsNoted c.opening c.journal.entries c.notes × AreRuns c.opening c.journal.entries c.runs.items };
+    ghost invariant = { λ c. Legal c.opening c.journal.entries × MayBegin c.opening × (room_of c.opening c.journal.entries ≤ c.journal.room) × (c.journal.room < 2 ^ 64) × IsServed c.opening c.journal.entries c.registers × IsNoted c.opening c.journal.entries c.notes × AreRuns c.opening c.journal.entries c.runs.items };
 }
 
 impl Core {
     /// A core with an empty journal.
     pub fn new(alloc: Global, opening: Opening) -> Result<Core, NoMemory>
-        requires { MayOpen opening }
+        requires { MayBegin opening }
         ensures opening { IfOk result (λ c. c.opening ≡ opening) }
         ensures empty { IfOk result (λ c. c.journal ≡ []) }
         ensures shut { IfOk result (λ c. c.shut ≡ false) }

@@ -1,5 +1,5 @@
 -- What a run may begin with.
-use Rattle.std.proofs.Common.{◌≡◌, ◌∙◌, ℕ, ◌-◌, Bool, true, false, not, cond, List, [], ◌∷◌, Option, Some, None, refl, sym, ap, subst, All, lit≤}
+use Rattle.std.proofs.Common.{◌≡◌, ◌∙◌, ℕ, ◌-◌, Bool, true, false, not, cond, List, [], ◌∷◌, Option, Some, None, refl, sym, ap, subst, All, lit≤, ◌≤◌, arith}
 use Rattle.std.specs.Prelude.{◌==◌, ◌&&◌, ◌||◌, nat_lt, codes, slice_get}
 use Rattle.std.specs.List.{list_any}
 use Rattle.std.specs.Char.{encode_utf8}
@@ -13,6 +13,7 @@ use Rattle.task_text.specs.declared.task.Work.TheVariants.{Store, Check}
 use Rattle.chunk_log.specs.ChunkLines.{is_space}
 use Rattle.chunk_log.proofs.Uuids.{nil_written, upper_not_written}
 use Rattle.journal_model.specs.declared.opening.Opening.{Opening}
+use Rattle.journal_model.specs.AgainRows.{one_check_again}
 use Rattle.journal_model.specs.Beginnings.{MayBegin}
 use Rattle.journal_model.specs.Legality.{task_of}
 use Rattle.journal_model.specs.NoteRows.{known_since, remote}
@@ -61,6 +62,7 @@ check_begins = record {
   tasks = one_task (record { work = Check; key = sample_key; file = []; name = []; onto = [] }) record { key_class = refl; file_class = refl; name_class = refl; onto_class = refl; apart = refl };
   lines = record { uuid = refl; name = refl; gitdir = refl };
   uuid = nil_written;
+  again = lit≤ tt;
 }
 
 pub store_begins : MayBegin (known_since 5 Store)
@@ -70,10 +72,11 @@ store_begins = record {
   tasks = one_task (record { work = Store; key = codes "WORM-s150--a"; file = codes "f"; name = []; onto = [] }) record { key_class = refl; file_class = refl; name_class = refl; onto_class = refl; apart = refl };
   lines = record { uuid = refl; name = refl; gitdir = refl };
   uuid = nil_written;
+  again = lit≤ tt;
 }
 
 pub nothing_begins : MayBegin (begun_as remote (codes "remote"))
-nothing_begins = record { few = lit≤ tt; tasks = All-nil IsTask; lines = record { uuid = refl; name = refl; gitdir = refl }; uuid = nil_written }
+nothing_begins = record { few = lit≤ tt; tasks = All-nil IsTask; lines = record { uuid = refl; name = refl; gitdir = refl }; uuid = nil_written; again = lit≤ tt }
 
 first_task : (task : Task) → All IsTask (task ∷ []) → IsTask task
 first_task task all = All-head IsTask task [] all
@@ -90,3 +93,9 @@ pub no_store_file : MayBegin (begun_with Store sample_key []) → ⊥
 no_store_file begins =
     let right : false ≡ true = (first_task (record { work = Store; key = sample_key; file = []; name = []; onto = [] }) begins.tasks).file_class in
     absurd cc
+
+pub eight_times : MayBegin (one_check_again 8)
+eight_times = record { few = check_begins.few; tasks = check_begins.tasks; lines = check_begins.lines; uuid = check_begins.uuid; again = lit≤ tt }
+
+pub no_more : MayBegin (one_check_again 9) → ⊥
+no_more begins = (let over : 9 ≤ 8 = begins.again in omega (arith, over))

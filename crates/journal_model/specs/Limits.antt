@@ -13,6 +13,10 @@ most_read = 4096
 abbrev pub most_tasks : ℕ
 most_tasks = 65536
 
+-- how often a run may let a task be run again
+abbrev pub most_again : ℕ
+most_again = 8
+
 -- a journal is full at so many entries
 abbrev pub most_entries : ℕ
 most_entries = 8000000

@@ -5,6 +5,7 @@ ghost use Rattle.task_text.specs.declared.task.Task.{Task};
 ghost use Rattle.task_text.specs.declared.task.Work.TheVariants.{Store, Check};
 ghost use Rattle.chunk_log.specs.ChunkLines.{is_space};
 ghost use Rattle.journal_model.specs.declared.opening.Opening.{Opening};
+ghost use Rattle.journal_model.specs.AgainRows.{one_check_again};
 ghost use Rattle.journal_model.specs.Beginnings.{MayBegin};
 ghost use Rattle.journal_model.specs.Legality.{task_of};
 ghost use Rattle.journal_model.specs.NoteRows.{known_since, remote};
@@ -20,6 +21,8 @@ pub fn keys_hold_no_space()
 pub fn worked_openings()
     ensures check { MayBegin one_check }
     ensures store { MayBegin (known_since 5 Store) }
+    ensures eight_times { MayBegin (one_check_again 8) }
+    ensures nine_times { MayBegin (one_check_again 9) → ⊥ }
     ensures nothing { MayBegin (begun_as remote (codes "remote")) }
     ensures chunk_key { MayBegin (begun_with Check (codes "WORM-s150-S100-C1--a") []) → ⊥ }
     ensures spaced_key { MayBegin (begun_with Check (codes "WORM--a b") []) → ⊥ }

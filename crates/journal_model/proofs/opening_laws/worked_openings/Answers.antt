@@ -1,7 +1,7 @@
 use Rattle.std.proofs.Common.{◌≡◌, ◌++◌, ◌∷◌, false, true, refl}
 use Rattle.std.specs.Prelude.{codes}
 use Rattle.chunk_log.proofs.Uuids.{upper_not_written}
-use Rattle.journal_model.proofs.Beginning.{check_begins, store_begins, nothing_begins, no_key, no_check_file, no_store_file}
+use Rattle.journal_model.proofs.Beginning.{check_begins, store_begins, nothing_begins, no_key, no_check_file, no_store_file, eight_times, no_more}
 use Rattle.journal_model.proofs.opening_laws.worked_openings.Goals as goal
 
 pub returns-clause-check : goal.returns-clause-check
@@ -9,6 +9,12 @@ returns-clause-check c = check_begins
 
 pub returns-clause-store : goal.returns-clause-store
 returns-clause-store c = store_begins
+
+pub returns-clause-eight_times : goal.returns-clause-eight_times
+returns-clause-eight_times c = eight_times
+
+pub returns-clause-nine_times : goal.returns-clause-nine_times
+returns-clause-nine_times c = no_more
 
 pub returns-clause-nothing : goal.returns-clause-nothing
 returns-clause-nothing c = nothing_begins

@@ -45,7 +45,7 @@ keep_group-requires-clause-sized c =
     note_fits o past c.args.by c.args.event c.in_ok-step.step.what c.in_ok-step.step.due few c.in_ok-step.ensures.step.group_is
 
 pub keep_group-requires-clause-begins : goal.keep_group-requires-clause-begins
-keep_group-requires-clause-begins c = c.self.invariant.1.begins
+keep_group-requires-clause-begins c = c.self.invariant.1
 
 pub note-requires : goal.note-requires
 note-requires c =
