@@ -26,7 +26,7 @@ use Rattle.lone_rounds.proofs.Apart.{ended_on, ready_same}
 use Rattle.lone_rounds.proofs.Growing.{SaysStart, says_start}
 use Rattle.lone_rounds.proofs.Losing.{lost_both}
 use Rattle.lone_rounds.proofs.Nexts.{next_both, next_first}
-use Rattle.lone_rounds.proofs.Tests.{and_behind, any_none, any_same, children_up_to, claimed_on, count-append, count_none, neither_nor, offers_both}
+use Rattle.lone_rounds.proofs.Tests.{and_behind, any_none, any_same, children_up_to, count-append, count_none, neither_nor, offers_both}
 use Rattle.lone_rounds.proofs.Unready.{and_true}
 use Rattle.pool_starts.specs.Slots.{AllInTurn, AreSpent, IsManned, StandsInTurn, are_spent, in_pool, is_first_start, offers_tags, spends}
 use Rattle.gathering.specs.Rounds.{IsAtRest}
@@ -158,7 +158,7 @@ module _ {o : Opening} {setup : Setup} {limit : ℕ} {offer next : Bool} {first 
 
     spent_now : AreSpent old ⊎ (are_all_claimed o old ≡ true) → (spends (old ++ main_entry first ∷ []) first s.later ≡ true) ⊎ (are_all_claimed o new ≡ true) → AreSpent new ⊎ (are_all_claimed o new ≡ true)
     spent_now h (inr all) = inr all
-    spent_now (inr all) (inl k) = inr (ap (are_all_claimed o) s.is ∙ claimed_on o old tail all)
+    spent_now (inr all) (inl k) = absurd (let bad : true ≡ false = sym all ∙ s.left in cc)
     spent_now (inl h) (inl k) = inl (subst AreSpent (sym s.is) (all_spent_both [] old tail h (here k)))
       where
         here : spends (old ++ main_entry first ∷ []) first s.later ≡ true → are_spent old tail ≡ true
@@ -168,7 +168,7 @@ module _ {o : Opening} {setup : Setup} {limit : ℕ} {offer next : Bool} {first 
     turn_now = subst (λ (n : ℕ). AllInTurn o n old tail) (sym as_many) (first_stands o (length desks) old old offer first s.start, s.turn)
 
     did_now : DesksDid o setup limit (old ++ tail) [] (old ++ tail) 1 desks0 desks'
-    did_now = desks_join o setup limit (old ++ tail) [] old tail 1 desks0 desks desks' (desks_on o setup limit old tail [] old 1 desks0 desks b.legal b.rest b.did) (
+    did_now = desks_join o setup limit (old ++ tail) [] old tail 1 desks0 desks desks' (desks_on o setup limit old tail [] old 1 desks0 desks b.did) (
         desks_join o setup limit (old ++ tail) old (main_entry first ∷ []) s.later 1 desks desks desks'
         (desks_nothing o setup limit (old ++ tail) old (main_entry first ∷ []) 1 desks (rw (start_takes old offer first s.start) refl))
         (subst (λ (j : List Entry). DesksDid o setup limit j (old ++ main_entry first ∷ []) s.later 1 desks desks') s.is s.did))

@@ -1,22 +1,25 @@
 -- What the desks did, as the journal grows.
 use Rattle.std.proofs.Common.{◌≡◌, ℕ, ◌+◌, ◌<◌, List, [], ◌∷◌, ◌++◌, refl, sym, ap, subst, ◌∙◌, append_assoc, append-nil, true, false, ◌==◌, Some, None, Option, arith, inl, inr, length, suc}
-use Rattle.std.specs.Prelude.{map}
 use Rattle.std.specs.List.{cons_option}
 use Rattle.ann_outside.specs.Calls.{Gained}
 use Rattle.journal_model.specs.declared.entry.What.{What}
 use Rattle.journal_model.specs.declared.entry.What.TheVariants.{Claim}
 use Rattle.journal_model.specs.declared.entry.Entry.{Entry}
 use Rattle.journal_model.specs.declared.opening.Opening.{Opening}
-use Rattle.journal_model.specs.Legality.{Legal, count, is_busy}
+use Rattle.journal_model.specs.Journal.{each_of}
+use Rattle.journal_model.specs.Legality.{count}
 use Rattle.journal_model.specs.Shares.{are_by}
+use Rattle.journal_model.proofs.Holding.{claimed}
 use Rattle.journal_model.proofs.Looks.{both, differ, same_number}
 use Rattle.task_run.specs.declared.setup.Setup.{Setup}
-use Rattle.lone_work.specs.Works.{DeskTells, RanFor, TaskDone, all_calls, claimed_task, claims_in}
-use Rattle.lone_work.proofs.Working.{run_lasts}
+use Rattle.lone_work.specs.Works.{DeskTells, RanFor, TaskDone, all_calls, turns_of}
+use Rattle.lone_work.proofs.Working.{calls_both, caused_both, run_lasts, turns_both}
+use Rattle.gathering.specs.Tasks.{claimed_turn, turns_by}
+use Rattle.task_run.specs.declared.turn.TaskTurn.{TaskTurn}
 use Rattle.lone_rounds.specs.Starting.{is_any_start}
 use Rattle.lone_rounds.specs.Rounds.{HasRun}
 use Rattle.lone_rounds.specs.Stints.{AllHaveRun, TasksDone}
-use Rattle.lone_rounds.proofs.Runs.{calls_both, caused_both, gained_more, gained_nothing, tasks_both}
+use Rattle.lone_rounds.proofs.Runs.{gained_more, gained_nothing}
 use Rattle.job_rounds.specs.Desks.{AreDone, DeskDid, DesksDid, HasDesk, HaveDesks, IsTaskDone, WorkerRun, claimed_for, claims_for, desk_of}
 use Rattle.job_rounds.proofs.Unserved.{unserved_lasts, zero_unserved}
 
@@ -29,26 +32,26 @@ cons_both (Some a) ys zs = refl
 pub claims_both : (k : ℕ) (past xs ys : List Entry) → claims_for k past (xs ++ ys) ≡ claims_for k past xs ++ claims_for k (past ++ xs) ys
 claims_both k past [] ys = ap (λ (p : List Entry). claims_for k p ys) (sym (append-nil past))
 claims_both k past (e ∷ xs) ys =
-    ap (λ (l : List ℕ). cons_option (claimed_for k past e.by e.what) l)
+    ap (λ (l : List (ℕ × ℕ)). cons_option (claimed_for k past e.by e.what) l)
     (claims_both k (past ++ e ∷ []) xs ys ∙ ap (λ (p : List Entry). claims_for k (past ++ e ∷ []) xs ++ claims_for k p ys) (append_assoc past (e ∷ []) xs))
     ∙ cons_both (claimed_for k past e.by e.what) (claims_for k (past ++ e ∷ []) xs) (claims_for k (past ++ e ∷ xs) ys)
 
 -- entries that claim nothing
-unclaimed : (k by : ℕ) (past : List Entry) (w : What) → claimed_task w ≡ None → claimed_for k past by w ≡ None
+unclaimed : (k by : ℕ) (past : List Entry) (w : What) → claimed_turn past w ≡ None → claimed_for k past by w ≡ None
 unclaimed k by past (Claim task child) h = absurd cc
 unclaimed k by past w h = refl
 
-pub claims_none : (k : ℕ) (past xs : List Entry) → claims_in xs ≡ [] → claims_for k past xs ≡ []
+pub claims_none : (k : ℕ) (past xs : List Entry) → each_of claimed xs ≡ [] → claims_for k past xs ≡ []
 claims_none k past [] h = refl
-claims_none k past (e ∷ xs) h = go (claimed_task e.what) refl h (claims_none k (past ++ e ∷ []) xs)
+claims_none k past (e ∷ xs) h = go e.what h (claims_none k (past ++ e ∷ []) xs)
   where
-    go : (x : Option ℕ) → claimed_task e.what ≡ x → cons_option x (claims_in xs) ≡ [] → (claims_in xs ≡ [] → claims_for k (past ++ e ∷ []) xs ≡ [])
-        → cons_option (claimed_for k past e.by e.what) (claims_for k (past ++ e ∷ []) xs) ≡ []
-    go None is none r = rw (unclaimed k e.by past e.what is, r none) refl
-    go (Some t) is none r = absurd cc
+    go : (w : What) → cons_option (claimed w) (each_of claimed xs) ≡ [] → (each_of claimed xs ≡ [] → claims_for k (past ++ e ∷ []) xs ≡ [])
+        → cons_option (claimed_for k past e.by w) (claims_for k (past ++ e ∷ []) xs) ≡ []
+    go (Claim task child) none r = absurd cc
+    go w none r = r none
 
 -- what the main thread claims is done with the first desk
-main_first : (past : List Entry) (by : ℕ) (w : What) → by ≡ 0 → claimed_for 1 past by w ≡ claimed_task w
+main_first : (past : List Entry) (by : ℕ) (w : What) → by ≡ 0 → claimed_for 1 past by w ≡ claimed_turn past w
 main_first past by (Claim task child) e = (let first : desk_of past by child ≡ 1 = rw e refl in rw first refl)
 main_first past by w e = refl
 
@@ -59,11 +62,13 @@ main_no_other k past by (Claim task child) far e =
     rw first (rw other refl)
 main_no_other k past by w far e = refl
 
-pub main_claims : (past xs : List Entry) → are_by 0 xs ≡ true → claims_for 1 past xs ≡ claims_in xs
+pub main_claims : (past xs : List Entry) → are_by 0 xs ≡ true → claims_for 1 past xs ≡ turns_by 0 past xs
 main_claims past [] h = refl
 main_claims past (e ∷ xs) h =
     let t = both (e.by == 0) (are_by 0 xs) h in
-    rw (main_first past e.by e.what (same_number e.by 0 t.0), main_claims (past ++ e ∷ []) xs t.1) refl
+    ap (λ (o : Option (ℕ × ℕ)). cons_option o (claims_for 1 (past ++ e ∷ []) xs)) (main_first past e.by e.what (same_number e.by 0 t.0))
+    ∙ ap (cons_option (claimed_turn past e.what)) (main_claims (past ++ e ∷ []) xs t.1)
+    ∙ (rw t.0 refl)
 
 pub main_claims_no_other : (k : ℕ) (past xs : List Entry) → 1 < k → are_by 0 xs ≡ true → claims_for k past xs ≡ []
 main_claims_no_other k past [] far h = refl
@@ -77,17 +82,17 @@ pub have_both : (n : ℕ) (past xs ys : List Entry) → HaveDesks n past xs → 
 have_both n past [] ys h k = subst (λ (p : List Entry). HaveDesks n p ys) (append-nil past) k
 have_both n past (e ∷ xs) ys h k = (h.0, have_both n (past ++ e ∷ []) xs ys h.1 (subst (λ (p : List Entry). HaveDesks n p ys) (sym (append_assoc past (e ∷ []) xs)) k))
 
-unclaimed_has : (n by : ℕ) (past : List Entry) (w : What) → claimed_task w ≡ None → HasDesk n past by w
+unclaimed_has : (n by : ℕ) (past : List Entry) (w : What) → claimed w ≡ None → HasDesk n past by w
 unclaimed_has n by past (Claim task child) h = absurd cc
 unclaimed_has n by past w h = tt
 
-pub have_none : (n : ℕ) (past xs : List Entry) → claims_in xs ≡ [] → HaveDesks n past xs
+pub have_none : (n : ℕ) (past xs : List Entry) → each_of claimed xs ≡ [] → HaveDesks n past xs
 have_none n past [] h = tt
-have_none n past (e ∷ xs) h = go (claimed_task e.what) refl h (have_none n (past ++ e ∷ []) xs)
+have_none n past (e ∷ xs) h = go e.what h (have_none n (past ++ e ∷ []) xs)
   where
-    go : (x : Option ℕ) → claimed_task e.what ≡ x → cons_option x (claims_in xs) ≡ [] → (claims_in xs ≡ [] → HaveDesks n (past ++ e ∷ []) xs) → HasDesk n past e.by e.what × HaveDesks n (past ++ e ∷ []) xs
-    go None is none r = (unclaimed_has n e.by past e.what is, r none)
-    go (Some t) is none r = absurd cc
+    go : (w : What) → cons_option (claimed w) (each_of claimed xs) ≡ [] → (each_of claimed xs ≡ [] → HaveDesks n (past ++ e ∷ []) xs) → HasDesk n past e.by w × HaveDesks n (past ++ e ∷ []) xs
+    go (Claim task child) none r = absurd cc
+    go w none r = (unclaimed_has n e.by past w refl, r none)
 
 main_has : (n by : ℕ) (past : List Entry) (w : What) → 0 < n → by ≡ 0 → HasDesk n past by w
 main_has n by past (Claim task child) some e =
@@ -104,19 +109,20 @@ have_main n past (e ∷ xs) some h =
 -- ---- tasks that are done stay so
 
 module _ (o : Opening) (setup : Setup) (limit : ℕ) where
-  worker_lasts : (past more : List Entry) (r : TaskDone) → Legal o past → ((t : ℕ) → is_busy past t ≡ false) → WorkerRun o setup past r → WorkerRun o setup (past ++ more) r
-  worker_lasts past more r legal rest h =
-      let before : RanFor o setup r.calls h.number h.run.run.child r.task r.answer past = record { run = h.run; child = refl; answer_is = h.answer } in
-      let after = run_lasts o setup r.calls h.number h.run.run.child r.task r.answer past more legal rest before in
+  worker_lasts : (past more : List Entry) (r : TaskDone) → WorkerRun o setup past r → WorkerRun o setup (past ++ more) r
+  worker_lasts past more r h =
+      let u : TaskTurn = record { task = r.task; turn = r.turn } in
+      let before : RanFor o setup r.calls h.number h.run.run.child u r.answer past = record { run = h.run; child = refl; answer_is = h.answer } in
+      let after = run_lasts o setup r.calls h.number h.run.run.child u r.answer past more before in
       record { number = h.number; run = after.run; child = subst (λ (c : ℕ). 0 < c) (sym after.child) h.child; answer = after.answer_is }
 
-  done_lasts : (past more : List Entry) (r : TaskDone) → Legal o past → ((t : ℕ) → is_busy past t ≡ false) → IsTaskDone o setup limit past r → IsTaskDone o setup limit (past ++ more) r
-  done_lasts past more r legal rest (inl h) = inl (worker_lasts past more r legal rest h)
-  done_lasts past more r legal rest (inr z) = inr (unserved_lasts limit past more r.task r.answer z.0, z.1)
+  done_lasts : (past more : List Entry) (r : TaskDone) → IsTaskDone o setup limit past r → IsTaskDone o setup limit (past ++ more) r
+  done_lasts past more r (inl h) = inl (worker_lasts past more r h)
+  done_lasts past more r (inr z) = inr (unserved_lasts limit past more r.task r.answer z.0, z.1)
 
-  pub all_last : (past more : List Entry) (rs : List TaskDone) → Legal o past → ((t : ℕ) → is_busy past t ≡ false) → AreDone o setup limit past rs → AreDone o setup limit (past ++ more) rs
-  all_last past more [] legal rest h = tt
-  all_last past more (r ∷ rs) legal rest h = (done_lasts past more r legal rest h.0, all_last past more rs legal rest h.1)
+  pub all_last : (past more : List Entry) (rs : List TaskDone) → AreDone o setup limit past rs → AreDone o setup limit (past ++ more) rs
+  all_last past more [] h = tt
+  all_last past more (r ∷ rs) h = (done_lasts past more r h.0, all_last past more rs h.1)
 
   all_both : (journal : List Entry) (xs ys : List TaskDone) → AreDone o setup limit journal xs → AreDone o setup limit journal ys → AreDone o setup limit journal (xs ++ ys)
   all_both journal [] ys h k = k
@@ -140,26 +146,26 @@ module _ (o : Opening) (setup : Setup) (limit : ℕ) where
       → DeskDid o setup limit journal past (xs ++ ys) k a d
   did_join journal past xs ys k a b d s t = record {
     done = s.done ++ t.done;
-    claimed = tasks_both s.done t.done ∙ ap (λ (l : List ℕ). l ++ map (λ (r : TaskDone). r.task) t.done) s.claimed
-        ∙ ap (λ (l : List ℕ). claims_for k past xs ++ l) t.claimed ∙ sym (claims_both k past xs ys);
+    claimed = turns_both s.done t.done ∙ ap (λ (l : List (ℕ × ℕ)). l ++ turns_of t.done) s.claimed
+        ∙ ap (λ (l : List (ℕ × ℕ)). claims_for k past xs ++ l) t.claimed ∙ sym (claims_both k past xs ys);
     ran = all_both journal s.done t.done s.ran t.ran;
     log_is = subst (Gained a.log d.log) (sym (calls_both s.done t.done)) (gained_more a.log b.log d.log (all_calls s.done) (all_calls t.done) s.log_is t.log_is);
     caused = caused_both a.counts b.counts d.counts s.done t.done s.caused t.caused;
   }
 
-  did_on : (journal more past xs : List Entry) (k : ℕ) (a b : DeskTells) → Legal o journal → ((t : ℕ) → is_busy journal t ≡ false) → DeskDid o setup limit journal past xs k a b
+  did_on : (journal more past xs : List Entry) (k : ℕ) (a b : DeskTells) → DeskDid o setup limit journal past xs k a b
       → DeskDid o setup limit (journal ++ more) past xs k a b
-  did_on journal more past xs k a b legal rest s = record {
+  did_on journal more past xs k a b s = record {
     done = s.done;
     claimed = s.claimed;
-    ran = all_last journal more s.done legal rest s.ran;
+    ran = all_last journal more s.done s.ran;
     log_is = s.log_is;
     caused = s.caused;
   }
 
   -- ---- all desks
 
-  pub desks_nothing : (journal past xs : List Entry) (k : ℕ) (desks : List DeskTells) → claims_in xs ≡ [] → DesksDid o setup limit journal past xs k desks desks
+  pub desks_nothing : (journal past xs : List Entry) (k : ℕ) (desks : List DeskTells) → each_of claimed xs ≡ [] → DesksDid o setup limit journal past xs k desks desks
   desks_nothing journal past xs k [] none = tt
   desks_nothing journal past xs k (d ∷ ds) none = (did_nothing journal past xs k d (claims_none k past xs none), desks_nothing journal past xs (k + 1) ds none)
 
@@ -172,12 +178,12 @@ module _ (o : Opening) (setup : Setup) (limit : ℕ) where
   desks_join journal past xs ys k (a ∷ cs) (b ∷ bs) [] s t = absurd t
   desks_join journal past xs ys k (a ∷ cs) (b ∷ bs) (d ∷ ds) s t = (did_join journal past xs ys k a b d s.0 t.0, desks_join journal past xs ys (k + 1) cs bs ds s.1 t.1)
 
-  pub desks_on : (journal more past xs : List Entry) (k : ℕ) (cs bs : List DeskTells) → Legal o journal → ((t : ℕ) → is_busy journal t ≡ false) → DesksDid o setup limit journal past xs k cs bs
+  pub desks_on : (journal more past xs : List Entry) (k : ℕ) (cs bs : List DeskTells) → DesksDid o setup limit journal past xs k cs bs
       → DesksDid o setup limit (journal ++ more) past xs k cs bs
-  desks_on journal more past xs k [] [] legal rest s = tt
-  desks_on journal more past xs k [] (b ∷ bs) legal rest s = absurd s
-  desks_on journal more past xs k (a ∷ cs) [] legal rest s = absurd s
-  desks_on journal more past xs k (a ∷ cs) (b ∷ bs) legal rest s = (did_on journal more past xs k a b legal rest s.0, desks_on journal more past xs (k + 1) cs bs legal rest s.1)
+  desks_on journal more past xs k [] [] s = tt
+  desks_on journal more past xs k [] (b ∷ bs) s = absurd s
+  desks_on journal more past xs k (a ∷ cs) [] s = absurd s
+  desks_on journal more past xs k (a ∷ cs) (b ∷ bs) s = (did_on journal more past xs k a b s.0, desks_on journal more past xs (k + 1) cs bs s.1)
 
   -- the desks from the second on are not the main thread's
   others_nothing : (journal past xs : List Entry) (k : ℕ) (desks : List DeskTells) → 1 < k → are_by 0 xs ≡ true → DesksDid o setup limit journal past xs k desks desks
@@ -188,7 +194,7 @@ module _ (o : Opening) (setup : Setup) (limit : ℕ) where
       → DesksDid o setup limit journal past xs 1 (desk ∷ others) (desk' ∷ others)
   desks_first journal past xs desk desk' others main did = (did, others_nothing journal past xs 2 others (omega arith) main)
 
-  pub desks_main : (more : ℕ) (journal past xs : List Entry) (desk desk' : DeskTells) (others : List DeskTells) → count is_any_start journal < more → are_by 0 xs ≡ true → TasksDone o setup more journal xs desk desk'
+  pub desks_main : (more : ℕ) (journal past xs : List Entry) (desk desk' : DeskTells) (others : List DeskTells) → count is_any_start journal < more → are_by 0 xs ≡ true → TasksDone o setup more journal past xs desk desk'
       → DesksDid o setup limit journal past xs 1 (desk ∷ others) (desk' ∷ others)
   desks_main more journal past xs desk desk' others fewer main t = desks_first journal past xs desk desk' others main record {
     done = t.done;

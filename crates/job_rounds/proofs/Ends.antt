@@ -118,17 +118,17 @@ alone_kept {K} tells o p setup c d old mid new ks is desks' eo ec ej ek s =
 pub legal_kept : (o p : Opening) (old mid : List Entry) → p ≡ o → mid ≡ old → Legal o old → Legal p mid
 legal_kept o p old mid eo ej h = subst (λ (q : Opening). Legal q mid) (sym eo) (subst (Legal o) (sym ej) h)
 
-crew_as_many : (entries : List Entry) (first : ℕ) (dones : List (List TaskDone)) (ds es : List DeskTells) → CrewDesks entries first dones ds es → length ds ≡ length es
-crew_as_many entries first [] [] [] h = refl
-crew_as_many entries first [] [] (e ∷ es) h = absurd h
-crew_as_many entries first [] (d ∷ ds) es h = absurd h
-crew_as_many entries first (done ∷ dones) [] es h = absurd h
-crew_as_many entries first (done ∷ dones) (d ∷ ds) [] h = absurd h
-crew_as_many entries first (done ∷ dones) (d ∷ ds) (e ∷ es) h = ap (λ (n : ℕ). suc n) (crew_as_many entries (first + 1) dones ds es h.1)
+crew_as_many : (o : Opening) (setup : Setup) (start rest : List Entry) (first : ℕ) (dones : List (List TaskDone)) (ds es : List DeskTells) → CrewDesks o setup start rest first dones ds es → length ds ≡ length es
+crew_as_many o setup start rest first [] [] [] h = refl
+crew_as_many o setup start rest first [] [] (e ∷ es) h = absurd h
+crew_as_many o setup start rest first [] (d ∷ ds) es h = absurd h
+crew_as_many o setup start rest first (done ∷ dones) [] es h = absurd h
+crew_as_many o setup start rest first (done ∷ dones) (d ∷ ds) [] h = absurd h
+crew_as_many o setup start rest first (done ∷ dones) (d ∷ ds) (e ∷ es) h = ap (λ (n : ℕ). suc n) (crew_as_many o setup start rest (first + 1) dones ds es h.1)
 
 pub round_as_many : (o : Opening) (setup : Setup) (m : ℕ) (start final : List Entry) (l : LinkValue) (desks desks' : List DeskTells)
     → GoesOn start final (λ rest. TaggedLeaves o setup (range_with_len 1 m) start rest l desks desks') → length desks ≡ length desks'
-round_as_many o setup m start final l desks desks' goes = crew_as_many goes.0 4 goes.2.dones desks desks' goes.2.desks_did
+round_as_many o setup m start final l desks desks' goes = crew_as_many o setup start goes.0 4 goes.2.dones desks desks' goes.2.desks_did
 
 -- ---- where no memory was found for a round
 

@@ -1,18 +1,17 @@
 -- The tasks that are left when no child can be started any more.
-use Rattle.std.proofs.Common.{◌≡◌, ℕ, ◌<◌, List, [], ◌∷◌, ◌++◌, refl, sym, ap, subst, ◌∙◌, append_assoc, append-nil, length, Bool, true, false, not, ◌==◌, cond, None, Option, arith, inl, inr}
+use Rattle.std.proofs.Common.{◌≡◌, ℕ, ◌<◌, List, [], ◌∷◌, ◌++◌, refl, sym, ap, subst, ◌∙◌, append_assoc, append-nil, length, Bool, true, false, not, ◌==◌, None, Option, arith, inl, inr}
 use Rattle.std.specs.Prelude.{◌&&◌, Ok}
 use Rattle.std.specs.List.{list_all, list_any}
 use Rattle.journal_model.specs.declared.answer.Answer.{Answer}
-use Rattle.journal_model.specs.declared.answer.Answer.TheVariants.{Memory, NoChild}
 use Rattle.journal_model.specs.declared.entry.What.{What}
 use Rattle.journal_model.specs.declared.entry.What.TheVariants.{Claim, Answer as Answered}
 use Rattle.journal_model.specs.declared.entry.Entry.{Entry}
 use Rattle.journal_model.specs.declared.opening.Opening.{Opening}
 use Rattle.journal_model.specs.Journal.{any, is_ended, offers, open_jobs}
-use Rattle.journal_model.specs.Legality.{Legal, count, is_busy, is_start}
+use Rattle.journal_model.specs.Legality.{Legal, count, is_busy, is_start, turn_of_task}
 use Rattle.journal_model.specs.Shares.{are_by, is_of_child}
 use Rattle.journal_model.proofs.Looks.{any-append, each_of-append, either_left}
-use Rattle.journal_model.proofs.Testing.{all-each, all-join, or_false}
+use Rattle.journal_model.proofs.Testing.{all-each, all-join}
 use Rattle.child_start.proofs.Jobs.{idle_on}
 use Rattle.child_end.specs.Programs.{ProgramsValue}
 use Rattle.child_end.specs.Wires.{WireValue}
@@ -21,8 +20,9 @@ use Rattle.task_run.specs.TaskRuns.{failed_start}
 use Rattle.task_run.proofs.Causes.{from_nothing}
 use Rattle.lone_work.specs.Works.{DeskTells}
 use Rattle.lone_rounds.specs.Starting.{AllOffer, children, is_any_start, is_offered, is_ready_untagged, started_in}
-use Rattle.lone_rounds.specs.Rounds.{AllLostWell, AllStandNext, ends_for_memory, is_of_run, left_answer, start_untaken}
+use Rattle.lone_rounds.specs.Rounds.{AllLostWell, AllStandNext, is_of_run, left_answer, start_untaken}
 use Rattle.lone_rounds.specs.Stints.{AnswersLeft, Kept, answered_so, main_entry}
+use Rattle.lone_rounds.proofs.Ending.{left_quiet}
 use Rattle.lone_rounds.proofs.Apart.{ended_on, ready_same}
 use Rattle.lone_rounds.proofs.Leaving.{kept_still}
 use Rattle.lone_rounds.proofs.Losing.{lost_both, lost_tasks, loses_task}
@@ -30,7 +30,8 @@ use Rattle.lone_rounds.proofs.Nexts.{is_quiet, next_both, next_quiet}
 use Rattle.lone_rounds.proofs.Runs.{IsOfNoCall, gained_nothing}
 use Rattle.lone_rounds.proofs.Tests.{any_same, children_up_to, count-append, count_none, no_children, offers_both, offers_none}
 use Rattle.lone_rounds.proofs.Turns.{claim_takes, none_fails}
-use Rattle.lone_rounds.proofs.Zeros.{rests_one}
+use Rattle.lone_rounds.proofs.Zeros.{left_still, rests_one}
+use Rattle.pool_starts.proofs.SlotLaws.{LeavesClaimed, leaves_claimed, leaves_front}
 use Rattle.pool_starts.specs.Slots.{AllInTurn, AreSpent, IsManned, are_spent, is_first_start}
 use Rattle.job_rounds.specs.Desks.{DeskDid, DesksDid, HaveDesks}
 use Rattle.job_rounds.specs.Posts.{AllPosted}
@@ -45,12 +46,12 @@ use Rattle.job_rounds.proofs.Spent.{all_spent_both}
 
 -- ---- what they are not
 
-module _ (answer : Answer) where
-  left_all : (p : What → Bool) → ((t : ℕ) → p (Claim t 0) ≡ true) → ((t : ℕ) → p (Answered t answer) ≡ true) → (ts : List ℕ) → list_all (λ (e : Entry). p e.what) (answered_so answer ts) ≡ true
+module _ (answer : ℕ → Answer) where
+  left_all : (p : What → Bool) → ((t : ℕ) → p (Claim t 0) ≡ true) → ((t : ℕ) → p (Answered t (answer t)) ≡ true) → (ts : List ℕ) → list_all (λ (e : Entry). p e.what) (answered_so answer ts) ≡ true
   left_all p c a [] = refl
   left_all p c a (t ∷ ts) = rw (c t, a t, left_all p c a ts) refl
 
-  left_none : (p : What → Bool) → ((t : ℕ) → p (Claim t 0) ≡ false) → ((t : ℕ) → p (Answered t answer) ≡ false) → (ts : List ℕ) → any p (answered_so answer ts) ≡ false
+  left_none : (p : What → Bool) → ((t : ℕ) → p (Claim t 0) ≡ false) → ((t : ℕ) → p (Answered t (answer t)) ≡ false) → (ts : List ℕ) → any p (answered_so answer ts) ≡ false
   left_none p c a [] = refl
   left_none p c a (t ∷ ts) = rw (c t, a t, left_none p c a ts) refl
 
@@ -59,17 +60,17 @@ module _ (answer : Answer) where
   left_main (t ∷ ts) = left_main ts
 
   abbrev one : ℕ → List Entry
-  one t = main_entry (Claim t 0) ∷ main_entry (Answered t answer) ∷ []
+  one t = main_entry (Claim t 0) ∷ main_entry (Answered t (answer t)) ∷ []
 
   behind_one : (past : List Entry) (t : ℕ) (ts : List ℕ) → past ++ answered_so answer (t ∷ ts) ≡ (past ++ one t) ++ answered_so answer ts
   behind_one past t ts = sym (append_assoc past (one t) (answered_so answer ts))
 
   left_rests : (past : List Entry) (ts : List ℕ) → ((u : ℕ) → is_busy past u ≡ false) → (u : ℕ) → is_busy (past ++ answered_so answer ts) u ≡ false
   left_rests past [] rest u = ap (λ (j : List Entry). is_busy j u) (append-nil past) ∙ rest u
-  left_rests past (t ∷ ts) rest u = ap (λ (j : List Entry). is_busy j u) (behind_one past t ts) ∙ left_rests (past ++ one t) ts (rests_one past t answer rest) u
+  left_rests past (t ∷ ts) rest u = ap (λ (j : List Entry). is_busy j u) (behind_one past t ts) ∙ left_rests (past ++ one t) ts (rests_one past t (answer t) rest) u
 
   one_untaken : (past : List Entry) (t : ℕ) → failed_start (past ++ one t) (start_untaken (past ++ one t)) ≡ None
-  one_untaken past t = none_fails (past ++ one t) (claim_takes past [] t answer refl)
+  one_untaken past t = none_fails (past ++ one t) (claim_takes past [] t (answer t) refl)
 
   left_untaken : (past : List Entry) (ts : List ℕ) → failed_start past (start_untaken past) ≡ None → failed_start (past ++ answered_so answer ts) (start_untaken (past ++ answered_so answer ts)) ≡ None
   left_untaken past [] h = subst (λ (j : List Entry). failed_start j (start_untaken j) ≡ None) (sym (append-nil past)) h
@@ -77,7 +78,7 @@ module _ (answer : Answer) where
 
   left_spent : (past : List Entry) (ts : List ℕ) → are_spent past (answered_so answer ts) ≡ true
   left_spent past [] = refl
-  left_spent past (t ∷ ts) = left_spent ((past ++ main_entry (Claim t 0) ∷ []) ++ main_entry (Answered t answer) ∷ []) ts
+  left_spent past (t ∷ ts) = left_spent ((past ++ main_entry (Claim t 0) ∷ []) ++ main_entry (Answered t (answer t)) ∷ []) ts
 
   still_spent : (past : List Entry) (ts : List ℕ) → AreSpent past → AreSpent (past ++ answered_so answer ts)
   still_spent past ts h = all_spent_both [] past (answered_so answer ts) h (left_spent past ts)
@@ -85,39 +86,29 @@ module _ (answer : Answer) where
   one_spent : (past : List Entry) (t : ℕ) → AreSpent past → AreSpent (past ++ one t)
   one_spent past t h = still_spent past (t ∷ []) h
 
-  one_left : (past : List Entry) (t : ℕ) → left_answer (past ++ one t) ≡ left_answer past
-  one_left past t = ap (λ (b : Bool). cond b Memory NoChild) (any-append ends_for_memory past (one t) ∙ or_false (any ends_for_memory past))
-
   same_count : (past more : List Entry) → any is_first_start more ≡ false → count is_first_start (past ++ more) ≡ count is_first_start past
   same_count past more none = count-append is_first_start past more ∙ (let n = count_none is_first_start more none in omega (arith, n))
 
   -- ---- they are done
 
-  module _ (o : Opening) (setup : Setup) (limit : ℕ) (journal : List Entry) (desk : DeskTells) (quiet : IsOfNoCall answer) where
-    one_did : (past rest : List Entry) (t : ℕ) → journal ≡ past ++ main_entry (Claim t 0) ∷ main_entry (Answered t answer) ∷ rest → UnservedAnswers limit past (failed_start past (start_untaken past)) answer
+  module _ (o : Opening) (setup : Setup) (limit : ℕ) (journal : List Entry) (desk : DeskTells) (quiet : (t : ℕ) → IsOfNoCall (answer t)) where
+    one_did : (past rest : List Entry) (t : ℕ) → journal ≡ past ++ main_entry (Claim t 0) ∷ main_entry (Answered t (answer t)) ∷ rest → UnservedAnswers limit past (failed_start past (start_untaken past)) t (answer t)
         → DeskDid o setup limit journal past (one t) 1 desk desk
     one_did past rest t is answers = record {
-      done = record { task = t; calls = []; answer = answer; counts = desk.counts } ∷ [];
+      done = record { task = t; turn = turn_of_task past t; calls = []; answer = answer t; counts = desk.counts } ∷ [];
       claimed = sym (main_claims past (one t) refl);
       ran = (inr (record { past = past; rest = rest; is = is; answers = answers }, refl), tt);
       log_is = gained_nothing desk.log;
-      caused = (from_nothing desk.counts (Ok answer) quiet, refl);
+      caused = (from_nothing desk.counts (Ok (answer t)) (quiet t), refl);
     }
 
-    left_did : (past : List Entry) (ts : List ℕ) → journal ≡ past ++ answered_so answer ts → count is_first_start past ≡ limit → AreSpent past → answer ≡ left_answer past → failed_start past (start_untaken past) ≡ None
+    left_did : (past : List Entry) (ts : List ℕ) → journal ≡ past ++ answered_so answer ts → count is_first_start past ≡ limit → AreSpent past → ((t : ℕ) → answer t ≡ left_answer past t) → failed_start past (start_untaken past) ≡ None
         → DeskDid o setup limit journal past (answered_so answer ts) 1 desk desk
     left_did past [] is all spent says none = did_nothing o setup limit journal past [] 1 desk refl
     left_did past (t ∷ ts) is all spent says none =
         did_join o setup limit journal past (one t) (answered_so answer ts) 1 desk desk desk
-        (one_did past (answered_so answer ts) t is (subst (λ (x : Option Answer). UnservedAnswers limit past x answer) (sym none) (all, spent, says)))
-        (left_did (past ++ one t) ts (is ∙ behind_one past t ts) (same_count past (one t) refl ∙ all) (one_spent past t spent) (says ∙ sym (one_left past t)) (one_untaken past t))
-
-left_quiet : (past : List Entry) → IsOfNoCall (left_answer past)
-left_quiet past = go (any ends_for_memory past)
-  where
-    go : (b : Bool) → IsOfNoCall (cond b Memory NoChild)
-    go true = refl
-    go false = refl
+        (one_did past (answered_so answer ts) t is (subst (λ (x : Option Answer). UnservedAnswers limit past x t (answer t)) (sym none) (all, spent, says t)))
+        (left_did (past ++ one t) ts (is ∙ behind_one past t ts) (same_count past (one t) refl ∙ all) (one_spent past t spent) (λ u. says u ∙ sym (left_still past answer (t ∷ []) u)) (one_untaken past t))
 
 -- ---- what the run is then
 
@@ -145,15 +136,18 @@ module _ {o : Opening} {setup : Setup} {may : Bool} {limit made : ℕ} {offer : 
       (λ d le. ap (λ (j : List Entry). is_ready_untagged j d) a.is ∙ ready_same old more d (apart d) o b.legal (left_none (left_answer old) (offers d) (λ t. refl) (λ t. refl) a.tasks))
       (children old) (children_up_to (count is_start old) old (few_of o old b.legal)))
 
+  leaves : LeavesClaimed old more
+  leaves = leaves_claimed o old more b.legal (subst (Legal o) a.is legal) b.rest
+
   manned_at : (front rest : List Entry) → more ≡ front ++ rest → IsManned o (length desks0) (old ++ front)
-  manned_at front rest split = manned_still o (length desks0) old front b.legal (front_none is_any_start none) (λ d. front_none (is_of_child d) (apart d)) (b.manned refl)
+  manned_at front rest split = manned_still o (length desks0) old front b.legal (front_none is_any_start none) (leaves_front old front rest more split leaves) (λ d. front_none (is_of_child d) (apart d)) (b.manned refl)
     where
       front_none : (p : What → Bool) → any p more ≡ false → any p front ≡ false
       front_none p h = either_left (any p front) (any p rest) (sym (any-append p front rest) ∙ ap (any p) (sym split) ∙ h)
 
   did_more : (ds : List DeskTells) → DesksDid o setup limit (old ++ more) old more 1 ds ds
   did_more [] = tt
-  did_more (d ∷ ds) = desks_first o setup limit (old ++ more) old more d d ds main (left_did (left_answer old) o setup limit (old ++ more) d (left_quiet old) old a.tasks refl (b.starts ∙ all) spent refl b.untaken)
+  did_more (d ∷ ds) = desks_first o setup limit (old ++ more) old more d d ds main (left_did (left_answer old) o setup limit (old ++ more) d (left_quiet o old b.legal) old a.tasks refl (b.starts ∙ all) spent (λ t. refl) b.untaken)
 
   pub jobs_left : JobsBetween o setup may limit made offer new desks0 desks true
   jobs_left = record {
@@ -174,7 +168,7 @@ module _ {o : Opening} {setup : Setup} {may : Bool} {limit made : ℕ} {offer : 
     untaken = subst (λ (j : List Entry). failed_start j (start_untaken j) ≡ None) (sym a.is) (left_untaken (left_answer old) old a.tasks b.untaken);
     placed = subst (HaveDesks (length desks0) []) (sym a.is) (have_both (length desks0) [] old more b.placed (have_main (length desks0) old more some main));
     did = subst (λ (j : List Entry). DesksDid o setup limit j [] j 1 desks0 desks) (sym a.is)
-        (desks_join o setup limit (old ++ more) [] old more 1 desks0 desks desks (desks_on o setup limit old more [] old 1 desks0 desks b.legal b.rest b.did) (did_more desks));
+        (desks_join o setup limit (old ++ more) [] old more 1 desks0 desks desks (desks_on o setup limit old more [] old 1 desks0 desks b.did) (did_more desks));
     alone = λ one. ap (are_by 0) a.is ∙ all-join (λ (e : Entry). e.by == 0) old more (b.alone one) main;
     shut = λ d. ap (λ (j : List Entry). open_jobs j d) a.is ∙ idle_on old more d (unasked d more (apart d)) (b.shut d);
   }

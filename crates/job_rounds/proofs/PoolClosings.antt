@@ -5,10 +5,11 @@ use Rattle.std.specs.List.{list_all, list_any}
 use Rattle.std.proofs.lemmas.Bool.Decides.{nat_tests}
 use Rattle.std.proofs.lemmas.List.Elements.{All-head, All-tail}
 use Rattle.journal_model.specs.declared.entry.What.{What}
-use Rattle.journal_model.specs.declared.entry.What.TheVariants.{Claim, Start, NoStart, Ask, End, Lost}
+use Rattle.journal_model.specs.declared.entry.What.TheVariants.{Claim, Start, NoStart, Ask, End, Lost, Answer as Answered, Again}
+use Rattle.journal_model.proofs.Holding.{claimed, closed}
 use Rattle.journal_model.specs.declared.entry.Entry.{Entry}
 use Rattle.journal_model.specs.Halves.{EarValue, MouthValue}
-use Rattle.journal_model.specs.Journal.{any, asks, is_ended}
+use Rattle.journal_model.specs.Journal.{any, asks, each_of, is_ended}
 use Rattle.journal_model.specs.Makers.{is_of_task}
 use Rattle.journal_model.specs.Shares.{are_by, is_closed, is_of_child}
 use Rattle.journal_model.proofs.Looks.{both, differ, same, same_number}
@@ -19,14 +20,13 @@ use Rattle.gathering.specs.Rounds.{IsAtRest, LinkValue}
 use Rattle.child_end.specs.Wires.{IsHeld}
 use Rattle.child_end.proofs.Held.{held_apart, held_closed}
 use Rattle.child_start.proofs.Jobs.{idle_on}
-use Rattle.lone_work.specs.Works.{claimed_task, claims_in}
 use Rattle.lone_rounds.specs.Rounds.{is_of_run}
 use Rattle.lone_rounds.specs.Starting.{is_any_start}
 use Rattle.lone_rounds.proofs.Apart.{ended_on}
 use Rattle.lone_rounds.proofs.Losing.{loses_task}
 use Rattle.lone_rounds.proofs.Stinting.{Closing, closing, of_closing}
 use Rattle.lone_rounds.proofs.Tests.{any_none, each_none}
-use Rattle.pool_starts.specs.Pools.{is_claim}
+use Rattle.pool_starts.specs.Pools.{changes_claim}
 use Rattle.pool_starts.specs.Slots.{in_pool}
 use Rattle.job_rounds.specs.PoolSteps.{ClosesAll}
 use Rattle.job_rounds.proofs.RoundDid.{equal_test}
@@ -75,13 +75,19 @@ closing_starts cs (Start child slot offer) h = absurd cc
 closing_starts cs (NoStart slot) h = absurd cc
 closing_starts cs w h = refl
 
-closing_takes : (cs : List ℕ) (w : What) → closes_one cs w ≡ true → claimed_task w ≡ None
+closing_takes : (cs : List ℕ) (w : What) → closes_one cs w ≡ true → claimed w ≡ None
 closing_takes cs (Claim task child) h = absurd cc
 closing_takes cs w h = refl
 
-closing_unclaims : (cs : List ℕ) (w : What) → closes_one cs w ≡ true → is_claim w ≡ false
+closing_unclaims : (cs : List ℕ) (w : What) → closes_one cs w ≡ true → changes_claim w ≡ false
 closing_unclaims cs (Claim task child) h = absurd cc
+closing_unclaims cs (Again task answer) h = absurd cc
 closing_unclaims cs w h = refl
+
+closing_keeps : (cs : List ℕ) (w : What) → closes_one cs w ≡ true → closed w ≡ None
+closing_keeps cs (Answered task answer) h = absurd cc
+closing_keeps cs (Again task answer) h = absurd cc
+closing_keeps cs w h = refl
 
 closing_asks : (cs : List ℕ) (d : ℕ) (w : What) → closes_one cs w ≡ true → asks d w ≡ None
 closing_asks cs d (Ask child job task line) h = absurd cc
@@ -113,11 +119,14 @@ module _ {cs : List ℕ} {mid new : List Entry} (k : Closings cs mid new) where
   pub closings_start : any is_any_start k.tail ≡ false
   closings_start = any_none (closes_one cs) is_any_start (closing_starts cs) k.tail k.all
 
-  pub closings_take : claims_in k.tail ≡ []
-  closings_take = each_none claimed_task (closes_one cs) (closing_takes cs) k.tail k.all
+  pub closings_take : each_of claimed k.tail ≡ []
+  closings_take = each_none claimed (closes_one cs) (closing_takes cs) k.tail k.all
 
-  pub closings_claim : any is_claim k.tail ≡ false
-  closings_claim = any_none (closes_one cs) is_claim (closing_unclaims cs) k.tail k.all
+  pub closings_close : each_of closed k.tail ≡ []
+  closings_close = each_none closed (closes_one cs) (closing_keeps cs) k.tail k.all
+
+  pub closings_claim : any changes_claim k.tail ≡ false
+  closings_claim = any_none (closes_one cs) changes_claim (closing_unclaims cs) k.tail k.all
 
   pub closings_ask : list_all (λ e. is_of_run e.what) k.tail ≡ true
   closings_ask = all-each (λ (e : Entry). closes_one cs e.what) (λ (e : Entry). is_of_run e.what) (λ e. closing_of_run cs e.what) k.tail k.all

@@ -9,17 +9,17 @@ use Rattle.journal_model.specs.declared.verdict.Why.{Why}
 use Rattle.journal_model.specs.declared.verdict.Why.TheVariants.{Closed}
 use Rattle.journal_model.specs.declared.answer.Answer.{Answer}
 use Rattle.journal_model.specs.declared.entry.What.{What}
-use Rattle.journal_model.specs.declared.entry.What.TheVariants.{Claim, Start, NoStart, Lead, Ask, Put, Sent, Mute, Got, End, Verdict as Settled, Lost, Answer as Answered, Note as Noted}
+use Rattle.journal_model.specs.declared.entry.What.TheVariants.{Claim, Start, NoStart, Lead, Ask, Put, Sent, Mute, Got, End, Verdict as Settled, Lost, Answer as Answered, Note as Noted, Again}
 use Rattle.journal_model.specs.declared.entry.Entry.{Entry}
 use Rattle.journal_model.specs.declared.opening.Opening.{Opening}
 use Rattle.journal_model.specs.Journal.{any, asked_jobs, is_ended, is_mute, is_started, is_tagged, open_jobs, verdict_of, why_of}
 use Rattle.journal_model.specs.Legality.{Legal, count, is_busy, is_done, is_prepared, prepares}
-use Rattle.journal_model.specs.Makers.{made_by_number}
-use Rattle.journal_model.specs.Output.{answer_in, answers_in}
+use Rattle.gathering.specs.Tasks.{turns_by}
+use Rattle.gathering.proofs.Turning.{turns_by-append}
 use Rattle.journal_model.specs.Shares.{are_by, is_of_child}
 use Rattle.journal_model.proofs.Idling.{asks_none, mains_ask}
 use Rattle.journal_model.proofs.Linking.{why_is_end, why_of-append}
-use Rattle.journal_model.proofs.Looks.{any-append, both, differ, each_of-append, either_left, is_asked, same_number}
+use Rattle.journal_model.proofs.Looks.{any-append, both, differ, either_left, is_asked, same_number}
 use Rattle.journal_model.proofs.Projecting.{invariant}
 use Rattle.journal_model.proofs.Testing.{all-each, all-join, all-split, by_either, or_left, or_right}
 use Rattle.journal_model.proofs.Verdicts.{unasked_none}
@@ -31,7 +31,7 @@ use Rattle.gathering.specs.Rounds.{IsAmong, IsAtRest, IsLostChild, LinkValue, Ro
 use Rattle.gathering.specs.Tasks.{IsThrough}
 use Rattle.child_start.proofs.Jobs.{idle_on}
 use Rattle.task_run.specs.declared.setup.Setup.{Setup}
-use Rattle.lone_work.specs.Works.{DeskTells, by_worker, claimed_task, claims_in}
+use Rattle.lone_work.specs.Works.{DeskTells, by_worker}
 use Rattle.lone_rounds.specs.Rounds.{AllLostWell, is_of_run}
 use Rattle.lone_rounds.specs.Starting.{is_any_start, is_unclosed}
 use Rattle.lone_rounds.specs.Stints.{HasServed, TasksDone, in_stint}
@@ -40,19 +40,18 @@ use Rattle.lone_rounds.proofs.Later.{late, late_from}
 use Rattle.lone_rounds.proofs.Losing.{lost_others, lost_tasks, loses_task}
 use Rattle.lone_rounds.proofs.Runs.{done_same, gained_nothing, worker_runs}
 use Rattle.lone_rounds.proofs.Served.{all_unclosed}
-use Rattle.lone_rounds.proofs.Stinting.{Closing, Part, closing, closing_loses, closing_part, closing_rests, of_closing, part_both, worker_loses, worker_part}
-use Rattle.lone_rounds.proofs.Tests.{any_none, claimed_on}
-use Rattle.crew_work.specs.Crews.{claims_by}
+use Rattle.lone_rounds.proofs.Stinting.{Closing, Part, closing, closing_claims, closing_loses, closing_part, closing_rests, of_closing, part_both, worker_loses, worker_part}
+use Rattle.lone_rounds.proofs.Tests.{any_none}
 use Rattle.crew_rounds.specs.PoolChildren.{MayServe, PoolCan}
 use Rattle.pool_rounds.specs.Pool.{AreSameLinks, PoolLeaves}
-use Rattle.pool_starts.specs.Pools.{is_claim}
+use Rattle.pool_starts.specs.Pools.{changes_claim}
 use Rattle.pool_starts.specs.Slots.{in_pool, is_lost}
 use Rattle.job_rounds.specs.Desks.{DesksDid, HaveDesks, claims_for}
 use Rattle.job_rounds.specs.PoolSteps.{RoundsPool}
 use Rattle.job_rounds.specs.Posts.{AllPosted, since_start}
 use Rattle.job_rounds.specs.Servings.{ServesAlone}
 use Rattle.job_rounds.proofs.Desks.{desks_main, desks_nothing, have_main}
-use Rattle.job_rounds.proofs.PoolPosts.{pool_asks, pool_claims, pool_desks, pool_stands, pool_within, start_is_mains}
+use Rattle.job_rounds.proofs.PoolPosts.{pool_asks, pool_claims, pool_desks, pool_within, start_is_mains}
 use Rattle.job_rounds.proofs.Pairing.{paired_first}
 use Rattle.job_rounds.proofs.Posting.{none_main, posted_main, posted_pool}
 use Rattle.job_rounds.proofs.PoolTags.{prepared_on, starts_offer, tag_stays}
@@ -136,7 +135,7 @@ pub record Middle (o : Opening) (setup : Setup) (limit first : ℕ) (links : Lis
   pub asks : list_all (λ e. is_of_run e.what) rest ≡ true
   pub lost : AllLostWell g rest
   pub posts : AllPosted g rest
-  pub quiet : whole ≡ false → any is_claim rest ≡ false
+  pub quiet : whole ≡ false → any changes_claim rest ≡ false
   pub legal : Legal o mid
   pub calm : IsAtRest mid
   pub placed : HaveDesks (length desks) g rest
@@ -165,14 +164,14 @@ middle_none o setup limit first links g desks legal calm = record {
 
 -- ---- the desks that no worker has
 
--- a number after those of the round makes nothing
-numbered_none : (many n : ℕ) (xs : List Entry) → 1 + many < n → list_all (λ (e : Entry). list_any (λ (m : ℕ). m == e.by) (range_with_len 1 (1 + many))) xs ≡ true → made_by_number n xs ≡ []
-numbered_none many n [] far h = refl
-numbered_none many n (e ∷ xs) far h =
+-- a number after those of the round claims nothing
+numbered_none : (many n : ℕ) (past xs : List Entry) → 1 + many < n → list_all (λ (e : Entry). list_any (λ (m : ℕ). m == e.by) (range_with_len 1 (1 + many))) xs ≡ true → turns_by n past xs ≡ []
+numbered_none many n past [] far h = refl
+numbered_none many n past (e ∷ xs) far h =
     let t = both (list_any (λ (m : ℕ). m == e.by) (range_with_len 1 (1 + many))) (list_all (λ (x : Entry). list_any (λ (m : ℕ). m == x.by) (range_with_len 1 (1 + many))) xs) h in
     let below = (in_range 1 (1 + many) e.by t.0).1 in
     let other : (e.by == n) ≡ false = differ e.by n (λ z. absurd (let bad : ⊥ = omega (arith, z, below, far) in bad)) in
-    rw (other, numbered_none many n xs far t.1) refl
+    rw (other, numbered_none many n (past ++ e ∷ []) xs far t.1) refl
 
 module _ (o : Opening) (setup : Setup) (limit : ℕ) (journal past xs : List Entry) where
   others_nothing : (k : ℕ) (others : List DeskTells) → ((n : ℕ) → k ≤ n → claims_for n past xs ≡ []) → DesksDid o setup limit journal past xs k others others
@@ -244,7 +243,7 @@ module _ (o : Opening) (setup : Setup) (limit first : ℕ) (g mid : List Entry) 
   here : Behind g g
   here = ([], sym (append-nil g), refl)
 
-  claimed_so : (k : ℕ) → claims_for k g rest ≡ claims_by (k + 1) rest
+  claimed_so : (k : ℕ) → claims_for k g rest ≡ turns_by (k + 1) g rest
   claimed_so k = pool_claims links (Behind g) behind_on (λ past b. both_tags past b links ready untagged) k g rest here no_starts rounded.posts
 
   many : length r.used ≡ length links
@@ -253,8 +252,8 @@ module _ (o : Opening) (setup : Setup) (limit first : ℕ) (g mid : List Entry) 
   did : DesksDid o setup limit (g ++ rest) g rest 1 desks desks'
   did = subst (λ (ds : List DeskTells). DesksDid o setup limit (g ++ rest) g rest 1 ds desks') (sym r.before) (subst (λ (ds : List DeskTells). DesksDid o setup limit (g ++ rest) g rest 1 (r.used ++ r.others) ds) (sym r.after)
       (desks_beside o setup limit (g ++ rest) g rest 1 r.used r.used' r.others
-      (λ n le. claimed_so n ∙ ap claims_in (numbered_none (length links) (n + 1) rest (let so = many in omega (arith, le, so)) rounded.numbered))
-      (any_round_did o setup limit 1 g rest leaves.dones rounded.legal (λ t h. pool_stands links t rest numbers rounded.posts h) claimed_so leaves.round.ran r.used r.used' leaves.desks_did)))
+      (λ n le. claimed_so n ∙ numbered_none (length links) (n + 1) g rest (let so = many in omega (arith, le, so)) rounded.numbered)
+      (any_round_did o setup limit 1 g rest claimed_so leaves.dones r.used r.used' leaves.desks_did)))
 
   few : length links ≤ length desks
   few = (let so = many in let all = ap (λ (ds : List DeskTells). length ds) r.before ∙ length-append r.used r.others in omega (arith, so, all))
@@ -309,6 +308,7 @@ stint_pool first c w le h = go w h
     go (Settled child job verdict) k = at child k
     go (Lost child task) k = at child k
     go (Answered task answer) k = refl
+    go (Again task answer) k = refl
     go (Noted task chunk count) k = refl
 
 worker_ends : (c : ℕ) (w : What) → by_worker c w ≡ true → is_unclosed_end w ≡ true
@@ -383,27 +383,23 @@ module _ (o : Opening) (setup : Setup) (limit first : ℕ) (g mid : List Entry) 
   part = part_both c worked k.tail
       (worker_part c worked s.worked.only s.worked.own (late_from o c g worked legal (subst (Legal o) s.worked.is s.can.legal) (two_jobs o g c legal its.serves.prepared))) (closing_part c k.tail k.one)
 
-  taken : claims_in then ≡ claims_in worked
-  taken = each_of-append claimed_task worked k.tail ∙ ap (λ (x : List ℕ). claims_in worked ++ x) (of_closing c k.tail k.one (λ (x : List Entry). claims_in x ≡ []) refl refl) ∙ append-nil (claims_in worked)
-
-  given : answers_in then ≡ answers_in worked
-  given = each_of-append answer_in worked k.tail ∙ ap (λ (x : List (ℕ × Answer)). answers_in worked ++ x) (of_closing c k.tail k.one (λ (x : List Entry). answers_in x ≡ []) refl refl) ∙ append-nil (answers_in worked)
+  taken : turns_by 0 g then ≡ turns_by 0 g worked
+  taken = turns_by-append 0 g worked k.tail ∙ ap (λ (x : List (ℕ × ℕ)). turns_by 0 g worked ++ x) (of_closing c k.tail k.one (λ (x : List Entry). turns_by 0 (g ++ worked) x ≡ []) refl refl) ∙ append-nil (turns_by 0 g worked)
 
   -- more starts than were made: none of these tasks was claimed without a child
   abbrev most : ℕ
   most = count is_any_start mid + 1
 
-  done : TasksDone o setup most mid then a.desk a.desk'
+  done : TasksDone o setup most mid g then a.desk a.desk'
   done =
-      let at_end : TasksDone o setup most (s.mid ++ k.tail) worked a.desk a.desk' = record {
+      let at_end : TasksDone o setup most (s.mid ++ k.tail) g worked a.desk a.desk' = record {
         done = s.worked.done;
         claimed = s.worked.claimed;
-        answered = s.worked.answered;
-        ran = worker_runs o setup most c s.mid k.tail s.worked.done s.can.number s.can.legal s.can.rest s.worked.ran;
+        ran = worker_runs o setup most c s.mid k.tail s.worked.done s.can.number s.worked.ran;
         log_is = s.worked.log_is;
         caused = s.worked.caused;
       } in
-      done_same o setup most mid worked then a.desk a.desk' taken given (subst (λ (j : List Entry). TasksDone o setup most j worked a.desk a.desk') (sym k.is) at_end)
+      done_same o setup most mid g g worked then a.desk a.desk' taken (subst (λ (j : List Entry). TasksDone o setup most j g worked a.desk a.desk') (sym k.is) at_end)
 
   did_alone : DesksDid o setup limit mid g then 1 desks desks'
   did_alone = subst (λ (ds : List DeskTells). DesksDid o setup limit mid g then 1 ds desks') (sym a.before) (subst (λ (ds : List DeskTells). DesksDid o setup limit mid g then 1 (a.desk ∷ a.others) ds) (sym a.after)
@@ -425,7 +421,7 @@ module _ (o : Opening) (setup : Setup) (limit first : ℕ) (g mid : List Entry) 
       unclosed h = still_unclosed g worked c ends its.unclosed (ap (λ (j : List Entry). why_of j c) (sym s.worked.is) ∙ h)
 
       go : IsThrough o s.mid c → (list_any (λ (x : LinkValue). is_lost mid x.ear.child) (l ∷ links) ≡ true) ⊎ (are_all_claimed o mid ≡ true)
-      go (inl all) = inr (ap (are_all_claimed o) k.is ∙ claimed_on o s.mid k.tail all)
+      go (inl all) = inr (ap (are_all_claimed o) k.is ∙ closing_claims c k.tail k.one o s.mid ∙ all)
       go (inr gone) = inl (or_left (is_lost mid c) (list_any (λ (x : LinkValue). is_lost mid x.ear.child) links)
           (ap (λ (j : List Entry). is_lost j c) k.is ∙ lost_on s.mid k.tail c (gone_lost s.mid c s.can.prepared gone unclosed)))
 

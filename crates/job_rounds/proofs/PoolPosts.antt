@@ -5,11 +5,11 @@ use Rattle.std.specs.List.{list_all, list_any, cons_option, range_with_len}
 use Rattle.std.proofs.lemmas.Bool.Decides.{nat_tests}
 use Rattle.std.proofs.lemmas.List.Elements.{All-head, All-tail, All-weaker}
 use Rattle.journal_model.specs.declared.entry.What.{What}
-use Rattle.journal_model.specs.declared.entry.What.TheVariants.{Claim, Start, NoStart, Lead, Ask, Put, Sent, Mute, Got, End, Verdict as Settled, Lost, Answer as Answered, Note as Noted}
+use Rattle.journal_model.specs.declared.entry.What.TheVariants.{Claim, Start, NoStart, Lead, Ask, Put, Sent, Mute, Got, End, Verdict as Settled, Lost, Answer as Answered, Note as Noted, Again}
 use Rattle.journal_model.specs.declared.entry.Entry.{Entry}
 use Rattle.journal_model.specs.Journal.{any, is_tagged}
-use Rattle.journal_model.specs.Legality.{claims, is_claimed}
-use Rattle.journal_model.specs.Makers.{made_by_number}
+use Rattle.journal_model.specs.Legality.{turn_of_task}
+use Rattle.gathering.specs.Tasks.{claimed_turn, turns_by}
 use Rattle.journal_model.specs.Shares.{is_closed}
 use Rattle.journal_model.proofs.Idling.{are_mains, asks_none}
 use Rattle.journal_model.proofs.Looks.{both, differ, either_left, either_right, entry, same_number}
@@ -18,14 +18,12 @@ use Rattle.gathering.specs.Posts.{Idle, is_mains, lone_post, makes, pool_crew, s
 use Rattle.gathering.specs.Rounds.{LinkValue}
 use Rattle.child_start.specs.Greetings.{asks_for}
 use Rattle.child_start.specs.declared.greeting.Mode.TheVariants.{Serve}
-use Rattle.lone_work.specs.Works.{claims_in}
 use Rattle.lone_rounds.specs.Starting.{is_any_start}
 use Rattle.lone_rounds.specs.Rounds.{is_of_run}
 use Rattle.lone_rounds.proofs.Later.{late}
-use Rattle.crew_work.specs.Crews.{claims_by}
 use Rattle.pool_starts.specs.Slots.{in_pool}
 use Rattle.job_rounds.specs.Desks.{HasDesk, HaveDesks, claimed_for, claims_for, desk_of}
-use Rattle.job_rounds.proofs.RoundDid.{Stands, equal_test, in_range, same_test, stands_behind}
+use Rattle.job_rounds.proofs.RoundDid.{equal_test, in_range, same_test}
 
 -- ---- the post of a number
 
@@ -81,6 +79,7 @@ serves_within first c (End child why) le h = at_least first c child le (both (ch
 serves_within first c (Settled child job verdict) le h = at_least first c child le (or_first (child == c) false refl h)
 serves_within first c (Lost child task) le h = at_least first c child le h
 serves_within first c (Answered task answer) le h = refl
+serves_within first c (Again task answer) le h = refl
 serves_within first c (Noted task chunk count) le h = refl
 serves_within first c w le h = absurd cc
 
@@ -146,52 +145,27 @@ module _ (links : List LinkValue) where
       later_tail x ys ls all = All-weaker (λ (l : LinkValue). list_all (λ (y : Entry). late l.ear.child y.what) (x ∷ ys) ≡ true) (λ (l : LinkValue). list_all (λ (y : Entry). late l.ear.child y.what) ys ≡ true)
           (λ l k. (both (late l.ear.child x.what) (list_all (λ (y : Entry). late l.ear.child y.what) ys) k).1) ls all
 
-  -- a task that is claimed is claimed for one of the children
-  pub pool_stands : (t : ℕ) (xs : List Entry) → All (λ (l : LinkValue). 0 < l.ear.child) links → are_posted cs xs ≡ true → is_claimed xs t ≡ true → (c : ℕ) × (0 < c) × Stands xs (Claim t c)
-  pool_stands t [] some h k = absurd cc
-  pool_stands t (e ∷ xs) some h k =
-      let s = both (makes (pool_crew cs e.by) e.what) (are_posted cs xs) h in
-      step e.what (posted cs e.by e.what s.0) k (λ j. pool_stands t xs some s.1 j)
-    where
-      behind : (w : What) → (c : ℕ) × (0 < c) × Stands xs (Claim t c) → (c : ℕ) × (0 < c) × Stands (entry e.by w ∷ xs) (Claim t c)
-      behind w r = (r.0, r.1, stands_behind (entry e.by w) xs (Claim t r.0) r.2)
-
-      step : (w : What) → Posted cs e.by w → (claims t w || is_claimed xs t) ≡ true → (is_claimed xs t ≡ true → (c : ℕ) × (0 < c) × Stands xs (Claim t c)) → (c : ℕ) × (0 < c) × Stands (entry e.by w ∷ xs) (Claim t c)
-      step (Claim task child) p j r = go (task == t) refl j
-        where
-          mine : 0 < child
-          mine = subst (λ (c : ℕ). 0 < c) (sym (claims_its p.child task child p.serves_it)) (at_place (λ (c : ℕ). 0 < c) links (e.by - 2) p.child some p.place)
-
-          go : (b : Bool) → (task == t) ≡ b → (b || is_claimed xs t) ≡ true → (c : ℕ) × (0 < c) × Stands (entry e.by (Claim task child) ∷ xs) (Claim t c)
-          go true x i = (child, mine, record { front = []; by = e.by; back = xs; is = ap (λ (u : ℕ). entry e.by (Claim u child) ∷ xs) (same_number task t x) })
-          go false x i = behind (Claim task child) (r i)
-      step w p j r = behind w (r j)
-
   -- the links' children take no tags, and go on so
   module _ (Untagged : List Entry → Type 0) (on : (past : List Entry) (e : Entry) → is_any_start e.what ≡ false → Untagged past → Untagged (past ++ e ∷ []))
       (none_tagged : (past : List Entry) → Untagged past → All (λ (l : LinkValue). is_tagged past l.ear.child ≡ false) links) where
     untagged_at : (past : List Entry) (n : ℕ) (w : What) → Untagged past → (p : Posted cs n w) → is_tagged past p.child ≡ false
     untagged_at past n w u p = at_place (λ (c : ℕ). is_tagged past c ≡ false) links (n - 2) p.child (none_tagged past u) p.place
 
-    pub pool_claims : (k : ℕ) (past xs : List Entry) → Untagged past → any is_any_start xs ≡ false → are_posted cs xs ≡ true → claims_for k past xs ≡ claims_by (k + 1) xs
+    pub pool_claims : (k : ℕ) (past xs : List Entry) → Untagged past → any is_any_start xs ≡ false → are_posted cs xs ≡ true → claims_for k past xs ≡ turns_by (k + 1) past xs
     pool_claims k past [] u z h = refl
     pool_claims k past (e ∷ xs) u z h =
         let t = both (makes (pool_crew cs e.by) e.what) (are_posted cs xs) h in
         step e.what (posted cs e.by e.what t.0) (pool_claims k (past ++ e ∷ []) xs (on past e (either_left (is_any_start e.what) (any is_any_start xs) z) u) (either_right (is_any_start e.what) (any is_any_start xs) z) t.1)
       where
-        step : (w : What) → Posted cs e.by w → claims_for k (past ++ e ∷ []) xs ≡ claims_by (k + 1) xs
-            → cons_option (claimed_for k past e.by w) (claims_for k (past ++ e ∷ []) xs) ≡ claims_in (cond (e.by == k + 1) (entry e.by w ∷ made_by_number (k + 1) xs) (made_by_number (k + 1) xs))
+        step : (w : What) → Posted cs e.by w → claims_for k (past ++ e ∷ []) xs ≡ turns_by (k + 1) (past ++ e ∷ []) xs
+            → cons_option (claimed_for k past e.by w) (claims_for k (past ++ e ∷ []) xs) ≡ cons_option (cond (e.by == k + 1) (claimed_turn past w) None) (turns_by (k + 1) (past ++ e ∷ []) xs)
         step (Claim task child) p r =
             let tag : is_tagged past child ≡ false = ap (is_tagged past) (claims_its p.child task child p.serves_it) ∙ untagged_at past e.by (Claim task child) u p in
             let desk : (desk_of past e.by child == k) ≡ (e.by == k + 1) = pool_desk past e.by child k tag p.high in
-            rw desk (go (e.by == k + 1))
-          where
-            go : (b : Bool) → cons_option (cond b (Some task) None) (claims_for k (past ++ e ∷ []) xs) ≡ claims_in (cond b (entry e.by (Claim task child) ∷ made_by_number (k + 1) xs) (made_by_number (k + 1) xs))
-            go true = ap (λ (l : List ℕ). task ∷ l) r
-            go false = r
+            rw desk (ap (cons_option (cond (e.by == k + 1) (Some (task, turn_of_task past task)) None)) r)
         step w p r = go (e.by == k + 1)
           where
-            go : (b : Bool) → cons_option (claimed_for k past e.by w) (claims_for k (past ++ e ∷ []) xs) ≡ claims_in (cond b (entry e.by w ∷ made_by_number (k + 1) xs) (made_by_number (k + 1) xs))
+            go : (b : Bool) → cons_option (claimed_for k past e.by w) (claims_for k (past ++ e ∷ []) xs) ≡ cons_option (cond b (claimed_turn past w) None) (turns_by (k + 1) (past ++ e ∷ []) xs)
             go true = r
             go false = r
 

@@ -36,7 +36,7 @@ use Rattle.lone_rounds.proofs.Apart.{no_start_in}
 use Rattle.lone_rounds.proofs.Leaving.{adds_both, adds_one, none_told}
 use Rattle.lone_rounds.proofs.Losing.{greeted_next, lost_both, lost_greeting}
 use Rattle.lone_rounds.proofs.Nexts.{next_both, next_quiet}
-use Rattle.lone_rounds.proofs.Stinting.{greeting_part, greeting_takes_none, quiet_greeting}
+use Rattle.lone_rounds.proofs.Stinting.{greeting_part, greeting_claims_none, quiet_greeting}
 use Rattle.lone_rounds.proofs.Tests.{any_none, count-append, count_none, each_none, no_children, none_came}
 use Rattle.pool_starts.specs.Slots.{AllInTurn, begins_by_start, has_pool, in_pool, is_first_start, is_lost, is_unclaimed_since, last_slot, offers_tags, slot_of, spends}
 use Rattle.job_rounds.specs.Desks.{DesksDid, HaveDesks}
@@ -286,9 +286,9 @@ module _ (o : Opening) (setup : Setup) (limit : ℕ) (offer : Bool) (old g new :
     manned = s.manned;
     untaken = subst NoneUntaken (sym s.is) (pool_taken s.later [] (sym (append-nil s.later)));
     offers = refl;
-    placed = have_both (length desks) at_start greeted.more s.later (have_none (length desks) at_start greeted.more (greeting_takes_none old g offer c greeted))
+    placed = have_both (length desks) at_start greeted.more s.later (have_none (length desks) at_start greeted.more (greeting_claims_none old g offer c greeted))
         (subst (λ (p : List Entry). HaveDesks (length desks) p s.later) at_greeted s.placed);
-    did = desks_join o setup limit new at_start greeted.more s.later 1 desks desks desks' (desks_nothing o setup limit new at_start greeted.more 1 desks (greeting_takes_none old g offer c greeted))
+    did = desks_join o setup limit new at_start greeted.more s.later 1 desks desks desks' (desks_nothing o setup limit new at_start greeted.more 1 desks (greeting_claims_none old g offer c greeted))
         (subst (λ (p : List Entry). DesksDid o setup limit new p s.later 1 desks desks') at_greeted s.did);
     alone = λ one. absurd (many one);
     shut = λ shut. rest_shut new s.calm;

@@ -6,10 +6,10 @@ use Rattle.std.proofs.lemmas.Bool.Decides.{nat_tests}
 use Rattle.std.proofs.lemmas.List.Elements.{All-cons, All-head, All-nil, All-weaker}
 use Rattle.ann_outside.specs.Starts.{Starts}
 use Rattle.journal_model.specs.declared.entry.What.{What}
-use Rattle.journal_model.specs.declared.entry.What.TheVariants.{Claim, Start, NoStart, Lead, Ask, Put, Sent, Mute, Got, End, Verdict as Settled, Lost, Answer as Answered, Note as Noted}
+use Rattle.journal_model.specs.declared.entry.What.TheVariants.{Claim, Start, NoStart, Lead, Ask, Put, Sent, Mute, Got, End, Verdict as Settled, Lost, Answer as Answered, Note as Noted, Again}
 use Rattle.journal_model.specs.declared.entry.Entry.{Entry}
 use Rattle.journal_model.specs.declared.opening.Opening.{Opening}
-use Rattle.journal_model.specs.Journal.{any, is_ended, is_started, is_tagged}
+use Rattle.journal_model.specs.Journal.{any, each_of, is_ended, is_started, is_tagged}
 use Rattle.journal_model.specs.Legality.{Legal, count, is_prepared, is_start}
 use Rattle.journal_model.specs.Shares.{are_by}
 use Rattle.journal_model.proofs.Looks.{any-append, both, each_of-append, same_number}
@@ -22,23 +22,24 @@ use Rattle.child_start.proofs.Begun.{later_unstarted}
 use Rattle.gathering.specs.Laws.{Distinct, children_of}
 use Rattle.gathering.specs.Rounds.{LinkValue}
 use Rattle.task_run.specs.declared.setup.Setup.{Setup}
-use Rattle.lone_work.specs.Works.{DeskTells, claimed_task, claims_in}
+use Rattle.lone_work.specs.Works.{DeskTells}
+use Rattle.journal_model.proofs.Holding.{claimed}
 use Rattle.lone_rounds.specs.Rounds.{AllLostWell, is_of_run}
 use Rattle.lone_rounds.specs.Starting.{children, is_any_start, started_in}
 use Rattle.lone_rounds.proofs.Apart.{ended_on}
 use Rattle.lone_rounds.proofs.Losing.{lost_both, lost_tasks}
-use Rattle.lone_rounds.proofs.Tests.{claimed_on, each_without, no_children}
+use Rattle.lone_rounds.proofs.Tests.{claimed_same, each_without, no_children}
 use Rattle.crew_rounds.specs.PoolChildren.{MayServe, PoolCan}
-use Rattle.pool_starts.specs.Pools.{AreSeated, Gathered, SeatValue, is_among, is_claim}
+use Rattle.pool_starts.specs.Pools.{AreSeated, Gathered, SeatValue, is_among, changes_claim}
 use Rattle.pool_starts.specs.Slots.{AllInTurn, IsManned, in_pool, is_lost, offers_tags}
-use Rattle.pool_starts.proofs.SlotLaws.{IsFilled, filled_on, turn_both, turn_filled, turn_quiet}
+use Rattle.pool_starts.proofs.SlotLaws.{IsFilled, LeavesClaimed, filled_on, leaves_claimed, turn_both, turn_filled, turn_quiet}
 use Rattle.job_rounds.specs.Desks.{DesksDid, HaveDesks}
 use Rattle.job_rounds.specs.Pools.{LeavesPool, PoolServed}
 use Rattle.job_rounds.specs.PoolSteps.{ClosesAll}
 use Rattle.job_rounds.specs.Posts.{AllPosted, since_start}
 use Rattle.job_rounds.specs.Servings.{CanBeServed}
 use Rattle.job_rounds.proofs.Desks.{desks_join, desks_nothing, desks_on, have_both, have_none}
-use Rattle.job_rounds.proofs.PoolClosings.{Closings, closings, closings_calm, closings_ask, closings_claim, closings_lose, closings_start, closings_take, closings_within}
+use Rattle.job_rounds.proofs.PoolClosings.{Closings, closings, closings_calm, closings_ask, closings_claim, closings_close, closings_lose, closings_start, closings_take, closings_within}
 use Rattle.job_rounds.proofs.PoolMiddle.{Middle, lost_on}
 use Rattle.job_rounds.proofs.Posting.{posted_both, posted_main}
 use Rattle.job_rounds.proofs.PoolTags.{later_ascend, later_untagged, seated_above, seated_any, tag_stays, tags_offer}
@@ -72,9 +73,10 @@ pool_wider first n w le h = go w h
     go (Settled child job verdict) k = low child k
     go (Lost child task) k = low child k
     go (Answered task answer) k = refl
+    go (Again task answer) k = refl
     go (Noted task chunk count) k = refl
 
-claim_takes : (w : What) → is_claim w ≡ false → claimed_task w ≡ None
+claim_takes : (w : What) → changes_claim w ≡ false → claimed w ≡ None
 claim_takes (Claim task child) h = absurd cc
 claim_takes w h = refl
 
@@ -161,9 +163,12 @@ module _ (o : Opening) (setup : Setup) (limit : ℕ) (old g mid new : List Entry
     posts : AllPosted old later
     posts = posted_both old at.later then (posted_main old at.later at.main) (subst (λ (p : List Entry). AllPosted p then) at.is (posted_both g m.rest k.tail m.posts (posted_main (g ++ m.rest) k.tail k.main)))
 
+    leaves : LeavesClaimed g then
+    leaves = leaves_claimed o g then legal_then (subst (Legal o) behind legal') at.can.calm.idle
+
     turn_then : (b : Bool) → whole ≡ b → AllInTurn o (length desks) g then
-    turn_then true w = turn_filled o (length desks) g then no_starts (at.manned w)
-    turn_then false w = turn_quiet o (length desks) g then no_starts (any-append is_claim m.rest k.tail ∙ neither (any is_claim m.rest) (any is_claim k.tail) (m.quiet w) (closings_claim k))
+    turn_then true w = turn_filled o (length desks) g then no_starts leaves (at.manned w)
+    turn_then false w = turn_quiet o (length desks) g then no_starts (any-append changes_claim m.rest k.tail ∙ neither (any changes_claim m.rest) (any changes_claim k.tail) (m.quiet w) (closings_claim k))
 
     turn : AllInTurn o (length desks) old later
     turn = turn_both o (length desks) old at.later then at.turn (subst (λ (p : List Entry). AllInTurn o (length desks) p then) at.is (turn_then whole refl))
@@ -207,13 +212,13 @@ module _ (o : Opening) (setup : Setup) (limit : ℕ) (old g mid new : List Entry
         go (inl h) = inl (by_either (is_lost mid c)
             (λ it. or_left (is_lost new c) (list_any (is_lost new) (children later)) (lost c it))
             (λ other. or_right (is_lost new c) (list_any (is_lost new) (children later)) (theirs (sym (ap (λ (b : Bool). b || list_any (λ (l : LinkValue). is_lost mid l.ear.child) links) other) ∙ h))))
-        go (inr all) = inr (ap (are_all_claimed o) k.is ∙ claimed_on o mid k.tail all)
+        go (inr all) = inr (ap (are_all_claimed o) k.is ∙ claimed_same o mid k.tail (closings_take k) (closings_close k) ∙ all)
 
     manned : whole ≡ true → IsManned o (length desks) new
-    manned w = λ pool. subst (IsFilled o (length desks)) (sym behind) (filled_on o (length desks) g then no_starts (at.manned w))
+    manned w = λ pool. subst (IsFilled o (length desks)) (sym behind) (filled_on o (length desks) g then no_starts leaves (at.manned w))
 
-    takes_none : claims_in at.later ≡ []
-    takes_none = each_without claimed_task is_claim claim_takes at.later at.unclaimed_yet
+    takes_none : each_of claimed at.later ≡ []
+    takes_none = each_without claimed changes_claim claim_takes at.later at.unclaimed_yet
 
     placed : HaveDesks (length desks) old later
     placed = have_both (length desks) old at.later then (have_none (length desks) old at.later takes_none)
@@ -224,7 +229,7 @@ module _ (o : Opening) (setup : Setup) (limit : ℕ) (old g mid new : List Entry
     did = desks_join o setup limit new old at.later then 1 desks desks desks' (desks_nothing o setup limit new old at.later 1 desks takes_none)
         (subst (λ (p : List Entry). DesksDid o setup limit new p then 1 desks desks') at.is
         (desks_join o setup limit new g m.rest k.tail 1 desks desks' desks'
-        (subst (λ (j : List Entry). DesksDid o setup limit j g m.rest 1 desks desks') (sym k.is) (desks_on o setup limit mid k.tail g m.rest 1 desks desks' m.legal m.calm.idle m.did))
+        (subst (λ (j : List Entry). DesksDid o setup limit j g m.rest 1 desks desks') (sym k.is) (desks_on o setup limit mid k.tail g m.rest 1 desks desks' m.did))
         (desks_nothing o setup limit new (g ++ m.rest) k.tail 1 desks' (closings_take k))))
 
     -- with what is left of the objects

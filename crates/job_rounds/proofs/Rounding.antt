@@ -6,7 +6,7 @@ use Rattle.std.proofs.lemmas.List.Folds.{list_all-append}
 use Rattle.journal_model.specs.declared.entry.What.TheVariants.{Start}
 use Rattle.journal_model.specs.declared.entry.Entry.{Entry}
 use Rattle.journal_model.specs.declared.opening.Opening.{Opening}
-use Rattle.journal_model.specs.Journal.{any, asked_jobs, is_tagged, open_jobs}
+use Rattle.journal_model.specs.Journal.{any, asked_jobs, each_of, is_tagged, open_jobs}
 use Rattle.journal_model.specs.Legality.{Legal, is_busy}
 use Rattle.journal_model.proofs.Looks.{both}
 use Rattle.journal_model.proofs.Testing.{all-join}
@@ -18,7 +18,8 @@ use Rattle.child_start.specs.Greetings.{Greeted, IsReady}
 use Rattle.child_end.specs.Programs.{ProgramsValue}
 use Rattle.child_end.specs.Wires.{WireValue}
 use Rattle.task_run.specs.declared.setup.Setup.{Setup}
-use Rattle.lone_work.specs.Works.{DeskTells, claims_in}
+use Rattle.lone_work.specs.Works.{DeskTells}
+use Rattle.journal_model.proofs.Holding.{claimed}
 use Rattle.lone_rounds.specs.Starting.{is_any_start, is_ready_untagged, is_spent}
 use Rattle.lone_rounds.specs.Rounds.{AllLostWell, NoneUntaken, is_of_run}
 use Rattle.lone_rounds.specs.Stints.{HasServed, Stint, Stretch, in_stint, main_entry, next_child}
@@ -26,8 +27,7 @@ use Rattle.lone_rounds.proofs.Apart.{spent_on}
 use Rattle.lone_rounds.proofs.Growing.{starts_none}
 use Rattle.lone_rounds.proofs.Losing.{greeted_next, lost_both, lost_greeting, lost_others, lost_tasks}
 use Rattle.lone_rounds.proofs.Served.{ready_now, ready_taken, served_next, served_stint, tag_same, untagged}
-use Rattle.lone_rounds.proofs.Stinting.{Closing, closing, closing_loses, closing_part, closing_rests, greeting_part, greeting_takes_none, of_closing}
-use Rattle.lone_rounds.proofs.Tests.{claimed_on}
+use Rattle.lone_rounds.proofs.Stinting.{Closing, closing, closing_claims, closing_loses, closing_part, closing_rests, greeting_claims_none, greeting_part, of_closing}
 use Rattle.job_rounds.specs.Desks.{DesksDid, HaveDesks}
 use Rattle.job_rounds.specs.Posts.{AllPosted}
 use Rattle.job_rounds.specs.Servings.{Serves, ServesRound}
@@ -84,14 +84,14 @@ module _ (o : Opening) (setup : Setup) (limit : ℕ) (offer tagged : Bool) (old 
       all-join (λ (e : Entry). is_of_run e.what) greeted.more (rest ++ k.tail) (greeting_part c greeted.more greeted.own greeted.main).asks
       (all-join (λ (e : Entry). is_of_run e.what) rest k.tail rest_asks (closing_part c k.tail k.one).asks)
 
-  no_more : claims_in k.tail ≡ []
-  no_more = of_closing c k.tail k.one (λ (x : List Entry). claims_in x ≡ []) refl refl
+  no_more : each_of claimed k.tail ≡ []
+  no_more = of_closing c k.tail k.one (λ (x : List Entry). each_of claimed x ≡ []) refl refl
 
   -- the greeting claims nothing, the round's tasks are its desks', and the closing claims nothing
   did : DesksDid o setup limit new (old ++ first ∷ []) later 1 desks desks'
   did = subst (λ (j : List Entry). DesksDid o setup limit j (old ++ first ∷ []) later 1 desks desks') (sym (k.is ∙ ap (λ (x : List Entry). x ++ k.tail) s.round.1)) (
       desks_join o setup limit all (old ++ first ∷ []) greeted.more (rest ++ k.tail) 1 desks desks desks'
-      (desks_nothing o setup limit all (old ++ first ∷ []) greeted.more 1 desks (greeting_takes_none old g offer c greeted))
+      (desks_nothing o setup limit all (old ++ first ∷ []) greeted.more 1 desks (greeting_claims_none old g offer c greeted))
       (subst (λ (p : List Entry). DesksDid o setup limit all p (rest ++ k.tail) 1 desks desks') (greeted.grown ∙ sym (append_assoc old (first ∷ []) greeted.more))
       (desks_join o setup limit all g rest k.tail 1 desks desks' desks' of_round (desks_nothing o setup limit all (g ++ rest) k.tail 1 desks' no_more))))
     where
@@ -99,8 +99,8 @@ module _ (o : Opening) (setup : Setup) (limit : ℕ) (offer tagged : Bool) (old 
       all = (g ++ rest) ++ k.tail
 
       of_round : DesksDid o setup limit all g rest 1 desks desks'
-      of_round = desks_on o setup limit (g ++ rest) k.tail g rest 1 desks desks' leaves.round.rounded.legal calm.idle
-          (round_did o setup limit _ g rest s.link desks desks' legal' (ap (is_tagged g) s.child ∙ s.tagged) leaves)
+      of_round = desks_on o setup limit (g ++ rest) k.tail g rest 1 desks desks'
+          (round_did o setup limit _ g rest s.link desks desks' (ap (is_tagged g) s.child ∙ s.tagged) leaves)
 
   over : (list_all (is_spent new) (c ∷ []) ≡ true) ⊎ (are_all_claimed o new ≡ true)
   over = go (round_over o _ _ _ g rest s.link leaves.round)
@@ -109,7 +109,7 @@ module _ (o : Opening) (setup : Setup) (limit : ℕ) (offer tagged : Bool) (old 
       mid_is = k.is ∙ ap (λ (x : List Entry). x ++ k.tail) s.round.1
 
       go : (are_all_claimed o (g ++ rest) ≡ true) ⊎ (is_spent (g ++ rest) s.link.ear.child ≡ true) → (list_all (is_spent new) (c ∷ []) ≡ true) ⊎ (are_all_claimed o new ≡ true)
-      go (inl claimed) = inr (ap (are_all_claimed o) mid_is ∙ claimed_on o (g ++ rest) k.tail claimed)
+      go (inl claimed) = inr (ap (are_all_claimed o) mid_is ∙ closing_claims c k.tail k.one o (g ++ rest) ∙ claimed)
       go (inr spent) = inl (ap (λ (b : Bool). b && true) (
           ap (λ (j : List Entry). is_spent j c) mid_is ∙ spent_on (g ++ rest) k.tail c (ap (is_spent (g ++ rest)) (sym s.child) ∙ spent)))
 
@@ -158,7 +158,7 @@ module _ (o : Opening) (setup : Setup) (limit : ℕ) (offer tagged : Bool) (old 
   }
 
   placed : HaveDesks n at_start later
-  placed = have_both n at_start greeted.more (rest ++ k.tail) (have_none n at_start greeted.more (greeting_takes_none old g offer c greeted))
+  placed = have_both n at_start greeted.more (rest ++ k.tail) (have_none n at_start greeted.more (greeting_claims_none old g offer c greeted))
       (subst (λ (p : List Entry). HaveDesks n p (rest ++ k.tail)) (greeted.grown ∙ sym (append_assoc old (first ∷ []) greeted.more))
       (have_both n g rest k.tail (round_desks o s.link.ear.child n g rest (ap (is_tagged g) s.child ∙ s.tagged) leaves.round.rounded) (have_none n (g ++ rest) k.tail no_more)))
 

@@ -5,7 +5,7 @@ use Rattle.std.specs.List.{cons_option, last_or, list_all, list_any}
 use Rattle.std.proofs.Math.Nat.{min-le_left}
 use Rattle.std.proofs.lemmas.Bool.Decides.{nat_tests}
 use Rattle.journal_model.specs.declared.entry.What.{What}
-use Rattle.journal_model.specs.declared.entry.What.TheVariants.{Claim, Start, NoStart, Lead, Ask, Put, Sent, Mute, Got, End, Verdict as Settled, Lost, Answer as Answered, Note}
+use Rattle.journal_model.specs.declared.entry.What.TheVariants.{Claim, Start, NoStart, Lead, Ask, Put, Sent, Mute, Got, End, Verdict as Settled, Lost, Answer as Answered, Note, Again}
 use Rattle.journal_model.specs.declared.entry.Entry.{Entry}
 use Rattle.journal_model.specs.declared.opening.Opening.{Opening}
 use Rattle.journal_model.specs.Journal.{any, each_of, offers}
@@ -20,7 +20,7 @@ use Rattle.link_roles.proofs.Linked.{any_narrower}
 use Rattle.lone_rounds.proofs.Apart.{ready_same}
 use Rattle.lone_rounds.proofs.Tests.{each_none, each_without}
 use Rattle.pool_starts.specs.Slots.{AllInTurn, IsInSlot, IsManned, StandsInTurn, begins_by_start, first_in, has_pool, in_pool, is_first_start, is_ready_pool, is_unclaimed_since, last_slot, offers_tags, slot_of}
-use Rattle.pool_starts.proofs.SlotLaws.{filled_on, first_same, last_first, none_first, pool_of as pool_is}
+use Rattle.pool_starts.proofs.SlotLaws.{LeavesClaimed, filled_on, first_same, last_first, none_first, pool_of as pool_is}
 
 -- ---- what stands after a start of slot 0
 
@@ -50,6 +50,7 @@ stint_pool c (Settled child job verdict) h = same_least c child h
 stint_pool c (Lost child task) h = same_least c child h
 stint_pool c (Answered task answer) h = refl
 stint_pool c (Note task chunk count) h = refl
+stint_pool c (Again task answer) h = refl
 
 -- nothing is of an earlier child
 pub apart_pool : (n d : ℕ) → d < n → (w : What) → in_pool n w ≡ true → is_of_child d w ≡ false
@@ -116,8 +117,8 @@ pub manned_none : (o : Opening) (jobs : ℕ) (past : List Entry) → has_pool pa
 manned_none o jobs past none = λ pool. absurd (let bad : true ≡ false = sym pool ∙ none in cc)
 
 -- entries that start nothing and are of no child leave it so
-pub manned_still : (o : Opening) (jobs : ℕ) (past more : List Entry) → Legal o past → any is_any_start more ≡ false → ((d : ℕ) → any (is_of_child d) more ≡ false) → IsManned o jobs past → IsManned o jobs (past ++ more)
-manned_still o jobs past more legal none apart m = λ pool. filled_on o jobs past more none (m (sym (pool_same (last_first past) refl) ∙ pool))
+pub manned_still : (o : Opening) (jobs : ℕ) (past more : List Entry) → Legal o past → any is_any_start more ≡ false → LeavesClaimed past more → ((d : ℕ) → any (is_of_child d) more ≡ false) → IsManned o jobs past → IsManned o jobs (past ++ more)
+manned_still o jobs past more legal none leaves apart m = λ pool. filled_on o jobs past more none leaves (m (sym (pool_same (last_first past) refl) ∙ pool))
   where
     first_is : last_first (past ++ more) ≡ last_first past
     first_is = first_same past more (none_first more none)

@@ -9,7 +9,8 @@ use Rattle.journal_model.specs.declared.answer.Answer.{Answer}
 use Rattle.journal_model.specs.declared.verdict.Verdict.{Verdict}
 use Rattle.journal_model.specs.declared.verdict.Why.TheVariants.{Closed}
 use Rattle.journal_model.specs.declared.entry.What.{What}
-use Rattle.journal_model.specs.declared.entry.What.TheVariants.{Claim, Start, NoStart, End, Answer as Answered}
+use Rattle.journal_model.specs.declared.entry.What.TheVariants.{Claim, Start, NoStart, End, Answer as Answered, Again}
+use Rattle.journal_model.proofs.Holding.{claimed}
 use Rattle.journal_model.specs.declared.entry.Entry.{Entry}
 use Rattle.journal_model.specs.declared.opening.Opening.{Opening}
 use Rattle.journal_model.specs.Journal.{any, asks, asked_jobs, is_ended, is_tagged, open_jobs, verdict_of, why_of}
@@ -31,7 +32,7 @@ use Rattle.child_end.specs.Programs.{ProgramsValue}
 use Rattle.child_end.specs.Wires.{WireValue}
 use Rattle.lone_work.specs.KnownLayouts.{IsBook}
 use Rattle.task_run.specs.declared.setup.Setup.{Setup}
-use Rattle.lone_work.specs.Works.{CanWork, DeskTells, claimed_task}
+use Rattle.lone_work.specs.Works.{CanWork, DeskTells}
 use Rattle.lone_rounds.specs.Starting.{children, is_any_start, is_ready_untagged, is_spent, is_unclosed, started_in}
 use Rattle.lone_rounds.specs.Stints.{AnswersOne, HasServed, IsStart, Stint, Stretch, TurnsAway, in_stint, main_entry, next_child}
 use Rattle.lone_rounds.proofs.Apart.{no_start_in}
@@ -40,7 +41,7 @@ use Rattle.lone_rounds.proofs.Nexts.{is_quiet, quiet_starts}
 use Rattle.lone_rounds.proofs.Served.{all_unclosed, greeting_unclosed, new_unclosed, ready_now}
 use Rattle.lone_rounds.proofs.Stinting.{Closing, closing, greeting_part, greeting_rests, greeting_works, of_closing, one_idle, quiet_greeting}
 use Rattle.lone_rounds.proofs.Tests.{any_none, no_children}
-use Rattle.pool_starts.specs.Pools.{is_claim}
+use Rattle.pool_starts.specs.Pools.{changes_claim}
 use Rattle.pool_starts.specs.Slots.{AllInTurn, IsManned, has_pool, in_pool, offers_tags, spends}
 use Rattle.pool_starts.proofs.SlotLaws.{first_started, none_first, pool_of as pool_is, turn_quiet}
 use Rattle.job_rounds.specs.Desks.{DesksDid, HaveDesks}
@@ -67,9 +68,9 @@ start_asks : (old : List Entry) (offer : Bool) (first : What) (d : ℕ) → IsSt
 start_asks old offer first d (inl e) = ap (asks d) e
 start_asks old offer first d (inr e) = ap (asks d) e
 
-pub start_takes : (old : List Entry) (offer : Bool) (first : What) → IsStart old offer first → claimed_task first ≡ None
-start_takes old offer first (inl e) = ap claimed_task e
-start_takes old offer first (inr e) = ap claimed_task e
+pub start_takes : (old : List Entry) (offer : Bool) (first : What) → IsStart old offer first → claimed first ≡ None
+start_takes old offer first (inl e) = ap claimed e
+start_takes old offer first (inr e) = ap claimed e
 
 start_shut : (old : List Entry) (offer : Bool) (first : What) → IsStart old offer first → AreShut old → AreShut (old ++ main_entry first ∷ [])
 start_shut old offer first is shut d = idle_on old (main_entry first ∷ []) d (rw (start_asks old offer first d is) refl) (shut d)
@@ -189,13 +190,14 @@ module _ (o : Opening) (setup : Setup) (limit : ℕ) (offer next : Bool) (first 
 
 -- ---- in which turn its entries stand
 
-greeting_claims : (c : ℕ) (w : What) → is_of_greeting c w ≡ true → is_claim w ≡ false
+greeting_claims : (c : ℕ) (w : What) → is_of_greeting c w ≡ true → changes_claim w ≡ false
 greeting_claims c (Claim task child) h = absurd cc
+greeting_claims c (Again task answer) h = absurd cc
 greeting_claims c w h = refl
 
 pub greeting_turn : (o : Opening) (jobs : ℕ) (past old g : List Entry) (offer : Bool) (c : ℕ) → (greeted : Greeted old g 0 offer c) → AllInTurn o jobs past greeted.more
 greeting_turn o jobs past old g offer c greeted = turn_quiet o jobs past greeted.more (any_none is_quiet is_any_start quiet_starts greeted.more (quiet_greeting old g offer c greeted))
-    (any_none (is_of_greeting c) is_claim (greeting_claims c) greeted.more greeted.own)
+    (any_none (is_of_greeting c) changes_claim (greeting_claims c) greeted.more greeted.own)
 
 quiet_closing : (c : ℕ) (tail : List Entry) → (tail ≡ []) ⊎ (tail ≡ main_entry (End c Closed) ∷ []) → list_all (λ (e : Entry). is_quiet e.what) tail ≡ true
 quiet_closing c tail one = of_closing c tail one (λ (x : List Entry). list_all (λ (e : Entry). is_quiet e.what) x ≡ true) refl refl
@@ -207,8 +209,8 @@ pub record QuietTail (old new : List Entry) : Type 0 where
   pub quiet : list_all (λ e. is_quiet e.what) tail ≡ true
   pub unsettled : (c : ℕ) → verdict_of tail c 1 ≡ None
 
-quiet_one : (o : Opening) (old new : List Entry) (answer : Answer) (b : Bool) → AnswersOne o old new answer b → QuietTail old new
-quiet_one o old new answer true a = record { tail = main_entry (Claim a.0 0) ∷ main_entry (Answered a.0 answer) ∷ []; is = a.2; quiet = refl; unsettled = λ c. refl }
+quiet_one : (o : Opening) (old new : List Entry) (answer : ℕ → Answer) (b : Bool) → AnswersOne o old new answer b → QuietTail old new
+quiet_one o old new answer true a = record { tail = main_entry (Claim a.0 0) ∷ main_entry (Answered a.0 (answer a.0)) ∷ []; is = a.2; quiet = refl; unsettled = λ c. refl }
 quiet_one o old new answer false a = record { tail = []; is = a.0 ∙ sym (append-nil old); quiet = refl; unsettled = λ c. refl }
 
 -- where the greeted child was turned away
@@ -256,10 +258,10 @@ module _ (old g mid new : List Entry) (offer : Bool) (c : ℕ) (undone : is_done
   }
 
 pub away_quiet : (o : Opening) (offer : Bool) (old g new : List Entry) (c : ℕ) (answer : Answer) → is_done (verdict_of g c 1) ≡ false → Greeted old g 0 offer c → TurnsAway o c g new answer → QuietStretch old new (Start c 0 offer)
-away_quiet o offer old g new c answer undone greeted (mid, (b, a), closes) = away_stretch old g mid new offer c undone greeted (quiet_one o g mid answer b a) (closing c mid new closes)
+away_quiet o offer old g new c answer undone greeted (mid, (b, a), closes) = away_stretch old g mid new offer c undone greeted (quiet_one o g mid (λ t. answer) b a) (closing c mid new closes)
 
 -- where no child was started
-pub fault_quiet : (o : Opening) (old g new : List Entry) (answer : Answer) (b : Bool) → g ≡ old ++ main_entry (NoStart 0) ∷ [] → AnswersOne o g new answer b → QuietStretch old new (NoStart 0)
+pub fault_quiet : (o : Opening) (old g new : List Entry) (answer : Answer) (b : Bool) → g ≡ old ++ main_entry (NoStart 0) ∷ [] → AnswersOne o g new (λ t. answer) b → QuietStretch old new (NoStart 0)
 fault_quiet o old g new answer b failed a = record {
   more = one.tail;
   is = one.is ∙ ap (λ (x : List Entry). x ++ one.tail) failed ∙ append_assoc old (main_entry (NoStart 0) ∷ []) one.tail;
@@ -268,7 +270,7 @@ fault_quiet o old g new answer b failed a = record {
 }
   where
     one : QuietTail g new
-    one = quiet_one o g new answer b a
+    one = quiet_one o g new (λ t. answer) b a
 
 -- where the child is ready, and there is one desk, or the child takes tags
 module _ (o : Opening) (jobs : ℕ) (offer : Bool) (old g new : List Entry) (c : ℕ) (legal : Legal o g) (greeted : Greeted old g 0 offer c) (ready : IsReady g c) where
@@ -315,10 +317,10 @@ pub served_idle : (o : Opening) (setup : Setup) (c n : ℕ) (g new : List Entry)
 served_idle o setup c n g new desk desk' is s = subst (λ (k : ℕ). open_jobs new k ≡ []) is (closed_idle c s.mid new s.closes s.can.idle)
 
 pub away_idle : (o : Opening) (c n : ℕ) (g new : List Entry) (answer : Answer) → c ≡ n → open_jobs g c ≡ [] → TurnsAway o c g new answer → open_jobs new n ≡ []
-away_idle o c n g new answer is idle (mid, (b, a), closes) = subst (λ (k : ℕ). open_jobs new k ≡ []) is (closed_idle c mid new closes (one_idle o g mid answer c b a idle))
+away_idle o c n g new answer is idle (mid, (b, a), closes) = subst (λ (k : ℕ). open_jobs new k ≡ []) is (closed_idle c mid new closes (one_idle o g mid (λ t. answer) c b a idle))
 
-pub fault_idle : (o : Opening) (n : ℕ) (old g new : List Entry) (answer : Answer) (b : Bool) → g ≡ old ++ main_entry (NoStart 0) ∷ [] → AnswersOne o g new answer b → AreShut old → open_jobs new n ≡ []
-fault_idle o n old g new answer b is a shut = one_idle o g new answer n b a (ap (λ (j : List Entry). open_jobs j n) is ∙ idle_on old (main_entry (NoStart 0) ∷ []) n refl (shut n))
+pub fault_idle : (o : Opening) (n : ℕ) (old g new : List Entry) (answer : Answer) (b : Bool) → g ≡ old ++ main_entry (NoStart 0) ∷ [] → AnswersOne o g new (λ t. answer) b → AreShut old → open_jobs new n ≡ []
+fault_idle o n old g new answer b is a shut = one_idle o g new (λ t. answer) n b a (ap (λ (j : List Entry). open_jobs j n) is ∙ idle_on old (main_entry (NoStart 0) ∷ []) n refl (shut n))
 
 -- ---- a child that is ready
 

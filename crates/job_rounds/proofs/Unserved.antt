@@ -31,7 +31,7 @@ zero_unserved limit more journal t answer fewer z = record {
     tail : List Entry
     tail = main_entry (Claim t 0) ∷ main_entry (Answered t answer) ∷ z.rest
 
-    go : (failed : Option Answer) → ZeroAnswers more z.past failed answer → UnservedAnswers limit z.past failed answer
+    go : (failed : Option Answer) → ZeroAnswers more z.past failed t answer → UnservedAnswers limit z.past failed t answer
     go (Some failed) a = a
     go None a =
         let all = a.0 in

@@ -1,5 +1,5 @@
 -- Which tasks the desk of each worker was used for, and what it did for them.
-use Rattle.std.specs.Prelude.{ℕ, ◌≡◌, ◌⊎◌, ◌+◌, ◌-◌, ◌<◌, ◌≤◌, ◌==◌, if◌then◌else◌, List, [], ◌∷◌, ◌++◌, map, Option, Some, None, nat_lt}
+use Rattle.std.specs.Prelude.{ℕ, ◌≡◌, ◌⊎◌, ◌+◌, ◌-◌, ◌<◌, ◌≤◌, ◌==◌, if◌then◌else◌, List, [], ◌∷◌, ◌++◌, Option, Some, None, nat_lt}
 use Rattle.std.specs.List.{cons_option}
 use Rattle.ann_outside.specs.Calls.{Gained}
 use Rattle.journal_model.specs.declared.entry.What.{What}
@@ -7,9 +7,10 @@ use Rattle.journal_model.specs.declared.entry.What.TheVariants.{Claim}
 use Rattle.journal_model.specs.declared.entry.Entry.{Entry}
 use Rattle.journal_model.specs.declared.opening.Opening.{Opening}
 use Rattle.journal_model.specs.Journal.{is_tagged}
+use Rattle.journal_model.specs.Legality.{turn_of_task}
 use Rattle.task_run.specs.declared.setup.Setup.{Setup}
 use Rattle.gathering.specs.JournalRuns.{JournalRun}
-use Rattle.lone_work.specs.Works.{CausedInTurn, DeskTells, TaskDone, all_calls}
+use Rattle.lone_work.specs.Works.{CausedInTurn, DeskTells, TaskDone, all_calls, turns_of}
 use Rattle.job_rounds.specs.Unserved.{IsUnserved}
 
 -- ---- which desk
@@ -19,13 +20,13 @@ use Rattle.job_rounds.specs.Unserved.{IsUnserved}
 abbrev pub desk_of : List Entry → ℕ → ℕ → ℕ
 desk_of past by child = if nat_lt by 2 then 1 else if is_tagged past child then by - 3 else by - 1
 
--- the task that the entry after past claims for the kth desk
-abbrev pub claimed_for : ℕ → List Entry → ℕ → What → Option ℕ
-claimed_for k past by (Claim task child) = if desk_of past by child == k then Some task else None
+-- the task that the entry after past claims for the kth desk, and the turn of it that begins so
+abbrev pub claimed_for : ℕ → List Entry → ℕ → What → Option (ℕ × ℕ)
+claimed_for k past by (Claim task child) = if desk_of past by child == k then Some (task, turn_of_task past task) else None
 claimed_for k past by w = None
 
--- the tasks that are claimed for it among the entries, which stand after past, in order
-abbrev pub claims_for : ℕ → List Entry → List Entry → List ℕ
+-- the turns that are claimed for it among the entries, which stand after past, in order
+abbrev pub claims_for : ℕ → List Entry → List Entry → List (ℕ × ℕ)
 claims_for k past [] = []
 claims_for k past (e ∷ rest) = cons_option (claimed_for k past e.by e.what) (claims_for k (past ++ e ∷ []) rest)
 
@@ -34,17 +35,17 @@ abbrev pub HasDesk : ℕ → List Entry → ℕ → What → Type 0
 HasDesk n past by (Claim task child) = (0 < desk_of past by child) × (desk_of past by child ≤ n)
 HasDesk n past by w = Unit {0}
 
--- so it is for each task that the entries claim, which stand after past
+-- so it is for each claim of the entries, which stand after past
 abbrev pub HaveDesks : ℕ → List Entry → List Entry → Type 0
 HaveDesks n past [] = Unit {0}
 HaveDesks n past (e ∷ rest) = HasDesk n past e.by e.what × HaveDesks n (past ++ e ∷ []) rest
 
--- ---- a task that is done
+-- ---- a run of a task that is done
 
--- It was claimed for a child, and run over it by the number that claimed it, in the layouts that were current then, and answered so.
+-- It was claimed for a child, and run over it by the number that claimed it, in the layouts that were current then, and closed so.
 pub record WorkerRun (o : Opening) (setup : Setup) (journal : List Entry) (r : TaskDone) : Type 0 where
   pub number : ℕ
-  pub run : JournalRun o setup r.calls number r.task journal
+  pub run : JournalRun o setup r.calls number r.task r.turn journal
   pub child : 0 < run.run.child
   pub answer : run.run.answer ≡ r.answer
 
@@ -58,11 +59,11 @@ AreDone o setup limit journal (r ∷ rs) = IsTaskDone o setup limit journal r ×
 
 -- ---- what a desk did
 
--- Each task that the entries after past claim for the kth desk has its run in the journal, and the desk made the calls of these runs,
--- in the order of their claims, and no others.
+-- Each turn of a task that the entries after past claim for the kth desk has its run in the journal, and the desk made the calls of these
+-- runs, in the order of their claims, and no others.
 pub record DeskDid (o : Opening) (setup : Setup) (limit : ℕ) (journal past entries : List Entry) (k : ℕ) (desk desk' : DeskTells) : Type 0 where
   pub done : List TaskDone
-  pub claimed : map (λ (r : TaskDone). r.task) done ≡ claims_for k past entries
+  pub claimed : turns_of done ≡ claims_for k past entries
   pub ran : AreDone o setup limit journal done
   pub log_is : Gained desk.log desk'.log (all_calls done)
   pub caused : CausedInTurn desk.counts done desk'.counts

@@ -11,13 +11,13 @@ use Rattle.pool_starts.specs.Slots.{AreSpent, is_first_start}
 
 -- The start of slot 0 before it gave no child that is ready, and this is what came of it; or there is no such start, slot 0 has made all
 -- its starts, and each is spent.
-abbrev pub UnservedAnswers : ℕ → List Entry → Option Answer → Answer → Type 0
-UnservedAnswers limit past (Some failed) answer = answer ≡ failed
-UnservedAnswers limit past None answer = (count is_first_start past ≡ limit) × AreSpent past × (answer ≡ left_answer past)
+abbrev pub UnservedAnswers : ℕ → List Entry → Option Answer → ℕ → Answer → Type 0
+UnservedAnswers limit past (Some failed) t answer = answer ≡ failed
+UnservedAnswers limit past None t answer = (count is_first_start past ≡ limit) × AreSpent past × (answer ≡ left_answer past t)
 
 -- The task was claimed without a child and answered at once.
 pub record IsUnserved (limit : ℕ) (journal : List Entry) (t : ℕ) (answer : Answer) : Type 0 where
   pub past : List Entry
   pub rest : List Entry
   pub is : journal ≡ past ++ main_entry (Claim t 0) ∷ main_entry (Answered t answer) ∷ rest
-  pub answers : UnservedAnswers limit past (failed_start past (start_untaken past)) answer
+  pub answers : UnservedAnswers limit past (failed_start past (start_untaken past)) t answer

@@ -195,7 +195,7 @@ returns-in-StartFault-clause-starts g c =
     let mid = c.greet.new.core.journal in
     let new = c.answer_one.new.core.journal in
     let desks : List DeskTells = map (λ k. desk_tells (g.K.Desk.log k) (g.K.Desk.counts k)) c.args.bench.desks.items in
-    let one : AnswersOne o mid new StartFault c.answer_one.result = subst (λ (w : Opening). AnswersOne w mid new StartFault c.answer_one.result) c.greet.ensures.core.opening c.answer_one.ensures.answers in
+    let one : AnswersOne o mid new (λ t. StartFault) c.answer_one.result = subst (λ (w : Opening). AnswersOne w mid new (λ t. StartFault) c.answer_one.result) c.greet.ensures.core.opening c.answer_one.ensures.answers in
     let some : 0 < length desks = subst (λ (n : ℕ). 0 < n) (sym (length-map c.args.bench.desks.items _ ∙ sym c.args.bench.desks.ok.0)) c.requires.desks.0 in
     let quiet = fault_quiet o old mid new StartFault c.answer_one.result c.in-StartFault.ensures.tells one in
     job_start quiet.more quiet.is
