@@ -38,6 +38,7 @@ fn opening(alloc: Global) -> Result<Opening, NoMemory>
         notes: NoteBook::new(alloc),
         identity,
         stamp: 1_700_000_000_000_000,
+        again: 0,
     })
 }
 
