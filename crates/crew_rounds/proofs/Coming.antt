@@ -1,12 +1,17 @@
 -- What came back of a role gives what is promised of it.
-use Rattle.std.proofs.Common.{◌≡◌, ℕ, ◌<◌, List, ◌++◌, refl, sym, ap, subst, ◌∙◌, false, append-nil}
+use Rattle.std.proofs.Common.{◌≡◌, ℕ, ◌<◌, List, [], ◌++◌, refl, sym, ap, subst, ◌∙◌, false, append-nil}
+use Rattle.std.specs.List.{list_any}
 use Rattle.hall.specs.Log.{flat}
 use Rattle.hall.specs.Passes.{HallValue, IsPassOf, seen_of}
 use Rattle.journal_model.specs.declared.entry.Entry.{Entry}
 use Rattle.journal_model.specs.declared.opening.Opening.{Opening}
 use Rattle.journal_model.specs.Halves.{EarWired, MouthWired}
-use Rattle.gathering.specs.Rounds.{CorePass}
+use Rattle.journal_model.proofs.Looks.{true_not_false}
+use Rattle.gathering.specs.Rounds.{CorePass, since}
+use Rattle.gathering.specs.Tasks.{IsThroughAfterAgain}
 use Rattle.gathering.proofs.Ending.{ear_ends, mouth_ends}
+use Rattle.gathering.proofs.Halls.{drop_start}
+use Rattle.gathering.proofs.Renewing.{renews_by}
 use Rattle.link_roles.specs.Moves.{EarMoved, MouthMoved}
 use Rattle.crew_work.specs.Crews.{Worked}
 use Rattle.crew_work.proofs.Working.{passed_none, worked_still}
@@ -44,7 +49,13 @@ workers_come h setup p q c desk desk' fresh r = record {
   pass = r.pass.pass;
   worked = subst (λ (k : ℕ). Worked h.fixed setup false k false c q.start (seen_of q) (Unit {0}) (Unit {0}) desk desk') (sym r.pass.number)
       (subst (λ (x : List Entry). Worked h.fixed setup false p.number false c x (seen_of q) (Unit {0}) (Unit {0}) desk desk') (begun_at h p q fresh r.pass.pass) r.worked);
+  through = λ made. r.through;
 }
+
+-- a pass that has seen nothing since its begin left no task to be run again
+pub still_through : (o : Opening) (c : ℕ) (p : CorePass) → p.links ≡ [] → IsThroughAfterAgain o p.number c (since p) (seen_of p)
+still_through o c p none made =
+    true_not_false (list_any (renews_by p.number) (since p)) made (ap (list_any (renews_by p.number)) (drop_start p.start (flat p.links) ∙ ap flat none))
 
 pub workers_stay : WorkersStay
 workers_stay h setup p c desk fresh = record {
@@ -52,4 +63,5 @@ workers_stay h setup p c desk fresh = record {
   pass = fresh.pass;
   worked = subst (λ (x : List Entry). Worked h.fixed setup false p.number false c x (seen_of p) (Unit {0}) (Unit {0}) desk desk) (begun_at h p p fresh fresh.pass)
       (worked_still h.fixed setup false p.number false c (λ x. Unit {0}) (λ past more none u. u) (seen_of p) (seen_of p) desk (passed_none p.number false (seen_of p)));
+  through = still_through h.fixed c p fresh.none;
 }

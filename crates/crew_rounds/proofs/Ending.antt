@@ -12,13 +12,12 @@ use Rattle.journal_model.specs.declared.opening.Opening.{Opening}
 use Rattle.journal_model.specs.Due.{ended_jobs}
 use Rattle.journal_model.specs.Journal.{open_jobs}
 use Rattle.journal_model.specs.Legality.{claims}
-use Rattle.journal_model.specs.Makers.{is_taken_by}
 use Rattle.journal_model.specs.Shares.{Moved, makes_only}
-use Rattle.journal_model.proofs.Looks.{same, true_not_false}
+use Rattle.journal_model.proofs.Looks.{same}
 use Rattle.gathering.specs.Posts.{Post, Ender, gives_up, makes}
 use Rattle.gathering.specs.Rounds.{CorePass, KeepsPost, since}
 use Rattle.gathering.proofs.Halls.{drop_start}
-use Rattle.gathering.proofs.Rounding.{unclaiming_only}
+use Rattle.gathering.proofs.Rounding.{unclaiming_holds, unclaiming_only}
 use Rattle.link_roles.specs.Doors.{Ends}
 use Rattle.link_roles.proofs.Roles.{moved_by, moved_on}
 
@@ -43,8 +42,7 @@ pub ender_keeps : (o : Opening) (crew : ℕ → Post) (c : ℕ) (q : CorePass) �
 ender_keeps o crew c q pos post ends = record {
   number = pos;
   only = only;
-  answered = λ t h. true_not_false (is_taken_by (since q) q.number t) h
-      (unclaiming_only crew q only (λ u w k. subst (λ (p : Post). makes p w ≡ false) (sym post) (claim_not_given_up c u w k)) t);
+  holds = unclaiming_holds q (unclaiming_only crew q only (λ u w k. subst (λ (p : Post). makes p w ≡ false) (sym post) (claim_not_given_up c u w k)));
 }
   where
     m : Moved q.number false (gives_up c) (gives_up c) q.start (seen_of q) (Unit {0}) (Unit {0})

@@ -4,6 +4,7 @@ pub mod Backs
 pub mod Ending
 pub mod Leaving
 pub mod Closing
+pub mod Started
 pub mod Crewing
 pub mod TaggedRounds
 pub mod Coming

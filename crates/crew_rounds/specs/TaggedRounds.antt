@@ -19,13 +19,13 @@ passes_of es = map (λ (e : WorkerTells). e.pass) es
 abbrev pub desks_of : List WorkerTells → List DeskTells
 desks_of es = map (λ (e : WorkerTells). e.desk) es
 
--- What Round says of a tagged crew over this link, where each task that was taken has its run in the journal, with the calls that
--- its worker's desk made for it; and each desk made the calls of its worker's tasks, in their order, and no others. The workers have
+-- What Round says of a tagged crew over this link, where each turn that was taken has its run in the journal, with the calls that
+-- its worker's desk made for it; and each desk made the calls of its worker's runs, in their order, and no others. The workers have
 -- the numbers from 4 on.
 pub record TaggedLeaves (o : Opening) (setup : Setup) (numbers : List ℕ) (start rest : List Entry) (l : LinkValue) (desks desks' : List DeskTells) : Type 0 where
   pub dones : List (List TaskDone)
   pub round : Round o (HasJournalRun o setup (calls_from 4 dones)) (tagged_crew l.ear.child) numbers start rest (l ∷ [])
-  pub desks_did : DesksDid rest 4 dones desks desks'
+  pub desks_did : DesksDid o setup start rest 4 dones desks desks'
 
 -- What the roles of a round over a tagged child leave gives that, when the hall is closed. One of the passes is through.
 abbrev pub TaggedCloses : Type 0

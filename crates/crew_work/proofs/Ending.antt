@@ -11,14 +11,15 @@ use Rattle.journal_model.specs.Journal.{is_started}
 use Rattle.journal_model.specs.Shares.{are_own, is_of_child, makes_only}
 use Rattle.journal_model.proofs.Looks.{both, same_number}
 use Rattle.gathering.specs.Posts.{Post, makes}
-use Rattle.gathering.specs.Rounds.{CorePass, LoneEnds, WorkerEnds, since}
+use Rattle.gathering.specs.Rounds.{CorePass, IsWired, LinkValue, LoneEnds, WorkerEnds, since}
 use Rattle.gathering.proofs.Halls.{drop_start}
 use Rattle.gathering.proofs.Laboring.{started_lasts}
-use Rattle.link_roles.specs.Writings.{LoneWired}
+use Rattle.link_roles.specs.Moves.{IsSameLink}
+use Rattle.link_roles.specs.Writings.{LoneWired, is_written_first}
 use Rattle.task_run.specs.declared.setup.Setup.{Setup}
 use Rattle.gathering.specs.JournalRuns.{HasJournalRun, JournalRun}
 use Rattle.lone_work.specs.Works.{AllRan, DeskTells, TaskDone, turns_of}
-use Rattle.gathering.specs.Tasks.{IsThrough, takes_turn, turns_by}
+use Rattle.gathering.specs.Tasks.{IsThroughAfterAgain, takes_turn, turns_by}
 use Rattle.crew_work.specs.Crews.{Worked, calls_of, post_of}
 use Rattle.crew_work.specs.Runs.{LonesEnd, WorkersEnd}
 use Rattle.crew_work.proofs.Doing.{wider_made}
@@ -43,7 +44,7 @@ new_is : (p : CorePass) (more : List Entry) → seen_of p ≡ p.start ++ more �
 new_is p more is = ap (λ (x : List Entry). drop (length p.start) x) is ∙ drop_start p.start more
 
 pub worker_ends : (o : Opening) (setup : Setup) (calls : ℕ → ℕ → ℕ → List Call) (owns : Bool) (c : ℕ) (crew : ℕ → Post) (p : CorePass) (Before After : Type 0) (desk desk' : DeskTells)
-    → (w : Worked o setup owns p.number false c p.start (seen_of p) Before After desk desk') → IsThrough o (seen_of p) c → 0 < p.number → ((t k : ℕ) → calls p.number t k ≡ calls_of w.done t k)
+    → (w : Worked o setup owns p.number false c p.start (seen_of p) Before After desk desk') → IsThroughAfterAgain o p.number c (since p) (seen_of p) → 0 < p.number → ((t k : ℕ) → calls p.number t k ≡ calls_of w.done t k)
     → ((w : What) → makes (post_of owns c) w ≡ true → makes (crew p.number) w ≡ true) → WorkerEnds o (HasJournalRun o setup calls) crew c p
 worker_ends o setup calls owns c crew p Before After desk desk' w through pos told post = record {
   keeps = record {
@@ -53,7 +54,7 @@ worker_ends o setup calls owns c crew p Before After desk desk' w through pos to
     holds = w.rests;
   };
   ran = λ t k h. subst (λ (l : List Call). JournalRun o setup l p.number t k (seen_of p)) (sym (told t k)) (run t k h);
-  through = λ made. through;
+  through = through;
 }
   where
     more : List Entry
@@ -68,10 +69,16 @@ worker_ends o setup calls owns c crew p Before After desk desk' w through pos to
         (ap (list_any (λ (u : ℕ × ℕ). u.0 == t && u.1 == k)) (sym w.did.claimed ∙ ap (λ (x : List Entry). turns_by p.number p.start x) (sym new)) ∙ h)
 
 pub workers_end : WorkersEnd
-workers_end o setup calls c crew p desk desk' w through pos told post = worker_ends o setup calls false c crew p (Unit {0}) (Unit {0}) desk desk' w through pos told post
+workers_end o setup calls c crew p desk desk' w through pos told post = worker_ends o setup calls false c crew p (Unit {0}) (Unit {0}) desk desk' w (λ made. through) pos told post
 
-pub lones_end : LonesEnd
-lones_end o setup calls crew p old new desk desk' w same wired written through pos told post = record {
+-- a worker that has its child for itself: where it left a task to be run again, it takes up no more
+pub lone_ends : (o : Opening) (setup : Setup) (calls : ℕ → ℕ → ℕ → List Call) (crew : ℕ → Post) (p : CorePass) (old new : LinkValue) (desk desk' : DeskTells)
+    → (w : Worked o setup true p.number false old.ear.child p.start (seen_of p) (LoneWired p.start old.ear old.mouth) (LoneWired (seen_of p) new.ear new.mouth) desk desk')
+    → IsSameLink old.ear new.ear old.mouth new.mouth → IsWired p.start old → is_written_first p.start old.ear.child ≡ true
+    → IsThroughAfterAgain o p.number old.ear.child (since p) (seen_of p) → 0 < p.number → ((t k : ℕ) → calls p.number t k ≡ calls_of w.done t k)
+    → ((w : What) → makes (post_of true old.ear.child) w ≡ true → makes (crew p.number) w ≡ true)
+    → LoneEnds o (HasJournalRun o setup calls) crew new p
+lone_ends o setup calls crew p old new desk desk' w same wired written through pos told post = record {
   works = subst (λ (k : ℕ). WorkerEnds o (HasJournalRun o setup calls) crew k p) (sym same.0.0)
       (worker_ends o setup calls true old.ear.child crew p (LoneWired p.start old.ear old.mouth) (LoneWired (seen_of p) new.ear new.mouth) desk desk' w through pos told post);
   wired = λ own. record {
@@ -81,3 +88,7 @@ lones_end o setup calls crew p old new desk desk' w same wired written through p
     wired = (w.did.moved.kept (subst (λ (c : ℕ). are_own (is_of_child c) p.number w.did.moved.more ≡ true) same.0.0 (subst (λ (x : List Entry). are_own (is_of_child new.ear.child) p.number x ≡ true) (new_is p w.did.moved.more w.did.moved.is) own)) (record { link = wired.wired; written = written })).link;
   };
 }
+
+pub lones_end : LonesEnd
+lones_end o setup calls crew p old new desk desk' w same wired written through pos told post =
+    lone_ends o setup calls crew p old new desk desk' w same wired written (λ made. through) pos told post

@@ -22,7 +22,7 @@ use Rattle.crew_round.specs.Back.{CameBack}
 use Rattle.crew_round.specs.BackRole.{has_run, role_of}
 use Rattle.crew_rounds.specs.Coming.{IsFresh}
 use Rattle.crew_rounds.specs.Roles.{WorkerRan}
-use Rattle.crew_rounds.proofs.Coming.{begun_at}
+use Rattle.crew_rounds.proofs.Coming.{begun_at, still_through}
 use Rattle.crew_rounds.specs.Tagged.{AreFresh}
 use Rattle.pool_rounds.specs.Left.{IsThroughAt, LoneBack, LoneTells, links_of, passes_of}
 use Rattle.pool_rounds.specs.Pool.{AreSameLinks}
@@ -51,6 +51,7 @@ module _ (h : HallValue Entry Opening) (setup : Setup) where
         subst (λ (k : ℕ). Worked h.fixed setup true k false a.link.ear.child b.pass.start (seen_of b.pass) (LoneWired b.pass.start a.link.ear a.link.mouth) (LoneWired (seen_of b.pass) b.link.ear b.link.mouth) a.desk b.desk) (sym r.0.pass.number)
         (subst (λ (x : List Entry). Worked h.fixed setup true a.pass.number false a.link.ear.child x (seen_of b.pass) (LoneWired x a.link.ear a.link.mouth) (LoneWired (seen_of b.pass) b.link.ear b.link.mouth) a.desk b.desk)
         (begun_at h a.pass b.pass fresh r.0.pass.pass) r.0.worked);
+    through = λ made. r.0.through;
   }
 
   lone_stays : (a : LoneTells) → IsFresh h a.pass → a.link.mouth.child ≡ a.link.ear.child → LoneBack h setup a a
@@ -64,6 +65,7 @@ module _ (h : HallValue Entry Opening) (setup : Setup) where
         (begun_at h a.pass a.pass fresh fresh.pass)
         (worked_still h.fixed setup true a.pass.number false a.link.ear.child (λ x. LoneWired x a.link.ear a.link.mouth) (λ past more none w. lone_apart past more a.link.ear a.link.mouth one none w)
         (seen_of a.pass) (seen_of a.pass) a.desk (passed_none a.pass.number false (seen_of a.pass)));
+    through = still_through h.fixed a.link.ear.child a.pass fresh.none;
   }
 
   module _ {W : Type 0} (tells : W → LoneTells) (ran : W → W → Type 0) (Placed : W → Type 0) (works : (w v : W) → Placed w → ran w v → LoneRan h setup (tells w) (tells v)) where

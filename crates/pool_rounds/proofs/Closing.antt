@@ -22,7 +22,7 @@ use Rattle.gathering.specs.Rounds.{CorePass, KeepsPost, LinkValue, LoneEnds, Rou
 use Rattle.gathering.specs.Laws.{Distinct, GoesOn, Over, children_of, numbers_of}
 use Rattle.gathering.proofs.Crews.{child_at_lone}
 use Rattle.gathering.proofs.Ending.{stayed_keeps}
-use Rattle.gathering.proofs.Gathering.{Closed, closed, gathers, own_in}
+use Rattle.gathering.proofs.Gathering.{Closed, closed, gathers, turns_in}
 use Rattle.gathering.proofs.Rounding.{of_second, pool_keeps}
 use Rattle.gathering.proofs.WholeRounds.{pool_gathers}
 use Rattle.task_run.specs.declared.setup.Setup.{Setup}
@@ -52,7 +52,7 @@ module _ (h : HallValue Entry Opening) (setup : Setup) (main : CorePass) (starts
   abbrev dones : List (List TaskDone)
   dones = dones_of h setup starts ends came
 
-  abbrev means : ℕ → ℕ → List Entry → Type 0
+  abbrev means : ℕ → ℕ → ℕ → List Entry → Type 0
   means = HasJournalRun h.fixed setup (calls_from 2 (dones_of h setup starts ends came))
 
   abbrev crew : ℕ → Post
@@ -88,9 +88,9 @@ module _ (h : HallValue Entry Opening) (setup : Setup) (main : CorePass) (starts
   number_at : (i : ℕ) (p : CorePass) → slice_get (passes_of ends) i ≡ Some p → p.number ≡ i + 2
   number_at = by_place h setup 2 starts ends came fresh
 
-  manned : Pairwise (LoneEnds (HasJournalRun h.fixed setup (calls_from 2 (dones_of h setup starts ends came))) (pool_crew (children_of (links_of ends)))) (links_of ends) (passes_of ends)
+  manned : Pairwise (LoneEnds h.fixed (HasJournalRun h.fixed setup (calls_from 2 (dones_of h setup starts ends came))) (pool_crew (children_of (links_of ends)))) (links_of ends) (passes_of ends)
   manned =
-      ends_all h setup (calls_from 2 (dones_of h setup starts ends came)) (pool_crew (children_of (links_of ends))) 2 starts ends came fresh can.each (omega arith) (λ n t far. refl)
+      ends_all h setup (calls_from 2 (dones_of h setup starts ends came)) (pool_crew (children_of (links_of ends))) 2 starts ends came fresh can.each (omega arith) (λ n t k far. refl)
       (λ i c there. pool_posted (children_of (links_of ends)) i c (ap (λ (cs : List ℕ). slice_get cs i) (same_children h setup starts ends came) ∙ there))
 
   pub pool_closes : (final : List Entry) (fixed : Opening) → Over h (main ∷ passes_of ends) final fixed
@@ -102,8 +102,8 @@ module _ (h : HallValue Entry Opening) (setup : Setup) (main : CorePass) (starts
       dones = dones_of h setup starts ends came;
       round = subst (λ (cs : List ℕ). Round h.fixed means (pool_crew cs) (numbers_of (main ∷ passes_of ends)) h.start rest (links_of ends)) (same_children h setup starts ends came)
           (subst (λ (x : List Entry). Round h.fixed means (pool_crew (children_of (links_of ends))) (numbers_of (main ∷ passes_of ends)) h.start x (links_of ends)) same goes.2);
-      desks_did = did_all h setup rest 2 starts ends came fresh
-          (λ i p there. own_in h.fixed (pool_crew (children_of (links_of ends))) h.start rest (main ∷ passes_of ends) shut (suc i) p there);
+      desks_did = did_all h setup rest 2 starts ends came fresh can.each
+          (λ i p there. (shut.saw (suc i) p there, turns_in h.fixed (pool_crew (children_of (links_of ends))) h.start rest (main ∷ passes_of ends) shut (suc i) p there));
       wired = all_mapped (λ (e : LoneTells). e.link) (λ (l : LinkValue). LoneWired (h.start ++ rest) l.ear l.mouth) ends wired_at;
     },
   )

@@ -19,7 +19,7 @@ use Rattle.task_run.specs.declared.setup.Setup.{Setup}
 use Rattle.gathering.specs.JournalRuns.{HasJournalRun}
 use Rattle.lone_work.specs.Works.{TaskDone}
 use Rattle.crew_work.specs.Crews.{calls_of}
-use Rattle.crew_work.proofs.Ending.{lones_end}
+use Rattle.crew_work.proofs.Ending.{lone_ends}
 use Rattle.crew_rounds.specs.Crewing.{DesksDid}
 use Rattle.crew_rounds.proofs.Crewing.{Agree, Own, agree_here, agree_later, desk_did}
 use Rattle.crew_rounds.specs.Tagged.{AreFresh}
@@ -54,37 +54,38 @@ module _ (h : HallValue Entry Opening) (setup : Setup) where
   wired_one s e b m =
       subst (λ (x : List Entry). IsWired x s.link) (sym b.pass.2) (record { one_child = b.one_child; started = m.serves.started; wired = m.wired.link })
 
-  ends_one : (calls : ℕ → ℕ → List Call) (crew : ℕ → Post) (s e : LoneTells) → (b : LoneBack h setup s e) → MayServe h.fixed h.start s.link → 0 < e.pass.number
-      → ((t : ℕ) → calls e.pass.number t ≡ calls_of b.worked.done t) → crew e.pass.number ≡ Lone s.link.ear.child → LoneEnds (HasJournalRun h.fixed setup calls) crew e.link e.pass
+  ends_one : (calls : ℕ → ℕ → ℕ → List Call) (crew : ℕ → Post) (s e : LoneTells) → (b : LoneBack h setup s e) → MayServe h.fixed h.start s.link → 0 < e.pass.number
+      → ((t k : ℕ) → calls e.pass.number t k ≡ calls_of b.worked.done t k) → crew e.pass.number ≡ Lone s.link.ear.child → LoneEnds h.fixed (HasJournalRun h.fixed setup calls) crew e.link e.pass
   ends_one calls crew s e b m pos told post =
-      lones_end h.fixed setup calls crew e.pass s.link e.link s.desk e.desk b.worked b.same (wired_one s e b m)
-      (subst (λ (x : List Entry). is_written_first x s.link.ear.child ≡ true) (sym b.pass.2) m.wired.written) pos told
+      lone_ends h.fixed setup calls crew e.pass s.link e.link s.desk e.desk b.worked b.same (wired_one s e b m)
+      (subst (λ (x : List Entry). is_written_first x s.link.ear.child ≡ true) (sym b.pass.2) m.wired.written) b.through pos told
       (λ w k. subst (λ (q : Post). makes q w ≡ true) (sym post) k)
 
-  pub ends_all : (calls : ℕ → ℕ → List Call) (crew : ℕ → Post) (first : ℕ) (ss es : List LoneTells) → (all : Pairwise (LoneBack h setup) ss es) → AreFresh h first (passes_of ss)
+  pub ends_all : (calls : ℕ → ℕ → ℕ → List Call) (crew : ℕ → Post) (first : ℕ) (ss es : List LoneTells) → (all : Pairwise (LoneBack h setup) ss es) → AreFresh h first (passes_of ss)
       → All (MayServe h.fixed h.start) (links_of ss) → 0 < first → Agree calls first (dones_of ss es all) → Posted crew first (children_of (links_of ss))
-      → Pairwise (LoneEnds (HasJournalRun h.fixed setup calls) crew) (links_of es) (passes_of es)
+      → Pairwise (LoneEnds h.fixed (HasJournalRun h.fixed setup calls) crew) (links_of es) (passes_of es)
   ends_all calls crew first [] [] all fresh may pos agree posted = tt
   ends_all calls crew first [] (e ∷ es) all fresh may pos agree posted = absurd all
   ends_all calls crew first (s ∷ ss) [] all fresh may pos agree posted = absurd all
   ends_all calls crew first (s ∷ ss) (e ∷ es) all fresh may pos agree posted = (
     (let is : e.pass.number ≡ first = all.0.number ∙ fresh.0.1 in
         ends_one calls crew s e all.0 (All-head (MayServe h.fixed h.start) s.link (links_of ss) may) (omega (arith, is, pos))
-        (λ t. ap (λ (n : ℕ). calls n t) is ∙ agree_here calls first all.0.worked.done (dones_of ss es all.1) agree t)
+        (λ t k. ap (λ (n : ℕ). calls n t k) is ∙ agree_here calls first all.0.worked.done (dones_of ss es all.1) agree t k)
         (ap crew is ∙ posted_here crew first s.link.ear.child (children_of (links_of ss)) posted)),
     ends_all calls crew (first + 1) ss es all.1 fresh.1 (All-tail (MayServe h.fixed h.start) s.link (links_of ss) may) (omega (arith, pos))
         (agree_later calls first all.0.worked.done (dones_of ss es all.1) agree) (posted_later crew first s.link.ear.child (children_of (links_of ss)) posted),
   )
 
   pub did_all : (rest : List Entry) (first : ℕ) (ss es : List LoneTells) → (all : Pairwise (LoneBack h setup) ss es) → AreFresh h first (passes_of ss)
-      → ((i : ℕ) (p : CorePass) → slice_get (passes_of es) i ≡ Some p → Own rest p) → DesksDid rest first (dones_of ss es all) (desks_of ss) (desks_of es)
-  did_all rest first [] [] all fresh own = tt
-  did_all rest first [] (e ∷ es) all fresh own = absurd all
-  did_all rest first (s ∷ ss) [] all fresh own = absurd all
-  did_all rest first (s ∷ ss) (e ∷ es) all fresh own = (
-    desk_did h.fixed setup true s.link.ear.child first rest e.pass (LoneWired e.pass.start s.link.ear s.link.mouth) (LoneWired (seen_of e.pass) e.link.ear e.link.mouth) s.desk e.desk
-        (all.0.number ∙ fresh.0.1) all.0.worked (own zero e.pass refl),
-    did_all rest (first + 1) ss es all.1 fresh.1 (λ i p there. own (suc i) p there),
+      → All (MayServe h.fixed h.start) (links_of ss) → ((i : ℕ) (p : CorePass) → slice_get (passes_of es) i ≡ Some p → Own h.fixed h.start rest p)
+      → DesksDid h.fixed setup h.start rest first (dones_of ss es all) (desks_of ss) (desks_of es)
+  did_all rest first [] [] all fresh may own = tt
+  did_all rest first [] (e ∷ es) all fresh may own = absurd all
+  did_all rest first (s ∷ ss) [] all fresh may own = absurd all
+  did_all rest first (s ∷ ss) (e ∷ es) all fresh may own = (
+    desk_did h.fixed setup true s.link.ear.child first h.start rest e.pass (LoneWired e.pass.start s.link.ear s.link.mouth) (LoneWired (seen_of e.pass) e.link.ear e.link.mouth) s.desk e.desk
+        (all.0.number ∙ fresh.0.1) (All-head (MayServe h.fixed h.start) s.link (links_of ss) may).serves.number all.0.worked (own zero e.pass refl),
+    did_all rest (first + 1) ss es all.1 fresh.1 (All-tail (MayServe h.fixed h.start) s.link (links_of ss) may) (λ i p there. own (suc i) p there),
   )
 
   -- the numbers go on from the first

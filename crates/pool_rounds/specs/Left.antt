@@ -6,8 +6,8 @@ use Rattle.journal_model.specs.declared.opening.Opening.{Opening}
 use Rattle.link_roles.specs.Moves.{IsSameLink}
 use Rattle.link_roles.specs.Writings.{LoneWired}
 use Rattle.gathering.specs.Pairs.{Pairwise}
-use Rattle.gathering.specs.Rounds.{CorePass, LinkValue}
-use Rattle.gathering.specs.Tasks.{IsThrough}
+use Rattle.gathering.specs.Rounds.{CorePass, LinkValue, since}
+use Rattle.gathering.specs.Tasks.{IsThrough, IsThroughAfterAgain}
 use Rattle.task_run.specs.declared.setup.Setup.{Setup}
 use Rattle.lone_work.specs.Works.{DeskTells}
 use Rattle.crew_work.specs.Crews.{Worked}
@@ -38,13 +38,15 @@ links_of es = map (λ (e : LoneTells). e.link) es
 abbrev pub desks_of : List LoneTells → List DeskTells
 desks_of es = map (λ (e : LoneTells). e.desk) es
 
--- The pass came back, and with it the link and the desk, as a worker leaves them that has its child for itself.
+-- The pass came back, and with it the link and the desk, as a worker leaves them that has its child for itself. Where it left a task
+-- to be run again, it takes up no more.
 pub record LoneBack (h : HallValue Entry Opening) (setup : Setup) (start end : LoneTells) : Type 0 where
   pub pass : IsPassOf h end.pass
   pub number : end.pass.number ≡ start.pass.number
   pub one_child : start.link.mouth.child ≡ start.link.ear.child
   pub same : IsSameLink start.link.ear end.link.ear start.link.mouth end.link.mouth
   pub worked : Worked h.fixed setup true end.pass.number false start.link.ear.child end.pass.start (seen_of end.pass) (LoneWired end.pass.start start.link.ear start.link.mouth) (LoneWired (seen_of end.pass) end.link.ear end.link.mouth) start.desk end.desk
+  pub through : IsThroughAfterAgain h.fixed end.pass.number start.link.ear.child (since end.pass) (seen_of end.pass)
 
 -- one of the workers has seen that there is nothing more to do for its child
 pub record IsThroughAt (h : HallValue Entry Opening) (ends : List LoneTells) : Type 0 where

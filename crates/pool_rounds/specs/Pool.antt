@@ -24,11 +24,11 @@ AreSameLinks links links' = Pairwise (λ (l l' : LinkValue). IsSameLink l.ear l'
 abbrev pub AreAsBefore : {L K : Type 0} → List L → List L → List K → List K → Type 0
 AreAsBefore links links' desks desks' = (links' ≡ links) × (desks' ≡ desks)
 
--- What Round says of a pool over these links, where each task that was taken has its run in the journal, with the calls that its
--- worker's desk made for it; each desk made the calls of its worker's tasks, in their order, and no others; and in the journal each
+-- What Round says of a pool over these links, where each turn that was taken has its run in the journal, with the calls that its
+-- worker's desk made for it; each desk made the calls of its worker's runs, in their order, and no others; and in the journal each
 -- request to a child was written before a line answered it. The workers have the numbers from 2 on.
 pub record PoolLeaves (o : Opening) (setup : Setup) (numbers : List ℕ) (start rest : List Entry) (links links' : List LinkValue) (desks desks' : List DeskTells) : Type 0 where
   pub dones : List (List TaskDone)
   pub round : Round o (HasJournalRun o setup (calls_from 2 dones)) (pool_crew (children_of links)) numbers start rest links'
-  pub desks_did : DesksDid rest 2 dones desks desks'
+  pub desks_did : DesksDid o setup start rest 2 dones desks desks'
   pub wired : All (λ (l : LinkValue). LoneWired (start ++ rest) l.ear l.mouth) links'
