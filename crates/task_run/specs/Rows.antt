@@ -12,12 +12,19 @@ use Rattle.ann_outside.specs.declared.file_desk.Call.{Call}
 use Rattle.ann_outside.specs.declared.file_desk.Call.TheVariants.{Size, ReadAt, Create, Append, Cut, Rename, Remove}
 use Rattle.task_run.specs.Askers.{Asking, Noting}
 use Rattle.task_run.specs.declared.setup.Setup.{Setup}
+use Rattle.task_run.specs.declared.turn.TaskTurn.{TaskTurn}
 
 abbrev pub task_of : Work → List ℕ → List ℕ → Task
 task_of work key file = record { work = work; key = key; file = file; name = []; onto = [] }
 
 abbrev pub setup_of : ℕ → Setup
 setup_of chunk = record { work = codes "w"; stamp = 1700000000000000; chunk = chunk }
+
+abbrev pub first_turn : ℕ → TaskTurn
+first_turn t = record { task = t; turn = 1 }
+
+abbrev pub second_turn : ℕ → TaskTurn
+second_turn t = record { task = t; turn = 2 }
 
 abbrev pub asks : HostMessage → Verdict → Asking
 asks q v = record { request = Some q; name = None; verdict = v }
