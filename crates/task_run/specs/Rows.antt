@@ -273,3 +273,13 @@ gets_hi = asks (Transfer false (codes "WORM-s2--a") fetched_2_1) (Done 18) ∷ [
 
 abbrev pub got_hi : List Call
 got_hi = sized fetched_2_1 2 ++ Create (codes "o.part") (Ok tt) ∷ moved fetched_2_1 (codes "o.part") (codes "hi") ++ renamed
+
+-- what the second turn of a task fetches has a name of its own
+abbrev pub fetched_again : List ℕ
+fetched_again = codes "w/1700000000000000-1-1-2.fetch"
+
+abbrev pub gets_again : List Asking
+gets_again = asks (Transfer false (codes "WORM-s3--a") fetched_again) (Done 27) ∷ []
+
+abbrev pub got_again : List Call
+got_again = sized fetched_again 3 ++ Create (codes "o.part") (Ok tt) ∷ moved fetched_again (codes "o.part") (codes "abc") ++ renamed

@@ -58,6 +58,6 @@ pub record RunOf (setup : Setup) (t : TaskTurn) (task : Task) (key : Parts) (lay
   pub answered : AnsweredBy (stops_of task.work (part_of task.file) asked calls) answer (WorkAnswers setup t task key layouts task.work asked calls noted answer)
 
 -- The run of task number t: its settled requests, its desk's calls, its notes, and its answer. Running out of memory may end it early.
-abbrev pub TaskRun : Task → ℕ → Setup → List (ℕ × ℕ) → List Asking → List Call → List Noting → Answer → Type 0
+abbrev pub TaskRun : Task → TaskTurn → Setup → List (ℕ × ℕ) → List Asking → List Call → List Noting → Answer → Type 0
 TaskRun task t setup layouts asked calls noted answer =
     IfSome (key_reading task.key) (λ key. RunOf setup t task key layouts asked calls noted answer)

@@ -27,6 +27,7 @@ fn fetch_text(alloc: Global, setup: &Setup, turn: TaskTurn, n: u64) -> Result<Te
     let stamp = setup.stamp;
     let number = turn.task;
     let turn = turn_text(alloc, turn.turn)?;
+    let turn = turn.view();
     let name = format!(in alloc; "{work}/{stamp}-{number}-{n}{turn}.fetch")?;
     Ok(Text::from_string(name))
 }
@@ -50,19 +51,20 @@ fn chunk_text(alloc: Global, setup: &Setup, turn: TaskTurn, n: u64) -> Result<Te
     let stamp = setup.stamp;
     let number = turn.task;
     let turn = turn_text(alloc, turn.turn)?;
+    let turn = turn.view();
     let name = format!(in alloc; "{work}/{stamp}-{number}-{n}{turn}.chunk")?;
     Ok(Text::from_string(name))
 }
 
 // What the names of a turn's files say of it.
-fn turn_text(alloc: Global, turn: u32) -> Result<String, NoMemory>
+fn turn_text(alloc: Global, turn: u32) -> Result<Text, NoMemory>
     ensures { IfOk result (λ text. text ≡ turn_text turn) }
 {
     if turn <= 1 {
-        Ok(String::new(alloc))
-    } else {
-        Ok(format!(in alloc; "-{turn}")?)
+        return Ok(Text::from_string(String::new(alloc)));
     }
+    let text = format!(in alloc; "-{turn}")?;
+    Ok(Text::from_string(text))
 }
 
 /// What a get has fetched so far of a file.

@@ -5,7 +5,7 @@ ghost use Rattle.journal_model.specs.declared.verdict.Verdict.TheVariants.{Done,
 ghost use Rattle.ann_outside.specs.declared.file_desk.DeskError.TheVariants.{Missing, Failed as CallFailed};
 ghost use Rattle.ann_outside.specs.declared.file_desk.Call.TheVariants.{Size, Create};
 ghost use Rattle.journal_model.specs.declared.answer.Answer.TheVariants.{Stored, Got, Present, Dropped, Absent as AbsentAnswer, FileFault, NoFile, Memory, Failed as FailedAnswer, Ended as EndedAnswer, Size as SizeAnswer, Hash as HashAnswer};
-ghost use Rattle.task_run.specs.Rows.{task_of, setup_of, first_turn, second_turn, asks, notes, store_a, stores_a, sized, get_abc, fetched_1, gets_abc, got_abc, cut_abc, renamed, part_gone, get_own, got_own, got_away, store_ten, stores_ten, stored_ten, finds_ten, lost_ten, stored_short, cut_behind_filling, made_twice, stores_empty, stored_empty, never_made, empty_key, get_ten, gets_ten, resumed_ten, unread_ten, grown_on_nine, cut_behind_ten, half_read_ten, get_none, goes_on_ten, short_then_more, drop_ten, drops_ten, check_ten, checks_ten, abc, get_md5, gets_md5, resumed_foo, gets_whole_md5, fetched_foo, gets_hi, got_hi};
+ghost use Rattle.task_run.specs.Rows.{task_of, setup_of, first_turn, second_turn, asks, notes, store_a, stores_a, sized, get_abc, fetched_1, gets_abc, got_abc, cut_abc, renamed, part_gone, get_own, got_own, got_away, store_ten, stores_ten, stored_ten, finds_ten, lost_ten, stored_short, cut_behind_filling, made_twice, stores_empty, stored_empty, never_made, empty_key, get_ten, gets_ten, resumed_ten, unread_ten, grown_on_nine, cut_behind_ten, half_read_ten, get_none, goes_on_ten, short_then_more, drop_ten, drops_ten, check_ten, checks_ten, abc, get_md5, gets_md5, resumed_foo, gets_whole_md5, fetched_foo, gets_hi, got_hi, gets_again, got_again};
 ghost use Rattle.ann_key.specs.Keys.{Parts, key_reading};
 ghost use Rattle.ann_digest.specs.Fits.{IsDigestFor, FitsKey};
 ghost use Rattle.task_run.specs.Runs.{TaskRun};
@@ -116,6 +116,8 @@ pub fn fitting_runs()
     ensures stored_first { TaskRun (task_of Store (codes "WORM-s2--a") (codes "f")) (first_turn 1) (setup_of 0) [] (asks (Transfer true (codes "WORM-s2--a") (codes "f")) (Done 13) ∷ []) (sized (codes "f") 2) [] Stored }
     ensures got_then { TaskRun (task_of Get (codes "WORM-s2--a") (codes "o")) (first_turn 2) (setup_of 0) [] gets_hi got_hi [] Got }
     ensures got_as_other { TaskRun (task_of Get (codes "WORM-s2--a") (codes "o")) (first_turn 1) (setup_of 0) [] gets_hi got_hi [] Got → ⊥ }
+    ensures got_again { TaskRun get_abc (second_turn 1) (setup_of 0) [] gets_again got_again [] Got }
+    ensures other_turn { TaskRun get_abc (second_turn 1) (setup_of 0) [] (gets_abc (Done 13)) (got_abc (codes "abc") ++ renamed) [] Got → ⊥ }
     ensures not_looked_at { TaskRun get_ten (first_turn 1) (setup_of 0) ((4, 3) ∷ []) gets_ten unread_ten [] Got → ⊥ }
     ensures grown_on_nine { TaskRun get_ten (first_turn 1) (setup_of 0) ((4, 3) ∷ []) gets_ten grown_on_nine [] Got → ⊥ }
     ensures cut_behind_resumed { TaskRun get_ten (first_turn 1) (setup_of 0) ((4, 3) ∷ []) gets_ten cut_behind_ten [] Got → ⊥ }
