@@ -12,9 +12,10 @@ use Rattle.journal_model.specs.declared.entry.Entry.{Entry}
 use Rattle.journal_model.specs.declared.opening.Opening.{Opening}
 use Rattle.journal_model.specs.Rows.{by_main, greeting, opening_of}
 use Rattle.task_text.specs.declared.task.Work.TheVariants.{Store, Get}
-use Rattle.task_run.specs.Rows.{task_of, fetched_2_1, got_hi, sized, store_ten, c1, chunk_2}
+use Rattle.task_run.specs.Rows.{task_of, first_turn, fetched_2_1, got_hi, sized, store_ten, c1, chunk_2}
 use Rattle.task_laws.specs.Changes.{Request}
 use Rattle.task_laws.specs.Faithful.{Told}
+use Rattle.task_run.specs.declared.turn.TaskTurn.{TaskTurn}
 
 -- what the keys say
 abbrev pub ten_parts : Parts
@@ -64,24 +65,24 @@ abbrev pub stored_then_got : List Entry
 stored_then_got = greeting ++ storing ++ getting
 
 abbrev pub the_store : Request
-the_store = record { at = 11; child = 1; job = 2; task = 1; asks = Transfer true hi (codes "f") }
+the_store = record { at = 11; child = 1; job = 2; turn = first_turn 1; asks = Transfer true hi (codes "f") }
 
 abbrev pub the_retrieve : Request
-the_retrieve = record { at = 17; child = 1; job = 3; task = 2; asks = Transfer false hi fetched_2_1 }
+the_retrieve = record { at = 17; child = 1; job = 3; turn = first_turn 2; asks = Transfer false hi fetched_2_1 }
 
 -- The desk of the first task holds these bytes as its file, and this is what the second task's calls did at its own, which held what was
 -- retrieved as it was found.
 abbrev pub told_of : List ℕ → List Call → Told
 told_of bytes calls = record { calls = of_task; before = held; after = left }
   where
-    of_task : ℕ → List Call
-    of_task t = if t == 2 then calls else if t == 1 then sized (codes "f") 2 else []
+    of_task : TaskTurn → List Call
+    of_task t = if t.task == 2 then calls else if t.task == 1 then sized (codes "f") 2 else []
 
-    held : ℕ → Files
-    held t = if t == 2 then (fetched_2_1, codes "hi") ∷ [] else (codes "f", bytes) ∷ []
+    held : TaskTurn → Files
+    held t = if t.task == 2 then (fetched_2_1, codes "hi") ∷ [] else (codes "f", bytes) ∷ []
 
-    left : ℕ → Files
-    left t = if t == 2 then (codes "o", codes "hi") ∷ [] else (codes "f", bytes) ∷ []
+    left : TaskTurn → Files
+    left t = if t.task == 2 then (codes "o", codes "hi") ∷ [] else (codes "f", bytes) ∷ []
 
 -- the remote sent what was stored, and another content
 abbrev pub told_hi : Told
@@ -105,7 +106,7 @@ one_store = opening_of (store_ten ∷ [])
 
 -- its request for the first chunk
 abbrev pub first_chunk : Request
-first_chunk = record { at = 14; child = 1; job = 3; task = 1; asks = Transfer true c1 chunk_2 }
+first_chunk = record { at = 14; child = 1; job = 3; turn = first_turn 1; asks = Transfer true c1 chunk_2 }
 
 -- this is what its calls did at a desk that held this file before them
 abbrev pub told_calls : List Call → Told

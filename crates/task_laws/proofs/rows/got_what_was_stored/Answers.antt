@@ -11,7 +11,7 @@ use Rattle.journal_model.specs.declared.verdict.Verdict.TheVariants.{Done}
 use Rattle.journal_model.specs.Rows.{greeting}
 use Rattle.task_text.specs.declared.task.Work.TheVariants.{Get}
 use Rattle.task_run.specs.Askings.{TaskStretch}
-use Rattle.task_run.specs.Rows.{task_of, setup_of, asks, fetched_2_1, got_hi}
+use Rattle.task_run.specs.Rows.{task_of, setup_of, first_turn, asks, fetched_2_1, got_hi}
 use Rattle.task_run.specs.Runs.{TaskRun}
 use Rattle.gathering.specs.JournalRuns.{JournalRun}
 use Rattle.task_laws.specs.Changes.{Retrieves}
@@ -27,7 +27,7 @@ no_digest Sha256 extended e = let P : List ℕ → Type 0 = λ l. IsTrue (slice_
 no_digest Sha384 extended e = let P : List ℕ → Type 0 = λ l. IsTrue (slice_index l 0 == 87) in let h : false ≡ true = subst P e refl in cc
 no_digest Sha512 extended e = let P : List ℕ → Type 0 = λ l. IsTrue (slice_index l 0 == 87) in let h : false ≡ true = subst P e refl in cc
 
-ran : TaskRun (task_of Get hi (codes "o")) 2 (setup_of 0) [] (asks (Transfer false hi fetched_2_1) (Done 19) ∷ []) got_hi [] Got
+ran : TaskRun (task_of Get hi (codes "o")) (first_turn 2) (setup_of 0) [] (asks (Transfer false hi fetched_2_1) (Done 19) ∷ []) got_hi [] Got
 unfolding digits
 ran = record {
   asked_till_stop = refl;
@@ -47,22 +47,25 @@ stretch = record {
   by = 0;
   child = 1;
   within = retrieving;
-  answered_by = 0;
+  closed_by = 0;
+  renewed = false;
   answer = Got;
   rest = [];
   is = refl;
   one = refl;
 }
 
-abbrev run : JournalRun store_then_get (setup_of 0) got_hi 0 2 stored_then_got
+abbrev run : JournalRun store_then_get (setup_of 0) got_hi 0 2 1 stored_then_got
 run = record {
   task = task_of Get hi (codes "o");
   is = refl;
   run = stretch;
   by_it = refl;
+  turn = refl;
   layouts = [];
   known = record { book = []; order = refl; counts = λ k uuid chunk. refl; current = record { standing = []; those = record { moves = []; below = tt; is = refl }; order = λ k d low high. absurd (omega arith); pairs = refl } };
   ran = ran;
+  shut = refl;
 }
 
 retrieves : Retrieves stored_then_got the_retrieve the_store hi fetched_2_1
