@@ -16,3 +16,4 @@ pub mod GotFiles
 pub mod LeftFiles
 pub mod FilesStored
 pub mod NoPart
+pub mod WormKeys

@@ -6,7 +6,7 @@ ghost use Rattle.ann_outside.specs.declared.file_desk.DeskError.TheVariants.{Mis
 ghost use Rattle.journal_model.specs.declared.answer.Answer.TheVariants.{Got};
 ghost use Rattle.journal_model.specs.declared.verdict.Verdict.TheVariants.{Absent, Done, Failed, Unknown};
 ghost use Rattle.journal_model.specs.Rows.{greeting};
-ghost use Rattle.task_run.specs.Rows.{setup_of, first_turn, store_a, stores_a, sized, get_abc, fetched_1, gets_abc, got_abc, renamed, part_gone, store_ten, stores_ten, stored_ten, cut_behind_filling, made_twice, lost_ten, stored_short, get_ten, gets_ten, resumed_ten, check_ten, checks_ten, finds_ten, asks, c1, fetched_2_1, got_hi};
+ghost use Rattle.task_run.specs.Rows.{setup_of, first_turn, second_turn, store_a, stores_a, sized, get_abc, fetched_1, gets_abc, got_abc, renamed, part_gone, store_ten, stores_ten, stored_ten, cut_behind_filling, made_twice, lost_ten, stored_short, get_ten, gets_ten, resumed_ten, check_ten, checks_ten, finds_ten, asks, c1, fetched_2_1, got_hi};
 ghost use Rattle.annex_model.specs.Messages.{Checkpresent, Transfer};
 ghost use Rattle.task_text.specs.declared.task.Work.TheVariants.{XCheck};
 ghost use Rattle.task_run.specs.ExportRows.{checks_docs, docs_task, get_docs, gets_docs, rename_docs, renames_docs, store_docs, stores_docs};
@@ -19,7 +19,7 @@ ghost use Rattle.task_laws.specs.FilesKept.{HasNoPart};
 ghost use Rattle.task_laws.specs.Kept.{is_afresh};
 ghost use Rattle.task_laws.specs.Retrieval.{GotStored};
 ghost use Rattle.task_laws.specs.WentWell.{WentWell};
-ghost use Rattle.task_laws.specs.Rows.{ten_parts, worm_parts, abc_parts, hi, hi_parts, store_then_get, storing, stored_then_got, the_store, the_retrieve, told_hi, told_ho, told_left, filled_early, one_store, first_chunk, told_calls, stored_again, removed, other_removed, not_stored};
+ghost use Rattle.task_laws.specs.Rows.{ten_parts, worm_parts, abc_parts, hi, hi_parts, store_then_get, storing, stored_then_got, the_store, the_retrieve, told_hi, told_ho, told_left, filled_early, one_store, first_chunk, told_calls, stored_again, removed, other_removed, not_stored, with_again, lost_then_got, told_again};
 
 /// A store whose questions were answered in any way went well, and not one that failed, whose child was gone, or whose file shrank.
 pub fn stores_went_well()
@@ -83,6 +83,7 @@ pub fn what_stored()
     ensures failed { stored_by (greeting ++ not_stored) hi 16 18 ≡ None }
     ensures again { stored_by (greeting ++ storing ++ stored_again ∷ []) hi 17 19 ≡ None }
     ensures removed { stored_by (greeting ++ storing ++ removed ∷ []) hi 17 19 ≡ None }
+    ensures last_run { stored_by lost_then_got hi 33 35 ≡ Some the_store }
     ensures other_removed { stored_by (greeting ++ storing ++ other_removed ∷ []) hi 17 19 ≡ Some the_store }
 {}
 
@@ -107,6 +108,11 @@ pub fn faithful_remotes()
 pub fn played_at_its_desk()
     ensures hi { IsPlayed (told_left (codes "hi")) (first_turn 2) }
     ensures ho { IsPlayed (told_left (codes "ho")) (first_turn 2) → ⊥ }
+{}
+
+/// The last run of a task got what was stored, where the child was lost under the run before.
+pub fn got_in_the_last_run()
+    ensures { GotStored with_again (setup_of 0) told_again lost_then_got 0 (second_turn 2) hi_parts (the_store ∷ []) }
 {}
 
 /// The second task of that run got what the first one stored.

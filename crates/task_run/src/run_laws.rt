@@ -167,6 +167,6 @@ pub fn got_needs_fit()
 /// Each run of a task that is run twice has its own turn, requests, notes and answer. The main thread and the first worker use desk 1.
 pub fn stretches()
     ensures first { (run : TaskStretch dropped_twice 1) × (run_askings run ≡ removes (Ended Eof)) × (run_notings run ≡ []) × (run.answer ≡ lost_answer) × (run_turn run ≡ first_turn 1) × (is_last_run run ≡ false) }
-    ensures second { (run : TaskStretch dropped_twice 1) × (run_askings run ≡ removes (Done 30)) × (run_notings run ≡ notes 4 0 1 ∷ []) × (run.answer ≡ Dropped) × (run_turn run ≡ second_turn 1) × (is_last_run run ≡ true) }
+    ensures second { (run : TaskStretch dropped_twice 1) × (run_askings run ≡ removes (Done 29)) × (run_notings run ≡ notes 4 0 1 ∷ []) × (run.answer ≡ Dropped) × (run_turn run ≡ second_turn 1) × (is_last_run run ≡ true) }
     ensures desks { (desk_of dropped_twice 0 1 ≡ 1) × (desk_of dropped_twice 1 1 ≡ 1) × (desk_of dropped_twice 3 1 ≡ 2) × (desk_of crossed 1 1 ≡ 1) × (desk_of crossed 5 1 ≡ 2) }
 {}

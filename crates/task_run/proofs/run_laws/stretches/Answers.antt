@@ -15,7 +15,7 @@ returns-clause-first c = (
     closed_by = 0;
     renewed = true;
     answer = lost_answer;
-    rest = next_greeting ++ second_run;
+    rest = next_greeting 16 ++ second_run;
     is = refl;
     one = refl;
   },
@@ -29,7 +29,7 @@ returns-clause-first c = (
 pub returns-clause-second : goal.returns-clause-second
 returns-clause-second c = (
   record {
-    past = greeting ++ first_run ++ next_greeting;
+    past = greeting ++ first_run ++ next_greeting 16;
     by = 0;
     child = 2;
     within = second_within;
