@@ -17,3 +17,4 @@ pub mod LeftFiles
 pub mod FilesStored
 pub mod NoPart
 pub mod WormKeys
+pub mod LastRuns

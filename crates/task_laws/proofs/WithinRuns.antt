@@ -40,13 +40,14 @@ requests_from-append past (e ∷ xs) ys =
     joined None front back = refl
     joined (Some r) front back = refl
 
--- ---- each request of a task stands while it is claimed and not answered
+-- ---- each request of a task, and each Again of it, stands while it is claimed and not answered
 
-abbrev asks_of : ℕ → What → Bool
+abbrev pub asks_of : ℕ → What → Bool
 asks_of u (Ask child job task line) = task == u
+asks_of u (Again task answer) = task == u
 asks_of u w = false
 
-abbrev are_held : ℕ → List Entry → List Entry → Bool
+abbrev pub are_held : ℕ → List Entry → List Entry → Bool
 are_held u past [] = true
 are_held u past (e ∷ rest) = (not (asks_of u e.what) || (is_claimed past u && not (is_answered past u))) && are_held u (past ++ e ∷ []) rest
 
@@ -73,9 +74,14 @@ none_held u past (e ∷ xs) h = by_what e.what h (none_held u (past ++ e ∷ [])
         let none : (task == u) ≡ false = o.0 in
         let rest : are_held u (past ++ e ∷ []) xs ≡ true = more o.1 in
         rw (none, rest) refl
+    by_what (Again task answer) h more =
+        let o = off (task == u) (any (is_of_task u) xs) h in
+        let none : (task == u) ≡ false = o.0 in
+        let rest : are_held u (past ++ e ∷ []) xs ≡ true = more o.1 in
+        rw (none, rest) refl
     by_what w h more = more (off (is_of_task u w) (any (is_of_task u) xs) h).1
 
-all_held : (o : Opening) (journal : List Entry) (u : ℕ) → 0 < u → Legal o journal → are_held u [] journal ≡ true
+pub all_held : (o : Opening) (journal : List Entry) (u : ℕ) → 0 < u → Legal o journal → are_held u [] journal ≡ true
 all_held o journal u pos legal = Legal-induction o (λ p. are_held u [] p ≡ true) refl (λ past e l before may. step past e.by e.what l before may) journal legal
   where
     step : (past : List Entry) (by : ℕ) (w : What) → Near o past → are_held u [] past ≡ true → may_come o past by w ≡ true → are_held u [] (past ++ entry by w ∷ due_after o past (entry by w)) ≡ true
@@ -96,11 +102,20 @@ all_held o journal u pos legal = Legal-induction o (λ p. are_held u [] p ≡ tr
                     let is : task ≡ u = eqb-true task u e in
                     let work : may_work past by u child ≡ true = subst (λ (k : ℕ). may_work past by k child ≡ true) is (ask_work o past by child job task line m) in
                     sym (held_near o past l u) ∙ held_busy by (holder past u) (worker past by u child pos work)
+            own (Again task answer) m = by_test (task == u) refl
+              where
+                by_taking : ((is_claimed past u ≡ false) × (false ≡ true)) ⊎ ((is_claimed_by past by u ≡ true) × (false ≡ false)) → (is_claimed past u && not (is_answered past u)) ≡ true
+                by_taking (inl x) = apart x.1
+                by_taking (inr x) = sym (held_near o past l u) ∙ held_busy by (holder past u) x.0
+
+                by_test : (b : Bool) → (task == u) ≡ b → (not b || (is_claimed past u && not (is_answered past u))) ≡ true
+                by_test false e = refl
+                by_test true e = by_taking (takes o past by u (Again task answer) pos m e)
             own v m = refl
 
 -- ---- a task is claimed where it isn't claimed
 
-abbrev are_free : ℕ → List Entry → List Entry → Bool
+abbrev pub are_free : ℕ → List Entry → List Entry → Bool
 are_free u past [] = true
 are_free u past (e ∷ rest) = (not (claims u e.what) || not (is_claimed past u)) && are_free u (past ++ e ∷ []) rest
 
@@ -124,7 +139,7 @@ claims_task : (u : ℕ) (w : What) → claims u w ≡ true → is_of_task u w �
 claims_task u (Claim task child) h = h
 claims_task u w h = absurd cc
 
-all_free : (o : Opening) (journal : List Entry) (u : ℕ) → 0 < u → Legal o journal → are_free u [] journal ≡ true
+pub all_free : (o : Opening) (journal : List Entry) (u : ℕ) → 0 < u → Legal o journal → are_free u [] journal ≡ true
 all_free o journal u pos legal = Legal-induction o (λ p. are_free u [] p ≡ true) refl (λ past e l before may. step past e.by e.what before may) journal legal
   where
     step : (past : List Entry) (by : ℕ) (w : What) → are_free u [] past ≡ true → may_come o past by w ≡ true → are_free u [] (past ++ entry by w ∷ due_after o past (entry by w)) ≡ true
@@ -156,7 +171,7 @@ free_at u past (x ∷ xs) e ys h c =
     ap (λ (p : List Entry). is_claimed p u) (sym (append_assoc past (x ∷ []) xs)) ∙ free_at u (past ++ x ∷ []) xs e ys rest.1 c
 
 -- it is claimed on in the same turn
-claimed_on_still : (u : ℕ) (xs : List Entry) → count (renews u) xs ≡ 0 → fold (claimed_on u) true xs ≡ true
+pub claimed_on_still : (u : ℕ) (xs : List Entry) → count (renews u) xs ≡ 0 → fold (claimed_on u) true xs ≡ true
 claimed_on_still u [] none = refl
 claimed_on_still u (e ∷ xs) none = by_what e.what none (claimed_on_still u xs)
   where
@@ -241,7 +256,7 @@ held_at u past (e ∷ rest) s h t k =
 
 -- ---- within the run
 
-answered_so : (u by : ℕ) (xs : List Entry) (answer : Answer) → is_answered (xs ++ record { by = by; what = Answered u answer } ∷ []) u ≡ true
+pub answered_so : (u by : ℕ) (xs : List Entry) (answer : Answer) → is_answered (xs ++ record { by = by; what = Answered u answer } ∷ []) u ≡ true
 answered_so u by [] answer = let e : (u == u) ≡ true = eq-eqb u u refl in rw e refl
 answered_so u by (x ∷ xs) answer = let h : is_answered (xs ++ record { by = by; what = Answered u answer } ∷ []) u ≡ true = answered_so u by xs answer in by_test (answers u x.what) h
   where

@@ -1,5 +1,5 @@
 -- What a get leaves of what was stored before, where the remote is faithful.
-use Rattle.std.specs.Prelude.{ℕ, ◌≡◌, true, List, [], ◌∷◌, ◌++◌, map, All, Some, None}
+use Rattle.std.specs.Prelude.{ℕ, ◌≡◌, ◌<◌, true, false, List, [], ◌∷◌, ◌++◌, map, All, Some, None}
 use Rattle.std.specs.List.{concat, list_all}
 use Rattle.ann_key.specs.Keys.{Parts, key_reading}
 use Rattle.ann_digest.specs.Fits.{FitsKey}
@@ -7,11 +7,11 @@ use Rattle.ann_outside.specs.Files.{Files, content}
 use Rattle.journal_model.specs.declared.answer.Answer.TheVariants.{Got}
 use Rattle.journal_model.specs.declared.entry.Entry.{Entry}
 use Rattle.journal_model.specs.declared.opening.Opening.{Opening}
-use Rattle.journal_model.specs.Legality.{Legal}
+use Rattle.journal_model.specs.Legality.{Legal, is_of_lost_child}
 use Rattle.task_text.specs.declared.task.Work.TheVariants.{Store}
 use Rattle.task_run.specs.declared.setup.Setup.{Setup}
 use Rattle.task_run.specs.declared.turn.TaskTurn.{TaskTurn}
-use Rattle.task_run.specs.Askings.{run_askings}
+use Rattle.task_run.specs.Askings.{TaskStretch, is_last_run, run_askings}
 use Rattle.task_run.specs.Names.{part_of}
 use Rattle.task_run.specs.Reads.{appended, holds, are_found_so, is_renaming, is_last}
 use Rattle.task_run.specs.Gets.{asked_last, since_begin, checked}
@@ -25,7 +25,7 @@ use Rattle.task_laws.specs.FilesKept.{leaves}
 use Rattle.task_laws.specs.Kept.{is_afresh, Keeps}
 
 -- A run of a task by any number, in this turn, got its content, afresh, and these stored the keys of its last layout before it retrieved
--- them. A run that got is the task's last one: the task was answered.
+-- them. It is the task's last run, since the task was answered.
 pub record GotStored (o : Opening) (setup : Setup) (told : Told) (journal : List Entry) (number : ℕ) (t : TaskTurn) (key : Parts) (stores : List Request) : Type 0 where
   pub run : JournalRun o setup (told.calls t) number t.task t.turn journal
   pub keyed : key_reading run.task.key ≡ Some key
@@ -95,3 +95,11 @@ abbrev pub LastsToTheEnd : Type 0
 LastsToTheEnd =
     (told : Told) (name bytes : List ℕ) (t : TaskTurn) (earlier later : List TaskTurn) (old new : Files) → AreInTurn told (earlier ++ t ∷ later) old new
     → content name (told.after t) ≡ Some bytes → AllLeave told name later → content name new ≡ Some bytes
+
+-- ---- the last run
+
+-- A run of a task whose child wasn't lost answers the task, and is its last one.
+abbrev pub AnsweredIsLast : Type 0
+AnsweredIsLast =
+    (o : Opening) (journal : List Entry) (t : ℕ) (run : TaskStretch journal t) → 0 < t → Legal o journal → is_of_lost_child run.answer ≡ false
+    → (run.renewed ≡ false) × (is_last_run run ≡ true)
