@@ -1,10 +1,9 @@
 -- In a legal journal a run whose child wasn't lost is the last of its task.
-use Rattle.std.proofs.Common.{◌≡◌, ◌∙◌, ℕ, ◌<◌, ◌==◌, Bool, true, false, not, List, [], ◌∷◌, ◌++◌, length, refl, sym, ap, subst, append_assoc}
+use Rattle.std.proofs.Common.{◌≡◌, ◌∙◌, ℕ, ◌<◌, ◌==◌, Bool, true, false, not, List, [], ◌∷◌, ◌++◌, refl, sym, ap, subst, append_assoc}
 use Rattle.std.specs.Prelude.{◌&&◌, ◌||◌, nat_lt, fold}
 use Rattle.std.specs.List.{list_all}
 use Rattle.std.proofs.lemmas.Bool.{and_parts, or_parts, eq-eqb}
 use Rattle.std.proofs.lemmas.List.{append-nil}
-use Rattle.journal_model.specs.declared.answer.Answer.{Answer}
 use Rattle.journal_model.specs.declared.entry.What.{What}
 use Rattle.journal_model.specs.declared.entry.What.TheVariants.{Claim, Answer as Answered, Again}
 use Rattle.journal_model.specs.declared.entry.Entry.{Entry}
@@ -17,7 +16,7 @@ use Rattle.journal_model.proofs.Growing.{Legal-induction}
 use Rattle.journal_model.proofs.Holding.{claimed_append}
 use Rattle.journal_model.proofs.Looks.{entry, any-append}
 use Rattle.journal_model.proofs.Working.{due_untasked}
-use Rattle.task_run.specs.Askings.{TaskStretch, bounds_run, closing, is_last_run}
+use Rattle.task_run.specs.Askings.{bounds_run, closing}
 use Rattle.task_run.proofs.Texts.{apart}
 use Rattle.task_laws.specs.Retrieval.{AnsweredIsLast}
 use Rattle.task_laws.proofs.WithinRuns.{all_free, all_held, answered_so, are_free, are_held, asks_of, claimed_on_still}
@@ -135,14 +134,8 @@ unrenewed u (e ∷ xs) h =
 pub answered_is_last : AnsweredIsLast
 answered_is_last o journal u run pos legal kept = (unrun run.renewed refl, ap (λ (b : Bool). not b) none)
   where
-    claim : Entry
-    claim = record { by = run.by; what = Claim u run.child }
-
     front : List Entry
     front = run.past ++ record { by = run.by; what = Claim u run.child } ∷ run.within
-
-    end : Entry
-    end = record { by = run.closed_by; what = closing run.renewed u run.answer }
 
     unrun : (b : Bool) → run.renewed ≡ b → run.renewed ≡ false
     unrun false e = e
@@ -153,9 +146,6 @@ answered_is_last o journal u run pos legal kept = (unrun run.renewed refl, ap (�
         let same : (u == u) ≡ true = eq-eqb u u refl in
         let lost : is_of_lost_child run.answer ≡ true = (let k : (not (u == u) || is_of_lost_child run.answer) ≡ true = again in rw same at k) in
         apart (sym kept ∙ lost)
-
-    answered : Entry
-    answered = record { by = run.closed_by; what = Answered u run.answer }
 
     is : journal ≡ (front ++ record { by = run.closed_by; what = Answered u run.answer } ∷ []) ++ run.rest
     is =

@@ -18,7 +18,6 @@ use Rattle.journal_model.proofs.Growing.{Near, Legal-induction}
 use Rattle.journal_model.proofs.Holding.{claimed_append, held_busy, held_near}
 use Rattle.journal_model.proofs.Looks.{entry}
 use Rattle.journal_model.proofs.Working.{ask_work, count-append, due_untasked, takes, unclaimed_in, worker}
-use Rattle.task_run.specs.declared.turn.TaskTurn.{TaskTurn}
 use Rattle.task_run.specs.Askings.{TaskStretch, closing, past_claim}
 use Rattle.task_run.proofs.Texts.{apart}
 use Rattle.task_laws.specs.Changes.{Request, request_in, requests, requests_from}

@@ -352,17 +352,7 @@ fn store_from<A: Asker, D: Desk>(
     let all = count(size, setup.chunk);
     let mut stored = n;
     while stored < all {
-        match store_chunk(
-            alloc,
-            key,
-            stored + 1,
-            file,
-            size,
-            turn,
-            setup,
-            asker,
-            desk,
-        ) {
+        match store_chunk(alloc, key, stored + 1, file, size, turn, setup, asker, desk) {
             Ok(None) => stored += 1,
             Ok(Some(answer)) => return Ok(answer),
             Err(error) => return Err(error),

@@ -292,7 +292,11 @@ static SECOND_TURNS: [Row; 2] = [
             ("create", CHUNK_AGAIN, &[(CHUNK, "old")]),
             ("read", "f", &[(CHUNK_AGAIN, "")]),
             ("append", CHUNK_AGAIN, &[(CHUNK_AGAIN, "")]),
-            ("remove", CHUNK_AGAIN, &[(CHUNK, "old"), (CHUNK_AGAIN, "hi")]),
+            (
+                "remove",
+                CHUNK_AGAIN,
+                &[(CHUNK, "old"), (CHUNK_AGAIN, "hi")],
+            ),
         ],
         answer: "stored",
     },

@@ -109,12 +109,7 @@ pub fn tried(alloc: Global, case: &Case, fails: u64) -> Result<Outcome, TaskErro
 }
 
 /// The same in this turn of the task.
-pub fn tried_in(
-    alloc: Global,
-    case: &Case,
-    turn: u32,
-    fails: u64,
-) -> Result<Outcome, TaskError> {
+pub fn tried_in(alloc: Global, case: &Case, turn: u32, fails: u64) -> Result<Outcome, TaskError> {
     let task = read_task(alloc, case.line.as_bytes())?;
     let desk = desk_of(alloc, case.files, fails)?;
     Ok(run(alloc, &task, case, turn, desk)?)

@@ -10,8 +10,8 @@ use crate::layouts::{Query, ask_layout, sizes_tried};
 use ann_key::NoMemory;
 use journal_model::Answer;
 use std::alloc::Global;
-use task_run::{Asker, TaskTurn};
 use task_run::answers::undone_answer;
+use task_run::{Asker, TaskTurn};
 use task_text::Task;
 
 // Notes that the remote has no chunks of this size. The plain layout has none to note.
