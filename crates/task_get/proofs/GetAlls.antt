@@ -11,6 +11,7 @@ use Rattle.ann_outside.specs.Calls.{Log}
 use Rattle.ann_outside.specs.declared.file_desk.Call.{Call}
 use Rattle.task_run.specs.Askers.{Asking}
 use Rattle.task_run.specs.declared.setup.Setup.{Setup}
+use Rattle.task_run.specs.declared.turn.TaskTurn.{TaskTurn}
 use Rattle.std.proofs.lemmas.List.{drop_all}
 use Rattle.std.proofs.lemmas.List.Folds.{list_all_at}
 use Rattle.std.proofs.lemmas.Bool.Decides.{nat_tests}
@@ -59,7 +60,7 @@ sizes_take size layout more e = rw e refl
 
 -- ---- the run
 
-run_of : (setup : Setup) (t : ℕ) (key : Parts) (text file : List ℕ) (layouts : List (ℕ × ℕ)) (asked : List Asking) (calls : List Call) (answer : Answer)
+run_of : (setup : Setup) (t : TaskTurn) (key : Parts) (text file : List ℕ) (layouts : List (ℕ × ℕ)) (asked : List Asking) (calls : List Call) (answer : Answer)
     → Ended (place_at setup t key file (sizes_tried key layouts)) asked calls answer → RunOf setup t (get_task text file) key layouts asked calls [] answer
 run_of setup t key text file layouts asked calls answer e = record {
   asked_till_stop = e.asked_till_stop;
@@ -72,7 +73,7 @@ run_of setup t key text file layouts asked calls answer e = record {
 some_inj : (p q : Parts) → Some p ≡ Some q → p ≡ q
 some_inj p q e = cc
 
-pub ran_get : (task : Task) (t : ℕ) (setup : Setup) (key : Parts) (layouts : List (ℕ × ℕ)) (before after : List Asking) (old new : Option Log) (result : Result Answer NoMemory) → task.work ≡ W.Get → key_reading task.key ≡ Some key
+pub ran_get : (task : Task) (t : TaskTurn) (setup : Setup) (key : Parts) (layouts : List (ℕ × ℕ)) (before after : List Asking) (old new : Option Log) (result : Result Answer NoMemory) → task.work ≡ W.Get → key_reading task.key ≡ Some key
     → (g : Grown before after old new) → Ended (place_at setup t key task.file (sizes_tried key layouts)) g.asked g.made (answered result) → RanGet task t setup layouts before after old new result
 ran_get task t setup key layouts before after old new result w r g e = record {
   asked = g.asked;
@@ -91,14 +92,14 @@ ran_get task t setup key layouts before after old new result w r g e = record {
 
 -- ---- layout after layout
 
-pub record TriesSoFar (setup : Setup) (t : ℕ) (key : Parts) (file : List ℕ) (layouts : List (ℕ × ℕ)) (i now : ℕ) (pairs later : List Asking) (old new : Option Log) : Type 0 where
+pub record TriesSoFar (setup : Setup) (t : TaskTurn) (key : Parts) (file : List ℕ) (layouts : List (ℕ × ℕ)) (i now : ℕ) (pairs later : List Asking) (old new : Option Log) : Type 0 where
   pub grown : Grown pairs later old new
   pub done : List (List Part)
   pub tried : List ℕ
   pub between : Between (place_at setup t key file (sizes_tried key layouts)) grown.asked done tried (chunk_sizes key.size (drop i layouts) ++ 0 ∷ []) grown.made
   pub counted : now ≡ length grown.asked
 
-pub tries_none : (setup : Setup) (t : ℕ) (key : Parts) (file : List ℕ) (layouts : List (ℕ × ℕ)) (now : ℕ) (pairs : List Asking) (log : Option Log) → now ≡ 0 → TriesSoFar setup t key file layouts 0 now pairs pairs log log
+pub tries_none : (setup : Setup) (t : TaskTurn) (key : Parts) (file : List ℕ) (layouts : List (ℕ × ℕ)) (now : ℕ) (pairs : List Asking) (log : Option Log) → now ≡ 0 → TriesSoFar setup t key file layouts 0 now pairs pairs log log
 tries_none setup t key file layouts now pairs log z = record {
   grown = record { asked = []; made = []; pairs_are = sym (append-nil pairs); log_is = gained_nothing log };
   done = [];
@@ -107,7 +108,7 @@ tries_none setup t key file layouts now pairs log z = record {
   counted = z;
 }
 
-pub tries_skip : (setup : Setup) (t : ℕ) (key : Parts) (file : List ℕ) (layouts : List (ℕ × ℕ)) (i now size : ℕ) (layout : ℕ × ℕ) (pairs later : List Asking) (old new : Option Log) → key.size ≡ Some size
+pub tries_skip : (setup : Setup) (t : TaskTurn) (key : Parts) (file : List ℕ) (layouts : List (ℕ × ℕ)) (i now size : ℕ) (layout : ℕ × ℕ) (pairs later : List Asking) (old new : Option Log) → key.size ≡ Some size
     → drop i layouts ≡ layout ∷ drop (i + 1) layouts → (layout.1 == count_of size layout.0) ≡ false → TriesSoFar setup t key file layouts i now pairs later old new → TriesSoFar setup t key file layouts (i + 1) now pairs later old new
 tries_skip setup t key file layouts i now size layout pairs later old new s d c r =
     let e : chunk_sizes key.size (drop i layouts) ≡ chunk_sizes key.size (drop (i + 1) layouts) =
@@ -115,7 +116,7 @@ tries_skip setup t key file layouts i now size layout pairs later old new s d c 
     let P : List ℕ → Type 0 = λ l. Between (place_at setup t key file (sizes_tried key layouts)) r.grown.asked r.done r.tried (l ++ 0 ∷ []) r.grown.made in
     record { grown = r.grown; done = r.done; tried = r.tried; between = subst P e r.between; counted = r.counted }
 
-state : (setup : Setup) (t : ℕ) (key : Parts) (file : List ℕ) (layouts : List (ℕ × ℕ)) (i now size : ℕ) (layout : ℕ × ℕ) (pairs mid later : List Asking) (old on new : Option Log) (after : ℕ) (result : Result Went NoMemory) → key.size ≡ Some size
+state : (setup : Setup) (t : TaskTurn) (key : Parts) (file : List ℕ) (layouts : List (ℕ × ℕ)) (i now size : ℕ) (layout : ℕ × ℕ) (pairs mid later : List Asking) (old on new : Option Log) (after : ℕ) (result : Result Went NoMemory) → key.size ≡ Some size
     → drop i layouts ≡ layout ∷ drop (i + 1) layouts → (layout.1 == count_of size layout.0) ≡ true → (r : TriesSoFar setup t key file layouts i now pairs mid old on) → (l : LayoutRan setup t key file layout.0 now after mid later on new result)
     → LayoutEnd (record { place = place_at setup t key file (sizes_tried key layouts); past = r.grown.asked; done = r.done; tried = r.tried; chunk = layout.0; rest = chunk_sizes key.size (drop (i + 1) layouts) ++ 0 ∷ [] }) r.grown.made l.grown.asked l.grown.made result
 state setup t key file layouts i now size layout pairs mid later old on new after result s d c r l =
@@ -126,7 +127,7 @@ state setup t key file layouts i now size layout pairs mid later old on new afte
     let n : length (chunk_sizes key.size (drop (i + 1) layouts) ++ one) ≡ length (chunk_sizes key.size (drop (i + 1) layouts)) + 1 = length-append (chunk_sizes key.size (drop (i + 1) layouts)) one in
     l.goes (record { sizes = sizes_tried key layouts; past = r.grown.asked; done = r.done; tried = r.tried; rest = chunk_sizes key.size (drop (i + 1) layouts) ++ 0 ∷ []; calls = r.grown.made }) r.counted (omega (arith, n)) (subst P e r.between)
 
-pub tries_more : (setup : Setup) (t : ℕ) (key : Parts) (file : List ℕ) (layouts : List (ℕ × ℕ)) (i now size : ℕ) (layout : ℕ × ℕ) (pairs mid later : List Asking) (old on new : Option Log) (after : ℕ) → key.size ≡ Some size
+pub tries_more : (setup : Setup) (t : TaskTurn) (key : Parts) (file : List ℕ) (layouts : List (ℕ × ℕ)) (i now size : ℕ) (layout : ℕ × ℕ) (pairs mid later : List Asking) (old on new : Option Log) (after : ℕ) → key.size ≡ Some size
     → drop i layouts ≡ layout ∷ drop (i + 1) layouts → (layout.1 == count_of size layout.0) ≡ true → TriesSoFar setup t key file layouts i now pairs mid old on → LayoutRan setup t key file layout.0 now after mid later on new (Ok T.Failed)
     → TriesSoFar setup t key file layouts (i + 1) after pairs later old new
 tries_more setup t key file layouts i now size layout pairs mid later old on new after s d c r l =
@@ -139,7 +140,7 @@ tries_more setup t key file layouts i now size layout pairs mid later old on new
       counted = let n : length (r.grown.asked ++ l.grown.asked) ≡ length r.grown.asked + length l.grown.asked = length-append r.grown.asked l.grown.asked in let k = l.counted refl in let j = r.counted in omega (arith, n, k, j);
     }
 
-pub tries_end : (setup : Setup) (t : ℕ) (key : Parts) (file : List ℕ) (layouts : List (ℕ × ℕ)) (i now size : ℕ) (layout : ℕ × ℕ) (pairs mid later : List Asking) (old on new : Option Log) (after : ℕ) (result : Result Went NoMemory) → key.size ≡ Some size
+pub tries_end : (setup : Setup) (t : TaskTurn) (key : Parts) (file : List ℕ) (layouts : List (ℕ × ℕ)) (i now size : ℕ) (layout : ℕ × ℕ) (pairs mid later : List Asking) (old on new : Option Log) (after : ℕ) (result : Result Went NoMemory) → key.size ≡ Some size
     → drop i layouts ≡ layout ∷ drop (i + 1) layouts → (layout.1 == count_of size layout.0) ≡ true → TriesSoFar setup t key file layouts i now pairs mid old on → LayoutRan setup t key file layout.0 now after mid later on new result
     → (result ≡ Ok T.Failed → ⊥) → TriesRan setup t key file layouts after pairs later old new result
 tries_end setup t key file layouts i now size layout pairs mid later old on new after result s d c r l bad = record {
@@ -159,7 +160,7 @@ none_left : (size : Option ℕ) → chunk_sizes size [] ≡ []
 none_left None = refl
 none_left (Some n) = refl
 
-pub tries_all : (setup : Setup) (t : ℕ) (key : Parts) (file : List ℕ) (layouts : List (ℕ × ℕ)) (i now : ℕ) (pairs later : List Asking) (old new : Option Log) → length layouts ≤ i → TriesSoFar setup t key file layouts i now pairs later old new
+pub tries_all : (setup : Setup) (t : TaskTurn) (key : Parts) (file : List ℕ) (layouts : List (ℕ × ℕ)) (i now : ℕ) (pairs later : List Asking) (old new : Option Log) → length layouts ≤ i → TriesSoFar setup t key file layouts i now pairs later old new
     → TriesRan setup t key file layouts now pairs later old new (Ok T.Failed)
 tries_all setup t key file layouts i now pairs later old new h r = record {
   grown = r.grown;
@@ -170,7 +171,7 @@ tries_all setup t key file layouts i now pairs later old new h r = record {
 }
 
 -- a key without a size has no layout of chunks
-pub tries_unsized : (setup : Setup) (t : ℕ) (key : Parts) (file : List ℕ) (layouts : List (ℕ × ℕ)) (now : ℕ) (pairs : List Asking) (log : Option Log) → key.size ≡ None → now ≡ 0
+pub tries_unsized : (setup : Setup) (t : TaskTurn) (key : Parts) (file : List ℕ) (layouts : List (ℕ × ℕ)) (now : ℕ) (pairs : List Asking) (log : Option Log) → key.size ≡ None → now ≡ 0
     → TriesRan setup t key file layouts now pairs pairs log log (Ok T.Failed)
 tries_unsized setup t key file layouts now pairs log none z = record {
   grown = record { asked = []; made = []; pairs_are = sym (append-nil pairs); log_is = gained_nothing log };
@@ -182,11 +183,11 @@ tries_unsized setup t key file layouts now pairs log none z = record {
 
 -- ---- the plain layout after them
 
-pub got_over : (setup : Setup) (t : ℕ) (key : Parts) (file : List ℕ) (layouts : List (ℕ × ℕ)) (now : ℕ) (pairs later : List Asking) (old new : Option Log) (answer : Answer)
+pub got_over : (setup : Setup) (t : TaskTurn) (key : Parts) (file : List ℕ) (layouts : List (ℕ × ℕ)) (now : ℕ) (pairs later : List Asking) (old new : Option Log) (answer : Answer)
     → TriesRan setup t key file layouts now pairs later old new (Ok (T.Over answer)) → GetRan setup t key file layouts pairs later old new (Ok answer)
 got_over setup t key file layouts now pairs later old new answer r = record { grown = r.grown; goes = r.goes }
 
-pub got_plain : (setup : Setup) (t : ℕ) (key : Parts) (file : List ℕ) (layouts : List (ℕ × ℕ)) (now : ℕ) (pairs mid later : List Asking) (old on new : Option Log) (result : Result Answer NoMemory)
+pub got_plain : (setup : Setup) (t : TaskTurn) (key : Parts) (file : List ℕ) (layouts : List (ℕ × ℕ)) (now : ℕ) (pairs mid later : List Asking) (old on new : Option Log) (result : Result Answer NoMemory)
     → TriesRan setup t key file layouts now pairs mid old on (Ok T.Failed) → WholeRan setup t key file now mid later on new result → GetRan setup t key file layouts pairs later old new result
 got_plain setup t key file layouts now pairs mid later old on new result r w = record {
   grown = both_grown pairs mid later old on new r.grown w.grown;
@@ -216,7 +217,7 @@ test_differs a b n e f = grind (arith, nat_tests)
 
 -- ---- the task's own words
 
-pub ran_from : (task : Task) (t : ℕ) (setup : Setup) (key : Parts) (file : List ℕ) (layouts known : List (ℕ × ℕ)) (before mid after : List Asking) (old new : Option Log) (result : Result Answer NoMemory) → task.work ≡ W.Get
+pub ran_from : (task : Task) (t : TaskTurn) (setup : Setup) (key : Parts) (file : List ℕ) (layouts known : List (ℕ × ℕ)) (before mid after : List Asking) (old new : Option Log) (result : Result Answer NoMemory) → task.work ≡ W.Get
     → key_reading task.key ≡ Some key → file ≡ task.file → layouts ≡ known → mid ≡ before → GetRan setup t key file layouts mid after old new result → RanGet task t setup known before after old new result
 ran_from task t setup key file layouts known before mid after old new result w r f l m h =
     let P : List (ℕ × ℕ) → Type 0 = λ x. GetRan setup t key task.file x before after old new result in

@@ -180,7 +180,7 @@ opened u size calls seg n reads b r l some c s held known unwritten reading cont
     all_done = refl;
     in_order = λ more next h.
         let e : first_in u + 0 ≡ first_in u = omega arith in
-        let P : ℕ → Type 0 = λ k. AskInOrder (fetch_request u.place.setup u.place.task) k more next in subst P e h;
+        let P : ℕ → Type 0 = λ k. AskInOrder (fetch_request u.place.setup u.place.turn) k more next in subst P e h;
     aligned = refl;
     wants = λ later.
         ap (λ (x : List ℕ). wanted u.place.key u.place.sizes (x ++ later)) lengths

@@ -15,11 +15,13 @@ use Rattle.fetch_copy.proofs.CopyLaws.{gained_nothing, gained_more, checks_nothi
 use Rattle.journal_model.specs.declared.answer.Answer.TheVariants as A
 use Rattle.task_run.specs.Askers.{Asking, IsSameTask}
 use Rattle.task_run.specs.declared.setup.Setup.{Setup}
+use Rattle.task_run.specs.declared.turn.TaskTurn.{TaskTurn}
 use Rattle.task_get.specs.declared.get_chunk.Went.{Went}
 use Rattle.task_get.specs.declared.get_chunk.Went.TheVariants as T
 use Rattle.task_run.specs.Names.{part_of}
 use Rattle.task_get.specs.Fronts.{Turn, Within, Kept, Between, Ended}
 use Rattle.task_get.specs.LayoutRuns.{Grown, Behind, turn_at, parts_from, parts_between, PartEnd, ChunksEnd, NextDoes, ChunksRan}
+use Rattle.journal_model.specs.declared.answer.Answer.{Answer}
 
 -- ---- the parts
 
@@ -67,14 +69,14 @@ Stands u all got left calls reads before after asked made =
     Within u [] [] all calls → Kept u [] [] all calls reads []
     → (bytes : List ℕ) × Within u asked got left (calls ++ made) × Kept u asked got left (calls ++ made) reads bytes × Checks before after bytes
 
-pub record SoFar (setup : Setup) (t : ℕ) (key : Parts) (size chunk held i : ℕ) (part : List ℕ) (first now : ℕ) (pairs later : List Asking) (old new : Option Log) (before after : Checker) : Type 0 where
+pub record SoFar (setup : Setup) (t : TaskTurn) (key : Parts) (size chunk held i : ℕ) (part : List ℕ) (first now : ℕ) (pairs later : List Asking) (old new : Option Log) (before after : Checker) : Type 0 where
   pub grown : Grown pairs later old new
   pub counted : now ≡ first + length grown.asked
   pub as_many : length grown.asked ≡ i - held
   pub stands : (file : List ℕ) (b : Behind) (calls : List Call) (reads : List (ℕ × List ℕ)) → part ≡ part_of file → first ≡ length b.past
       → Stands (turn_at setup t key file chunk b) (parts_from key size chunk held) (parts_between key size chunk held i) (parts_from key size chunk i) calls reads before after grown.asked grown.made
 
-pub so_far_none : (setup : Setup) (t : ℕ) (key : Parts) (size chunk held : ℕ) (part : List ℕ) (first : ℕ) (pairs : List Asking) (log : Option Log) (checker : Checker)
+pub so_far_none : (setup : Setup) (t : TaskTurn) (key : Parts) (size chunk held : ℕ) (part : List ℕ) (first : ℕ) (pairs : List Asking) (log : Option Log) (checker : Checker)
     → SoFar setup t key size chunk held held part first first pairs pairs log log checker checker
 so_far_none setup t key size chunk held part first pairs log checker = record {
   grown = record { asked = []; made = []; pairs_are = sym (append-nil pairs); log_is = gained_nothing log };
@@ -96,7 +98,7 @@ both_grown a b d x y z g h = record {
 }
 
 -- the state that the next chunk is asked for in, and what comes of it
-stepped : (setup : Setup) (t : ℕ) (key : Parts) (size chunk held i : ℕ) (part : List ℕ) (first now : ℕ) (pairs mid : List Asking) (old on : Option Log) (before between after : Checker)
+stepped : (setup : Setup) (t : TaskTurn) (key : Parts) (size chunk held i : ℕ) (part : List ℕ) (first now : ℕ) (pairs mid : List Asking) (old on : Option Log) (before between after : Checker)
     (asked : List Asking) (made : List Call) (result : Result Went NoMemory)
     → (s : SoFar setup t key size chunk held i part first now pairs mid old on before between) → held ≤ i → i < count_of size chunk → first + count_of size chunk < 2 ^ 64
     → NextDoes setup t key size chunk i part now between after asked made result
@@ -120,7 +122,7 @@ stepped setup t key size chunk held i part first now pairs mid old on before bet
           (subst P e st.1) (subst Q e st.2),
     )
 
-pub so_far_more : (setup : Setup) (t : ℕ) (key : Parts) (size chunk held i : ℕ) (part : List ℕ) (first now : ℕ) (pairs mid later : List Asking) (old on new : Option Log) (before between after : Checker)
+pub so_far_more : (setup : Setup) (t : TaskTurn) (key : Parts) (size chunk held i : ℕ) (part : List ℕ) (first now : ℕ) (pairs mid later : List Asking) (old on new : Option Log) (before between after : Checker)
     → SoFar setup t key size chunk held i part first now pairs mid old on before between → held ≤ i → i < count_of size chunk → first + count_of size chunk < 2 ^ 64
     → (g : Grown mid later on new) → length g.asked ≡ 1 → NextDoes setup t key size chunk i part now between after g.asked g.made (Ok T.Whole)
     → SoFar setup t key size chunk held (i + 1) part first (now + 1) pairs later old new before after
@@ -143,7 +145,7 @@ so_far_more setup t key size chunk held i part first now pairs mid later old on 
 
 -- ---- how they end
 
-pub chunks_whole : (setup : Setup) (t : ℕ) (key : Parts) (size chunk held : ℕ) (part : List ℕ) (first now : ℕ) (pairs later : List Asking) (old new : Option Log) (before after : Checker)
+pub chunks_whole : (setup : Setup) (t : TaskTurn) (key : Parts) (size chunk held : ℕ) (part : List ℕ) (first now : ℕ) (pairs later : List Asking) (old new : Option Log) (before after : Checker)
     → SoFar setup t key size chunk held (count_of size chunk) part first now pairs later old new before after
     → ChunksRan setup t key size chunk held part first now pairs later old new before after (Ok T.Whole)
 chunks_whole setup t key size chunk held part first now pairs later old new before after s = record {
@@ -171,7 +173,14 @@ ends_all u cur got left all part calls made_before reads bytes first before afte
 ends_all u cur got left all part calls made_before reads bytes first before after asked made (Err x) e bad h =
     let Q : List Call → Type 0 = λ l. Ended u.place (u.past ++ (cur ++ asked)) l A.Memory in subst Q (append_assoc calls made_before made) h
 
-pub chunks_ended : (setup : Setup) (t : ℕ) (key : Parts) (size chunk held i : ℕ) (part : List ℕ) (first now : ℕ) (pairs mid later : List Asking) (old on new : Option Log) (before between after : Checker) (result : Result Went NoMemory)
+-- what is over isn't whole
+abbrev over_by : Answer → Result Went NoMemory
+over_by answer = Ok (T.Over answer)
+
+pub over_not_whole : (answer : Answer) → over_by answer ≡ Ok T.Whole → ⊥
+over_not_whole answer e = cc
+
+pub chunks_ended : (setup : Setup) (t : TaskTurn) (key : Parts) (size chunk held i : ℕ) (part : List ℕ) (first now : ℕ) (pairs mid later : List Asking) (old on new : Option Log) (before between after : Checker) (result : Result Went NoMemory)
     → SoFar setup t key size chunk held i part first now pairs mid old on before between → held ≤ i → i < count_of size chunk → first + count_of size chunk < 2 ^ 64
     → (g : Grown mid later on new) → (result ≡ Ok T.Failed → length g.asked ≡ 1) → (result ≡ Ok T.Whole → ⊥) → NextDoes setup t key size chunk i part now between after g.asked g.made result
     → ChunksRan setup t key size chunk held part first (now + 1) pairs later old new before after result

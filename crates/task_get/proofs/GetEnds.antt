@@ -12,6 +12,7 @@ use Rattle.ann_outside.specs.declared.file_desk.Call.{Call}
 use Rattle.ann_outside.specs.declared.file_desk.Call.TheVariants.{Size, ReadAt, Create, Remove}
 use Rattle.fetch_copy.specs.Copies.{copy_calls, EndsWhole}
 use Rattle.task_run.specs.declared.setup.Setup.{Setup}
+use Rattle.task_run.specs.declared.turn.TaskTurn.{TaskTurn}
 use Rattle.task_run.specs.Stops.{error_stop}
 use Rattle.task_run.specs.Names.{part_of, fetch_file}
 use Rattle.task_run.specs.Requests.{AsksFor}
@@ -26,7 +27,7 @@ use Rattle.task_get.proofs.GetRuns.{Going, done}
 
 -- ---- how it goes on
 
-going_none : (setup : Setup) (t : ℕ) (key : Parts) (file : List ℕ) (request : Option HostMessage) (at : ℕ) → AsksFor (fetch_request setup t) 1 key (done request at) → Going setup t key file request at []
+going_none : (setup : Setup) (t : TaskTurn) (key : Parts) (file : List ℕ) (request : Option HostMessage) (at : ℕ) → AsksFor (fetch_request setup t) 1 key (done request at) → Going setup t key file request at []
 going_none setup t key file request at h = record { asks = h; good = record { fair = record { names = refl; changes = refl; lengths = refl; no_length = refl; no_read = refl; lasting = refl }; found = refl; free = refl }; run = refl }
 
 -- the first two calls
@@ -96,7 +97,7 @@ copied_part_known file fetch n pieces a = known_copy (part_of file) fetch (part_
 
 -- ---- after a whole copy
 
-part_known_whole : (setup : Setup) (t : ℕ) (file : List ℕ) (n left : ℕ) (pieces : List (List ℕ)) (ending : List Call) → Apart file (fetch_file setup t 1)
+part_known_whole : (setup : Setup) (t : TaskTurn) (file : List ℕ) (n left : ℕ) (pieces : List (List ℕ)) (ending : List Call) → Apart file (fetch_file setup t 1)
     → EndsWhole (fetch_file setup t 1) (length (concat pieces)) left ending
     → is_known (part_of file) (begun file (fetch_file setup t 1) n ++ (copy_calls (fetch_file setup t 1) (part_of file) 0 pieces ++ ending)) ≡ true
 part_known_whole setup t file n left pieces ending a e =
@@ -193,7 +194,7 @@ last_call name test front x e =
     let same : filter (is_call_of name) (front ++ x ∷ []) ≡ filter (is_call_of name) front ++ x ∷ [] = rw (filter-append (is_call_of name) front (x ∷ [])) (rw e refl) in
     rw same (is_last-snoc test (filter (is_call_of name) front) x)
 
-part_known_moved : (setup : Setup) (t : ℕ) (file : List ℕ) (n left : ℕ) (pieces : List (List ℕ)) (ending : List Call) → Apart file (fetch_file setup t 1)
+part_known_moved : (setup : Setup) (t : TaskTurn) (file : List ℕ) (n left : ℕ) (pieces : List (List ℕ)) (ending : List Call) → Apart file (fetch_file setup t 1)
     → EndsWhole (fetch_file setup t 1) (length (concat pieces)) left ending
     → is_known (part_of file) (begun file (fetch_file setup t 1) n ++ moved_calls file (fetch_file setup t 1) pieces ending) ≡ true
 part_known_moved setup t file n left pieces ending a w =
@@ -204,7 +205,7 @@ part_known_moved setup t file n left pieces ending a w =
 
 -- ---- all ways
 
-abbrev pub names_of : Setup → ℕ → List ℕ → Files3
+abbrev pub names_of : Setup → TaskTurn → List ℕ → Files3
 names_of setup t file = record { file = file; part = part_of file; fetch = fetch_file setup t 1 }
 
 -- the calls of a settled move, with the last one apart

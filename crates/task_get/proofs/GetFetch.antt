@@ -58,14 +58,14 @@ abbrev pub EndedAt : Here → List Call → Answer → Type 0
 EndedAt h seg answer = Ended h.turn.place (asked_in h) (h.calls ++ seg) answer
 
 pub apart_in : (h : Here) → Apart (file_in h) (fetch_in h)
-apart_in h = names_apart h.turn.place.setup h.turn.place.task h.n (file_in h)
+apart_in h = names_apart h.turn.place.setup h.turn.place.turn h.n (file_in h)
 
 -- calls of no other request's file
 abbrev pub Others : Here → List Call → Type 0
 Others h seg = (m : ℕ) → m < 2 ^ 64 → (m ≡ h.n → ⊥) → list_all (is_apart (fetch_at h.turn.place m)) seg ≡ true
 
 pub other_file : (h : Here) → FetchingAt h → (m : ℕ) → m < 2 ^ 64 → (m ≡ h.n → ⊥) → bytes_eq (fetch_in h) (fetch_at h.turn.place m) ≡ false
-other_file h f m b d = fetch_files_differ h.turn.place.setup h.turn.place.task h.n m f.few b (λ e. d (sym e))
+other_file h f m b d = fetch_files_differ h.turn.place.setup h.turn.place.turn h.n m f.few b (λ e. d (sym e))
 
 pub others_size : (h : Here) → FetchingAt h → (r : Result ℕ DeskError) → Others h (Size (fetch_in h) r ∷ [])
 others_size h f r = λ m b d. rw (other_file h f m b d) refl

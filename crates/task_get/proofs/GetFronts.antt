@@ -67,30 +67,30 @@ pub asks_of : (p : Place) (past next : List Asking) (done tail : List (List Part
     → list_all (λ a. not (is_failed a)) next ≡ true
     → list_all is_calm (all_but_last (past ++ next)) ≡ true
     → wanted p.key p.sizes (lengths_at_begin p.file calls) ≡ done ++ tail
-    → RoundsAsk (fetch_request p.setup p.task) (length past + 1) (map keys_in tail) (rounds next)
+    → RoundsAsk (fetch_request p.setup p.turn) (length past + 1) (map keys_in tail) (rounds next)
     → length (lengths_at_begin p.file calls) ≤ length done + 1 → length (lengths_at_begin p.file calls) ≤ length p.sizes - 1
-    → wrong_lengths p.setup p.task p.key.size calls (length past + 1) (take (length next - 1) (unwrap_or (item 0 tail) [])) ≡ []
+    → wrong_lengths p.setup p.turn p.key.size calls (length past + 1) (take (length next - 1) (unwrap_or (item 0 tail) [])) ≡ []
     → is_run 0 (held_reads p.file calls) ≡ true
-    → are_read p.setup p.task calls (length past + 1) next ≡ true
-    → GetAsks p.setup p.task p.key p.sizes p.file (past ++ next) calls
+    → are_read p.setup p.turn calls (length past + 1) next ≡ true
+    → GetAsks p.setup p.turn p.key p.sizes p.file (past ++ next) calls
 asks_of p past next done tail tried rest calls t none calm w order few few' right held read = record {
   in_order =
       let keys : map keys_in (wanted p.key p.sizes (lengths_at_begin p.file calls)) ≡ map keys_in done ++ map keys_in tail = ap (map keys_in) w ∙ map-append keys_in done tail in
-      let P : List (List Parts) → Type 0 = λ ks. RoundsAsk (fetch_request p.setup p.task) 1 ks (rounds (past ++ next)) in
+      let P : List (List Parts) → Type 0 = λ ks. RoundsAsk (fetch_request p.setup p.turn) 1 ks (rounds (past ++ next)) in
       subst P (sym keys) (t.in_order (map keys_in tail) next order);
   each_failed = calm_failed (all_but_last (past ++ next)) calm;
   each_begun =
       let f : failures (past ++ next) ≡ length done = failures_are p past next done tried rest t none in
       le_true (length (lengths_at_begin p.file calls)) (min (failures (past ++ next) + 1) (length p.sizes - 1)) (omega (arith, f, few, few'));
   each_right =
-      ap (λ (n : ℕ). wrong_lengths p.setup p.task p.key.size calls n (take (length (asked_last (past ++ next)) - 1) (parts_last p.key p.sizes (lengths_at_begin p.file calls) (past ++ next)))) (first_is p past next done tried rest t none)
-      ∙ ap (λ (l : List Asking). wrong_lengths p.setup p.task p.key.size calls (length past + 1) (take (length l - 1) (parts_last p.key p.sizes (lengths_at_begin p.file calls) (past ++ next)))) (t.last next none)
-      ∙ ap (λ (ps : List Part). wrong_lengths p.setup p.task p.key.size calls (length past + 1) (take (length next - 1) ps)) (parts_are p past next done tail tried rest (lengths_at_begin p.file calls) t none w)
+      ap (λ (n : ℕ). wrong_lengths p.setup p.turn p.key.size calls n (take (length (asked_last (past ++ next)) - 1) (parts_last p.key p.sizes (lengths_at_begin p.file calls) (past ++ next)))) (first_is p past next done tried rest t none)
+      ∙ ap (λ (l : List Asking). wrong_lengths p.setup p.turn p.key.size calls (length past + 1) (take (length l - 1) (parts_last p.key p.sizes (lengths_at_begin p.file calls) (past ++ next)))) (t.last next none)
+      ∙ ap (λ (ps : List Part). wrong_lengths p.setup p.turn p.key.size calls (length past + 1) (take (length next - 1) ps)) (parts_are p past next done tail tried rest (lengths_at_begin p.file calls) t none w)
       ∙ right;
   held_read = held;
   fetched_read =
-      ap (λ (n : ℕ). are_read p.setup p.task calls n (asked_last (past ++ next))) (first_is p past next done tried rest t none)
-      ∙ ap (λ (l : List Asking). are_read p.setup p.task calls (length past + 1) l) (t.last next none)
+      ap (λ (n : ℕ). are_read p.setup p.turn calls n (asked_last (past ++ next))) (first_is p past next done tried rest t none)
+      ∙ ap (λ (l : List Asking). are_read p.setup p.turn calls (length past + 1) l) (t.last next none)
       ∙ read;
 }
 
@@ -98,7 +98,7 @@ asks_of p past next done tail tried rest calls t none calm w order few few' righ
 
 -- what holds of it wherever it is
 pub record Fore (p : Place) (asked : List Asking) (calls : List Call) : Type 0 where
-  pub asks : GetAsks p.setup p.task p.key p.sizes p.file asked calls
+  pub asks : GetAsks p.setup p.turn p.key p.sizes p.file asked calls
   pub sound : Sound p asked calls
   pub calm : list_all is_calm asked ≡ true
 
@@ -122,12 +122,12 @@ all_go_on (x ∷ xs) h =
     let rest : list_all (λ a. is_none (asking_stop W.Get a)) xs ≡ true = all_go_on xs p.1 in
     rw (one, rest) refl
 
-calls_of : (p : Place) (asked : List Asking) (calls : List Call) → Sound p asked calls → GetCalls p.setup p.task p.file asked calls
+calls_of : (p : Place) (asked : List Asking) (calls : List Call) → Sound p asked calls → GetCalls p.setup p.turn p.file asked calls
 calls_of p asked calls s = record { names = s.names; changes = s.changes; lengths = s.lengths }
 
 -- nothing stopped it
 pub ended_finished : (p : Place) (asked : List Asking) (calls : List Call) (answer : Answer) → Fore p asked calls → are_free p calls ≡ true
-    → AnsweredBy [] answer (GetAnswers p.setup p.task p.key p.sizes p.file asked calls answer) → Ended p asked calls answer
+    → AnsweredBy [] answer (GetAnswers p.setup p.turn p.key p.sizes p.file asked calls answer) → Ended p asked calls answer
 ended_finished p asked calls answer f free h = record {
   asked_till_stop = all_taken (λ a. is_none (asking_stop W.Get a)) _ asked (all_go_on asked f.calm);
   calls_till_stop = all_taken (λ call. is_none (call_stop (part_of p.file) call)) _ calls free;
@@ -136,7 +136,7 @@ ended_finished p asked calls answer f free h = record {
   get_asks = f.asks;
   answered =
       let e : stops_of W.Get (part_of p.file) asked calls ≡ [] = ap (λ (l : List Answer). l ++ filter_map (call_stop (part_of p.file)) calls) (none_stop (asking_stop W.Get) asked (all_go_on asked f.calm)) ∙ none_stop (call_stop (part_of p.file)) calls free in
-      let P : List Answer → Type 0 = λ stops. AnsweredBy stops answer (GetAnswers p.setup p.task p.key p.sizes p.file asked calls answer) in
+      let P : List Answer → Type 0 = λ stops. AnsweredBy stops answer (GetAnswers p.setup p.turn p.key p.sizes p.file asked calls answer) in
       subst P (sym e) h;
 }
 
@@ -157,13 +157,13 @@ ended_stopped p asked front x answer f free s = record {
       filter_map-append (call_stop (part_of p.file)) front (x ∷ []) ∙ rw (none_stop (call_stop (part_of p.file)) front free) (rw s refl) in
       let e : stops_of W.Get (part_of p.file) asked (front ++ x ∷ []) ≡ answer ∷ [] =
       ap (λ (l : List Answer). l ++ filter_map (call_stop (part_of p.file)) (front ++ x ∷ [])) (none_stop (asking_stop W.Get) asked (all_go_on asked f.calm)) ∙ last in
-      let P : List Answer → Type 0 = λ stops. AnsweredBy stops answer (GetAnswers p.setup p.task p.key p.sizes p.file asked (front ++ x ∷ []) answer) in
+      let P : List Answer → Type 0 = λ stops. AnsweredBy stops answer (GetAnswers p.setup p.turn p.key p.sizes p.file asked (front ++ x ∷ []) answer) in
       subst P (sym e) refl;
 }
 
 -- a verdict stopped it
 pub ended_asked : (p : Place) (asked : List Asking) (x : Asking) (calls : List Call) (answer : Answer) → list_all is_calm asked ≡ true
-    → GetAsks p.setup p.task p.key p.sizes p.file (asked ++ x ∷ []) calls → Sound p (asked ++ x ∷ []) calls → are_free p calls ≡ true
+    → GetAsks p.setup p.turn p.key p.sizes p.file (asked ++ x ∷ []) calls → Sound p (asked ++ x ∷ []) calls → are_free p calls ≡ true
     → asking_stop W.Get x ≡ Some answer → Ended p (asked ++ x ∷ []) calls answer
 ended_asked p asked x calls answer calm asks sound free s = record {
   asked_till_stop = rw (but_last asked x) (all_go_on asked calm);
@@ -176,6 +176,6 @@ ended_asked p asked x calls answer calm asks sound free s = record {
       filter_map-append (asking_stop W.Get) asked (x ∷ []) ∙ rw (none_stop (asking_stop W.Get) asked (all_go_on asked calm)) (rw s refl) in
       let e : stops_of W.Get (part_of p.file) (asked ++ x ∷ []) calls ≡ answer ∷ [] =
       ap (λ (l : List Answer). filter_map (asking_stop W.Get) (asked ++ x ∷ []) ++ l) (none_stop (call_stop (part_of p.file)) calls free) ∙ append-nil (filter_map (asking_stop W.Get) (asked ++ x ∷ [])) ∙ first in
-      let P : List Answer → Type 0 = λ stops. AnsweredBy stops answer (GetAnswers p.setup p.task p.key p.sizes p.file (asked ++ x ∷ []) calls answer) in
+      let P : List Answer → Type 0 = λ stops. AnsweredBy stops answer (GetAnswers p.setup p.turn p.key p.sizes p.file (asked ++ x ∷ []) calls answer) in
       subst P (sym e) refl;
 }

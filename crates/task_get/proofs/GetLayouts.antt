@@ -16,6 +16,7 @@ use Rattle.journal_model.specs.declared.answer.Answer.{Answer}
 use Rattle.journal_model.specs.declared.answer.Answer.TheVariants as A
 use Rattle.task_run.specs.Askers.{Asking}
 use Rattle.task_run.specs.declared.setup.Setup.{Setup}
+use Rattle.task_run.specs.declared.turn.TaskTurn.{TaskTurn}
 use Rattle.task_get.specs.declared.get_chunk.Went.{Went}
 use Rattle.task_get.specs.declared.get_chunk.Went.TheVariants as T
 use Rattle.task_get.specs.declared.get_begin.Begun.{Begun}
@@ -73,7 +74,7 @@ begins_room part size chunk k before after old new b z =
 chunk_some : (chunk : ℕ) → 0 < chunk → (chunk == 0) ≡ false
 chunk_some chunk h = ne_eqb chunk 0 (λ e. omega (arith, h, e))
 
-begun_at : (setup : Setup) (t : ℕ) (key : Parts) (file part : List ℕ) (size chunk : ℕ) (before after : Checker) (old new : Option Log) (result : Result Begun NoMemory) → (g : Begins part size chunk before after old new result)
+begun_at : (setup : Setup) (t : TaskTurn) (key : Parts) (file part : List ℕ) (size chunk : ℕ) (before after : Checker) (old new : Option Log) (result : Result Begun NoMemory) → (g : Begins part size chunk before after old new result)
     → part ≡ part_of file → key.size ≡ Some size → 0 < chunk → (b : Behind) → 1 ≤ length b.rest → Between (place_at setup t key file b.sizes) b.past b.done b.tried (chunk ∷ b.rest) b.calls
     → BeginEnd (turn_at setup t key file chunk b) size b.calls (begin_calls part size chunk g.how) before after result
 begun_at setup t key file part size chunk before after old new result g p s some b r w =
@@ -83,7 +84,7 @@ begun_at setup t key file part size chunk before after old new result g p s some
     subst P (sym g.result_is) (subst Q (sym p) (λ so. begin_end u size b.calls before after g.how w r some (chunk_some chunk some) s so) g.so)
 
 -- no memory was found before
-pub layout_unbegun : (setup : Setup) (t : ℕ) (key : Parts) (file : List ℕ) (chunk first : ℕ) (pairs : List Asking) (log : Option Log) (e : NoMemory)
+pub layout_unbegun : (setup : Setup) (t : TaskTurn) (key : Parts) (file : List ℕ) (chunk first : ℕ) (pairs : List Asking) (log : Option Log) (e : NoMemory)
     → LayoutRan setup t key file chunk first first pairs pairs log log (Err e)
 layout_unbegun setup t key file chunk first pairs log e = record {
   grown = record { asked = []; made = []; pairs_are = sym (append-nil pairs); log_is = gained_nothing log };
@@ -96,7 +97,7 @@ layout_unbegun setup t key file chunk first pairs log e = record {
 }
 
 -- it was over after the begin of part
-pub layout_begun : (setup : Setup) (t : ℕ) (key : Parts) (file part : List ℕ) (size chunk first : ℕ) (pairs : List Asking) (before after : Checker) (old new : Option Log) (answer : Answer)
+pub layout_begun : (setup : Setup) (t : TaskTurn) (key : Parts) (file part : List ℕ) (size chunk first : ℕ) (pairs : List Asking) (before after : Checker) (old new : Option Log) (answer : Answer)
     → Begins part size chunk before after old new (Ok (B.Over answer)) → part ≡ part_of file → key.size ≡ Some size → 0 < chunk
     → LayoutRan setup t key file chunk first first pairs pairs old new (Ok (T.Over answer))
 layout_begun setup t key file part size chunk first pairs before after old new answer g p s some = record {
@@ -106,7 +107,7 @@ layout_begun setup t key file part size chunk first pairs before after old new a
   counted = λ e. absurd cc;
 }
 
-pub layout_lacked : (setup : Setup) (t : ℕ) (key : Parts) (file part : List ℕ) (size chunk first : ℕ) (pairs : List Asking) (before after : Checker) (old new : Option Log) (e : NoMemory)
+pub layout_lacked : (setup : Setup) (t : TaskTurn) (key : Parts) (file part : List ℕ) (size chunk first : ℕ) (pairs : List Asking) (before after : Checker) (old new : Option Log) (e : NoMemory)
     → Begins part size chunk before after old new (Err e) → part ≡ part_of file → key.size ≡ Some size → 0 < chunk
     → LayoutRan setup t key file chunk first first pairs pairs old new (Err e)
 layout_lacked setup t key file part size chunk first pairs before after old new e g p s some = record {
@@ -125,7 +126,7 @@ not_whole_end u parts calls made more reads before after asked (Ok T.Failed) bad
 not_whole_end u parts calls made more reads before after asked (Ok (T.Over answer)) bad h = let P : List Call → Type 0 = λ l. Ended u.place (u.past ++ asked) l answer in subst P (append_assoc calls made more) h
 not_whole_end u parts calls made more reads before after asked (Err e) bad h = let P : List Call → Type 0 = λ l. Ended u.place (u.past ++ asked) l A.Memory in subst P (append_assoc calls made more) h
 
-pub layout_unwhole : (setup : Setup) (t : ℕ) (key : Parts) (file part : List ℕ) (size chunk held first now : ℕ) (pairs later : List Asking) (before between after : Checker) (old on new : Option Log) (result : Result Went NoMemory)
+pub layout_unwhole : (setup : Setup) (t : TaskTurn) (key : Parts) (file part : List ℕ) (size chunk held first now : ℕ) (pairs later : List Asking) (before between after : Checker) (old on new : Option Log) (result : Result Went NoMemory)
     → Begins part size chunk before between old on (Ok (B.Held held)) → ChunksRan setup t key size chunk held part first now pairs later on new between after result → (result ≡ Ok T.Whole → ⊥)
     → part ≡ part_of file → key.size ≡ Some size → 0 < chunk → LayoutRan setup t key file chunk first now pairs later old new result
 layout_unwhole setup t key file part size chunk held first now pairs later before between after old on new result g c bad p s some = record {
@@ -147,7 +148,7 @@ over_unfailed (Ok answer) e = cc
 over_unfailed (Err x) e = cc
 
 -- all came, and part is settled
-pub layout_settled : (setup : Setup) (t : ℕ) (key : Parts) (file part : List ℕ) (size chunk held first now : ℕ) (pairs later : List Asking) (before between after : Checker) (old on mid new : Option Log) (fit : Fit) (r : Outcome)
+pub layout_settled : (setup : Setup) (t : TaskTurn) (key : Parts) (file part : List ℕ) (size chunk held first now : ℕ) (pairs later : List Asking) (before between after : Checker) (old on mid new : Option Log) (fit : Fit) (r : Outcome)
     → Begins part size chunk before between old on (Ok (B.Held held)) → ChunksRan setup t key size chunk held part first now pairs later on mid between after (Ok T.Whole)
     → Holds before key [] → ((bytes : List ℕ) → Holds after key bytes → IsSaidOf key bytes fit) → new ≡ logged mid (settling (record { file = file; part = part; fetch = [] }) fit r)
     → part ≡ part_of file → key.size ≡ Some size → 0 < chunk → LayoutRan setup t key file chunk first now pairs later old new (over_with (settled fit r))

@@ -40,7 +40,7 @@ use Rattle.task_get.proofs.GetDecides.{answers_said}
 use Rattle.task_get.proofs.GetWithin.{none_failed, within_order, within_fore}
 
 pub part_apart : (p : Place) (n : ℕ) → Apart p.file (fetch_at p n)
-part_apart p n = names_apart p.setup p.task n p.file
+part_apart p n = names_apart p.setup p.turn n p.file
 
 -- calls of part, after others
 pub record OfPart (p : Place) (front seg : List Call) : Type 0 where
@@ -129,11 +129,11 @@ sub_none names name e = apart e
 
 pub sound_part : (p : Place) (asked : List Asking) (calls seg : List Call) → Sound p asked calls → OfPart p calls seg → is_run 0 (held_reads p.file (calls ++ seg)) ≡ true → Sound p asked (calls ++ seg)
 sound_part p asked calls seg s o held = record {
-  names = list_all-append _ calls seg s.names (names_sub (p.file ∷ part_of p.file ∷ []) (p.file ∷ part_of p.file ∷ fetch_files p.setup p.task (length asked)) seg
-      (sub_cons p.file (part_of p.file ∷ []) (part_of p.file ∷ fetch_files p.setup p.task (length asked)) (sub_cons (part_of p.file) [] (fetch_files p.setup p.task (length asked)) (sub_none _))) o.names);
-  changes = list_all-append _ calls seg s.changes (changes_sub p.file [] (fetch_files p.setup p.task (length asked)) seg (sub_none _) o.changes);
-  lengths = list_all-append _ calls seg s.lengths (sizes_sub (part_of p.file ∷ []) (part_of p.file ∷ fetched_files p.setup p.task 1 asked) seg
-      (sub_cons (part_of p.file) [] (fetched_files p.setup p.task 1 asked) (sub_none _)) o.lengths);
+  names = list_all-append _ calls seg s.names (names_sub (p.file ∷ part_of p.file ∷ []) (p.file ∷ part_of p.file ∷ fetch_files p.setup p.turn (length asked)) seg
+      (sub_cons p.file (part_of p.file ∷ []) (part_of p.file ∷ fetch_files p.setup p.turn (length asked)) (sub_cons (part_of p.file) [] (fetch_files p.setup p.turn (length asked)) (sub_none _))) o.names);
+  changes = list_all-append _ calls seg s.changes (changes_sub p.file [] (fetch_files p.setup p.turn (length asked)) seg (sub_none _) o.changes);
+  lengths = list_all-append _ calls seg s.lengths (sizes_sub (part_of p.file ∷ []) (part_of p.file ∷ fetched_files p.setup p.turn 1 asked) seg
+      (sub_cons (part_of p.file) [] (fetched_files p.setup p.turn 1 asked) (sub_none _)) o.lengths);
   found = found_more (part_of p.file) [] calls seg s.found o.found;
   held = held;
   told = λ before. ap is_some (holds_more (part_of p.file) (Some before) calls seg) ∙ told (part_of p.file) (holds (part_of p.file) (Some before) calls) seg o.lasting (s.told before);
@@ -148,7 +148,7 @@ pub between_fore : (p : Place) (past : List Asking) (done : List (List Part)) (t
     → is_run 0 (held_reads p.file (calls ++ seg)) ≡ true → Fore p past (calls ++ seg)
 between_fore p past done tried chunk rest calls seg ns b o is few few' held = record {
   asks =
-      let P : List Asking → Type 0 = λ l. GetAsks p.setup p.task p.key p.sizes p.file l (calls ++ seg) in
+      let P : List Asking → Type 0 = λ l. GetAsks p.setup p.turn p.key p.sizes p.file l (calls ++ seg) in
       let whole : lengths_at_begin p.file (calls ++ seg) ≡ lengths_at_begin p.file calls ++ ns = filter_map-append (length_or_none (part_of p.file)) calls seg ∙ ap (λ l. lengths_at_begin p.file calls ++ l) is in
       let n : length (lengths_at_begin p.file (calls ++ seg)) ≡ length done + length ns = ap length whole ∙ length-append (lengths_at_begin p.file calls) ns ∙ ap (λ k. k + length ns) b.begun in
       let s : length p.sizes ≡ length tried + length (chunk ∷ rest) = ap length b.tries.sizes_are ∙ length-append tried (chunk ∷ rest) in
@@ -174,11 +174,11 @@ within_part u cur got left calls seg w o no_length no_read = record {
       (order)
       (let b = w.begun in let n : length (lengths_at_begin u.place.file (calls ++ seg)) ≡ length (lengths_at_begin u.place.file calls) = ap length same in omega (arith, n, b))
       (let b = w.begun_chunked in let n : length (lengths_at_begin u.place.file (calls ++ seg)) ≡ length (lengths_at_begin u.place.file calls) = ap length same in omega (arith, n, b))
-      (ap (λ (l : List Part). wrong_lengths u.place.setup u.place.task u.place.key.size (calls ++ seg) (first_in u) l) (take-append-le (length cur - 1) got left (let a = w.aligned in omega (arith, a)))
-      ∙ wrong_taken u.place.setup u.place.task u.place.key.size (calls ++ seg) (first_in u) (length cur - 1) got
-      (same_wrong u.place.setup u.place.task u.place.key.size (first_in u) got calls seg (λ i low high. o.others i) ∙ w.right))
+      (ap (λ (l : List Part). wrong_lengths u.place.setup u.place.turn u.place.key.size (calls ++ seg) (first_in u) l) (take-append-le (length cur - 1) got left (let a = w.aligned in omega (arith, a)))
+      ∙ wrong_taken u.place.setup u.place.turn u.place.key.size (calls ++ seg) (first_in u) (length cur - 1) got
+      (same_wrong u.place.setup u.place.turn u.place.key.size (first_in u) got calls seg (λ i low high. o.others i) ∙ w.right))
       held
-      (same_read u.place.setup u.place.task (first_in u) cur calls seg (λ i low high. o.others i) ∙ w.read);
+      (same_read u.place.setup u.place.turn (first_in u) cur calls seg (λ i low high. o.others i) ∙ w.read);
   sound = sound_part u.place (u.past ++ cur) calls seg w.sound o held;
   calm = fore.calm;
 }
@@ -192,7 +192,7 @@ within_part u cur got left calls seg w o no_length no_read = record {
     held : is_run 0 (held_reads u.place.file (calls ++ seg)) ≡ true
     held = held_run u.place.file calls seg no_read w.sound.held
 
-    order : RoundsAsk (fetch_request u.place.setup u.place.task) (first_in u) (map keys_in ((got ++ left) ∷ wanted u.place.key u.rest [])) (rounds cur)
+    order : RoundsAsk (fetch_request u.place.setup u.place.turn) (first_in u) (map keys_in ((got ++ left) ∷ wanted u.place.key u.rest [])) (rounds cur)
     order = within_order u cur got left calls w
 
 -- ---- the end
@@ -209,20 +209,20 @@ settle_end u cur parts calls held bytes fit r w k c said = by_fit fit said r
     answers : (y : Call) (answer : Answer) → OfPart p calls (y ∷ []) → length_or_none (part_of p.file) y ≡ None → read_of (part_of p.file) y ≡ None → begins (part_of p.file) y ≡ false → piece_of (part_of p.file) y ≡ None → is_growing (part_of p.file) y ≡ true
         → IsSaid p.key (bytes_of held ++ bytes) (fit_in answer)
         → MatchBool (is_got answer) (is_last (is_renaming (part_of p.file) p.file) (calls ++ y ∷ []) ≡ true) (is_removed (part_of p.file) (calls ++ y ∷ []) ≡ true)
-        → GetAnswers p.setup p.task p.key p.sizes p.file (u.past ++ cur) (calls ++ y ∷ []) answer
+        → GetAnswers p.setup p.turn p.key p.sizes p.file (u.past ++ cur) (calls ++ y ∷ []) answer
     answers y answer o no_length no_read no_begin no_piece grows s last =
         let lengths : lengths_at_begin p.file (calls ++ y ∷ []) ≡ lengths_at_begin p.file calls = begin_lengths p.file calls (y ∷ []) (rw no_length refl) in
         let behind : list_all (λ call. not (begins (part_of p.file) call)) (y ∷ []) ≡ true = rw no_begin refl in
         let none : reads_of (part_of p.file) (y ∷ []) ≡ [] = rw no_read refl in
         let reads : held_reads p.file (calls ++ y ∷ []) ≡ held = held_more p.file calls (y ∷ []) behind ∙ ap (λ l. held_reads p.file calls ++ l) none ∙ append-nil (held_reads p.file calls) ∙ k.held_are in
-        let fetched : bytes_fetched p.setup p.task (calls ++ y ∷ []) (first_in u) cur ≡ bytes = same_bytes p.setup p.task (first_in u) cur calls (y ∷ []) (λ i low high. o.others i) ∙ k.bytes_are in
+        let fetched : bytes_fetched p.setup p.turn (calls ++ y ∷ []) (first_in u) cur ≡ bytes = same_bytes p.setup p.turn (first_in u) cur calls (y ∷ []) (λ i low high. o.others i) ∙ k.bytes_are in
         let nothing : appended (part_of p.file) (y ∷ []) ≡ [] = rw no_piece refl in
         let moved : appended (part_of p.file) (since_begin p.file (calls ++ y ∷ [])) ≡ bytes = appended_more p.file calls (y ∷ []) behind ∙ ap (λ l. appended (part_of p.file) (since_begin p.file calls) ++ l) nothing ∙ append-nil (appended (part_of p.file) (since_begin p.file calls)) ∙ k.moved in
         let grown : list_all (is_growing (part_of p.file)) (y ∷ []) ≡ true = rw grows refl in
         let P : List ℕ → Type 0 = λ l. IsSaid p.key l (fit_in answer) in
-        let all : (if u.chunk == 0 then [] else bytes_of (held_reads p.file (calls ++ y ∷ []))) ++ bytes_fetched p.setup p.task (calls ++ y ∷ []) (first_in u) cur ≡ bytes_of held ++ bytes =
-        ap (λ (b : Bool). (if b then [] else bytes_of (held_reads p.file (calls ++ y ∷ []))) ++ bytes_fetched p.setup p.task (calls ++ y ∷ []) (first_in u) cur) c
-        ∙ ap (λ (l : List (ℕ × List ℕ)). bytes_of l ++ bytes_fetched p.setup p.task (calls ++ y ∷ []) (first_in u) cur) reads ∙ ap (λ (l : List ℕ). bytes_of held ++ l) fetched in
+        let all : (if u.chunk == 0 then [] else bytes_of (held_reads p.file (calls ++ y ∷ []))) ++ bytes_fetched p.setup p.turn (calls ++ y ∷ []) (first_in u) cur ≡ bytes_of held ++ bytes =
+        ap (λ (b : Bool). (if b then [] else bytes_of (held_reads p.file (calls ++ y ∷ []))) ++ bytes_fetched p.setup p.turn (calls ++ y ∷ []) (first_in u) cur) c
+        ∙ ap (λ (l : List (ℕ × List ℕ)). bytes_of l ++ bytes_fetched p.setup p.turn (calls ++ y ∷ []) (first_in u) cur) reads ∙ ap (λ (l : List ℕ). bytes_of held ++ l) fetched in
         let parts_same : parts ++ [] ≡ parts = append-nil parts in
         answers_said u cur parts (calls ++ y ∷ []) answer
         (record {
@@ -231,12 +231,12 @@ settle_end u cur parts calls held bytes fit r w k c said = by_fit fit said r
           wants = ap (wanted p.key p.sizes) (lengths ∙ sym (append-nil (lengths_at_begin p.file calls))) ∙ w.wants [] ∙ ap (λ (l : List Part). u.done ++ l ∷ wanted p.key u.rest []) parts_same;
           begun = right_or (u.chunk == 0) (length (lengths_at_begin p.file (calls ++ y ∷ [])) == length u.done + 1) (eq-eqb _ _ (ap length lengths ∙ k.begun));
         })
-        (same_wrong p.setup p.task p.key.size (first_in u) parts calls (y ∷ []) (λ i low high. o.others i) ∙ w.right)
+        (same_wrong p.setup p.turn p.key.size (first_in u) parts calls (y ∷ []) (λ i low high. o.others i) ∙ w.right)
         (count_all is_done cur w.all_done ∙ sym w.aligned)
         (subst P (sym all) s)
         (right_or (u.chunk == 0) (is_reading 0 (begin_of p.key parts) (held_reads p.file (calls ++ y ∷ [])))
         (ap (is_reading 0 (begin_of p.key parts)) reads ∙ ap (λ (l : List Part). is_reading 0 (begin_of p.key l) held) (sym parts_same) ∙ k.held_whole))
-        (same_whole p.setup p.task (first_in u) cur calls (y ∷ []) (λ i low high. o.others i) ∙ k.whole)
+        (same_whole p.setup p.turn (first_in u) cur calls (y ∷ []) (λ i low high. o.others i) ∙ k.whole)
         (by_test _ _ _ (is_got answer)
         (λ last. record {
           moved = moved ∙ sym fetched;
@@ -253,7 +253,7 @@ settle_end u cur parts calls held bytes fit r w k c said = by_fit fit said r
         by_test K L R false make r = r
 
     finished : (y : Call) (answer : Answer) → OfPart p calls (y ∷ []) → call_stop (part_of p.file) y ≡ None → length_or_none (part_of p.file) y ≡ None → read_of (part_of p.file) y ≡ None
-        → AnsweredBy [] answer (GetAnswers p.setup p.task p.key p.sizes p.file (u.past ++ cur) (calls ++ y ∷ []) answer) → Ended p (u.past ++ cur) (calls ++ y ∷ []) answer
+        → AnsweredBy [] answer (GetAnswers p.setup p.turn p.key p.sizes p.file (u.past ++ cur) (calls ++ y ∷ []) answer) → Ended p (u.past ++ cur) (calls ++ y ∷ []) answer
     finished y answer o free no_length no_read h =
         ended_finished p (u.past ++ cur) (calls ++ y ∷ []) answer (within_part u cur parts [] calls (y ∷ []) w o (rw no_length refl) (rw no_read refl)) (list_all-append _ calls (y ∷ []) w.free (rw free refl)) h
 

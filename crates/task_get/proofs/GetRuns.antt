@@ -14,6 +14,7 @@ use Rattle.task_run.specs.Askers.{Asking}
 use Rattle.journal_model.specs.declared.answer.Answer.{Answer}
 use Rattle.journal_model.specs.declared.answer.Answer.TheVariants as A
 use Rattle.task_run.specs.declared.setup.Setup.{Setup}
+use Rattle.task_run.specs.declared.turn.TaskTurn.{TaskTurn}
 use Rattle.task_run.specs.Stops.{call_stop, AnsweredBy}
 use Rattle.task_run.specs.Names.{part_of, fetch_file}
 use Rattle.task_run.specs.Requests.{AsksFor}
@@ -45,11 +46,11 @@ none_dropped f zero xs h = h
 none_dropped f (suc k) [] h = refl
 none_dropped f (suc k) (x ∷ xs) h = none_dropped f k xs (none_tail (f x) (filter_map f xs) h)
 
-get_calls : (setup : Setup) (t : ℕ) (file : List ℕ) (request : Option HostMessage) (at : ℕ) (calls : List Call) → Fair file (fetch_file setup t 1) calls
+get_calls : (setup : Setup) (t : TaskTurn) (file : List ℕ) (request : Option HostMessage) (at : ℕ) (calls : List Call) → Fair file (fetch_file setup t 1) calls
     → GetCalls setup t file (done request at ∷ []) calls
 get_calls setup t file request at calls f = record { names = f.names; changes = f.changes; lengths = f.lengths }
 
-get_asks : (setup : Setup) (t : ℕ) (key : Parts) (file : List ℕ) (request : Option HostMessage) (at : ℕ) (calls : List Call)
+get_asks : (setup : Setup) (t : TaskTurn) (key : Parts) (file : List ℕ) (request : Option HostMessage) (at : ℕ) (calls : List Call)
     → AsksFor (fetch_request setup t) 1 key (done request at) → Fair file (fetch_file setup t 1) calls → is_run 0 (reads_of (fetch_file setup t 1) calls) ≡ true
     → GetAsks setup t key (sizes_tried key []) file (done request at ∷ []) calls
 get_asks setup t key file request at calls h f r = record {
@@ -63,16 +64,16 @@ get_asks setup t key file request at calls h f r = record {
 
 -- ---- ends
 
-abbrev pub Run : Setup → ℕ → Parts → List ℕ → List ℕ → Option HostMessage → ℕ → List Call → Answer → Type 0
+abbrev pub Run : Setup → TaskTurn → Parts → List ℕ → List ℕ → Option HostMessage → ℕ → List Call → Answer → Type 0
 Run setup t key text file request at calls answer = RunOf setup t (get_task text file) key [] (done request at ∷ []) calls [] answer
 
 -- a get that goes on so far
-pub record Going (setup : Setup) (t : ℕ) (key : Parts) (file : List ℕ) (request : Option HostMessage) (at : ℕ) (calls : List Call) : Type 0 where
+pub record Going (setup : Setup) (t : TaskTurn) (key : Parts) (file : List ℕ) (request : Option HostMessage) (at : ℕ) (calls : List Call) : Type 0 where
   pub asks : AsksFor (fetch_request setup t) 1 key (done request at)
   pub good : Good file (fetch_file setup t 1) [] calls
   pub run : is_run 0 (reads_of (fetch_file setup t 1) calls) ≡ true
 
-pub run_memory : (setup : Setup) (t : ℕ) (key : Parts) (text file : List ℕ) (request : Option HostMessage) (at : ℕ) (calls : List Call)
+pub run_memory : (setup : Setup) (t : TaskTurn) (key : Parts) (text file : List ℕ) (request : Option HostMessage) (at : ℕ) (calls : List Call)
     → Going setup t key file request at calls → Run setup t key text file request at calls A.Memory
 run_memory setup t key text file request at calls g = record {
   asked_till_stop = refl;
@@ -82,7 +83,7 @@ run_memory setup t key text file request at calls g = record {
   answered = rw (none_stop (call_stop (part_of file)) calls g.good.free) tt;
 }
 
-pub run_finished : (setup : Setup) (t : ℕ) (key : Parts) (text file : List ℕ) (request : Option HostMessage) (at : ℕ) (calls : List Call) (answer : Answer)
+pub run_finished : (setup : Setup) (t : TaskTurn) (key : Parts) (text file : List ℕ) (request : Option HostMessage) (at : ℕ) (calls : List Call) (answer : Answer)
     → Going setup t key file request at calls
     → AnsweredBy [] answer (GetAnswers setup t key (sizes_tried key []) file (done request at ∷ []) calls answer)
     → Run setup t key text file request at calls answer

@@ -11,6 +11,7 @@ use Rattle.fetch_copy.proofs.CopyLaws.{gained_nothing}
 use Rattle.task_run.specs.Askers.{Asking}
 use Rattle.journal_model.specs.declared.answer.Answer.TheVariants as A
 use Rattle.task_run.specs.declared.setup.Setup.{Setup}
+use Rattle.task_run.specs.declared.turn.TaskTurn.{TaskTurn}
 use Rattle.task_run.specs.Names.{part_of, fetch_file}
 use Rattle.task_run.specs.Runs.{RunOf, TaskRun}
 use Rattle.task_run.specs.Ran.{RanGet}
@@ -23,7 +24,7 @@ use Rattle.std.proofs.Common.{refl, arith}
 use Rattle.task_run.proofs.NamedRuns.{nameless, with_names}
 use Rattle.task_text.specs.Works.{has_name}
 
-pub names_apart : (setup : Setup) (t n : ℕ) (file : List ℕ) → Apart file (fetch_file setup t n)
+pub names_apart : (setup : Setup) (t : TaskTurn) (n : ℕ) (file : List ℕ) → Apart file (fetch_file setup t n)
 names_apart setup t n file = record {
   fetch_part = other_name (fetch_file setup t n) (part_of file) (fetch_differs setup t n file);
   part_fetch = other_name (part_of file) (fetch_file setup t n) (λ e. fetch_differs setup t n file (sym e));
@@ -34,7 +35,7 @@ names_apart setup t n file = record {
 from_zero : (n : ℕ) → nat_le 0 n ≡ true
 from_zero n = grind (arith, nat_tests)
 
-get_nothing : (setup : Setup) (t : ℕ) (key : Parts) (text file : List ℕ) (layouts : List (ℕ × ℕ)) → RunOf setup t (get_task text file) key layouts [] [] [] A.Memory
+get_nothing : (setup : Setup) (t : TaskTurn) (key : Parts) (text file : List ℕ) (layouts : List (ℕ × ℕ)) → RunOf setup t (get_task text file) key layouts [] [] [] A.Memory
 get_nothing setup t key text file layouts = record {
   asked_till_stop = refl;
   calls_till_stop = refl;
@@ -43,7 +44,7 @@ get_nothing setup t key text file layouts = record {
   answered = tt;
 }
 
-pub get_nothing_ran : (task : Task) (t : ℕ) (setup : Setup) (layouts : List (ℕ × ℕ)) (pairs : List Asking) (log : Option Log) (e : NoMemory) → task.work ≡ W.Get → RanGet task t setup layouts pairs pairs log log (Err e)
+pub get_nothing_ran : (task : Task) (t : TaskTurn) (setup : Setup) (layouts : List (ℕ × ℕ)) (pairs : List Asking) (log : Option Log) (e : NoMemory) → task.work ≡ W.Get → RanGet task t setup layouts pairs pairs log log (Err e)
 get_nothing_ran task t setup layouts pairs log e w = record {
   asked = [];
   calls = [];

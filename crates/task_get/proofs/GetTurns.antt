@@ -22,6 +22,7 @@ use Rattle.fetch_copy.specs.Copies.{EndsWhole, Checks}
 use Rattle.fetch_copy.proofs.CopyLaws.{gained_nothing}
 use Rattle.task_run.specs.Askers.{Asking, KeepsRequest}
 use Rattle.task_run.specs.declared.setup.Setup.{Setup}
+use Rattle.task_run.specs.declared.turn.TaskTurn.{TaskTurn}
 use Rattle.task_get.specs.declared.get_chunk.Went.{Went}
 use Rattle.task_get.specs.declared.get_chunk.Went.TheVariants as T
 use Rattle.task_run.specs.Stops.{is_done, is_done_at, asking_stop, call_stop, AnsweredBy}
@@ -78,7 +79,7 @@ own_number : (u : Turn) (cur : List Asking) (n : ℕ) → n ≡ first_in u + len
 own_number u cur n e = let l : length (u.past ++ cur) ≡ length u.past + length cur = length-append u.past cur in omega (arith, e, l)
 
 pub failed_tried : (u : Turn) (cur : List Asking) (got left : List Part) (part : Part) (a : Asking) (n : ℕ) (calls : List Call) → Within u cur got (part ∷ left) calls
-    → n ≡ first_in u + length cur → AsksFor (fetch_request u.place.setup u.place.task) n part.key a → is_failed a ≡ true
+    → n ≡ first_in u + length cur → AsksFor (fetch_request u.place.setup u.place.turn) n part.key a → is_failed a ≡ true
     → Tried u.place (u.past ++ (cur ++ a ∷ [])) (u.done ++ (got ++ part ∷ left) ∷ []) (u.tried ++ u.chunk ∷ []) u.rest
 failed_tried u cur got left part a n calls w is asks f = record {
   sizes_are = w.tries.sizes_are ∙ sym (append_assoc u.tried (u.chunk ∷ []) u.rest);
@@ -102,10 +103,10 @@ failed_tried u cur got left part a n calls w is asks f = record {
     done_all_calm : (ds : List Asking) → list_all is_done ds ≡ true → list_all is_calm ds ≡ true
     done_all_calm ds h = weaken is_done is_calm ds (λ d e. rw e refl) h
 
-    order : (more : List (List Parts)) (next : List Asking) → RoundsAsk (fetch_request u.place.setup u.place.task) (length (u.past ++ (cur ++ a ∷ [])) + 1) more (rounds next)
-        → RoundsAsk (fetch_request u.place.setup u.place.task) 1 (map keys_in (u.done ++ (got ++ part ∷ left) ∷ []) ++ more) (rounds ((u.past ++ (cur ++ a ∷ [])) ++ next))
+    order : (more : List (List Parts)) (next : List Asking) → RoundsAsk (fetch_request u.place.setup u.place.turn) (length (u.past ++ (cur ++ a ∷ [])) + 1) more (rounds next)
+        → RoundsAsk (fetch_request u.place.setup u.place.turn) 1 (map keys_in (u.done ++ (got ++ part ∷ left) ∷ []) ++ more) (rounds ((u.past ++ (cur ++ a ∷ [])) ++ next))
     order more next h =
-        let ask : ℕ → List ℕ → HostMessage = fetch_request u.place.setup u.place.task in
+        let ask : ℕ → List ℕ → HostMessage = fetch_request u.place.setup u.place.turn in
         let K : List Parts → Type 0 = λ ks. AskInOrder ask (first_in u) ks (cur ++ a ∷ []) in
         let N : ℕ → Type 0 = λ k. AsksFor ask k part.key a in
         let own : AskInOrder ask (first_in u) (keys_in (got ++ part ∷ left)) (cur ++ a ∷ []) =
@@ -125,7 +126,7 @@ failed_tried u cur got left part a n calls w is asks f = record {
 
 pub failed_between : (u : Turn) (cur : List Asking) (got left : List Part) (part : Part) (a : Asking) (n : ℕ) (calls : List Call) → Within u cur got (part ∷ left) calls
     → length (lengths_at_begin u.place.file calls) ≡ length u.done + 1 → n ≡ first_in u + length cur → n < 2 ^ 64
-    → AsksFor (fetch_request u.place.setup u.place.task) n part.key a → is_failed a ≡ true
+    → AsksFor (fetch_request u.place.setup u.place.turn) n part.key a → is_failed a ≡ true
     → Between u.place (u.past ++ (cur ++ a ∷ [])) (u.done ++ (got ++ part ∷ left) ∷ []) (u.tried ++ u.chunk ∷ []) u.rest calls
 failed_between u cur got left part a n calls w begun is few asks f = record {
   tries = failed_tried u cur got left part a n calls w is asks f;
@@ -188,8 +189,8 @@ misfit h m size r f s wrong begun room free gone by =
     size_found : lengths_found (fetch_in h) (h.calls ++ seg) ≡ m ∷ []
     size_found = lengths_behind (fetch_in h) h.calls seg (own_apart u h.cur h.got h.left h.part h.x h.n h.calls f) ∙ rw (same_name (fetch_in h)) refl
 
-    later : wrong_lengths u.place.setup u.place.task u.place.key.size (h.calls ++ seg) (h.n + 1) h.left ≡ []
-    later = none_wrong u.place.setup u.place.task u.place.key.size (h.n + 1) h.left (h.calls ++ seg)
+    later : wrong_lengths u.place.setup u.place.turn u.place.key.size (h.calls ++ seg) (h.n + 1) h.left ≡ []
+    later = none_wrong u.place.setup u.place.turn u.place.key.size (h.n + 1) h.left (h.calls ++ seg)
         (λ i low high. list_all-append (is_apart (fetch_at u.place i)) h.calls seg
         (f.within.sound.fresh i (let o = own_number u h.cur h.n f.number in omega (arith, o, low)) (omega (arith, high, room)))
         (moving.others i (omega (arith, high, room)) (λ e. omega (arith, e, low))))
@@ -197,14 +198,14 @@ misfit h m size r f s wrong begun room free gone by =
     is_wrong_now : is_wrong u.place.key.size h.part m ≡ true
     is_wrong_now = let P : Option ℕ → Type 0 = λ o. is_wrong o h.part m ≡ true in subst P (sym s) (ap not wrong)
 
-    wrongs : wrong_lengths u.place.setup u.place.task u.place.key.size (h.calls ++ seg) (first_in u) (h.got ++ h.part ∷ h.left) ≡ m ∷ []
+    wrongs : wrong_lengths u.place.setup u.place.turn u.place.key.size (h.calls ++ seg) (first_in u) (h.got ++ h.part ∷ h.left) ≡ m ∷ []
     wrongs =
         let number : first_in u + length h.got ≡ h.n = let a = f.within.aligned in let b = f.number in omega (arith, a, b) in
-        wrong_more u.place.setup u.place.task u.place.key.size (h.calls ++ seg) (first_in u) h.got (h.part ∷ h.left)
-        ∙ ap (λ l. l ++ wrong_lengths u.place.setup u.place.task u.place.key.size (h.calls ++ seg) (first_in u + length h.got) (h.part ∷ h.left))
-        (same_wrong u.place.setup u.place.task u.place.key.size (first_in u) h.got h.calls seg (λ i low high. moving.others i (let a = f.within.aligned in let b = f.number in let c = f.few in omega (arith, a, b, c, high)) (λ e. let a = f.within.aligned in let b = f.number in omega (arith, a, b, e, high))) ∙ f.within.right)
-        ∙ ap (λ k. wrong_lengths u.place.setup u.place.task u.place.key.size (h.calls ++ seg) k (h.part ∷ h.left)) number
-        ∙ ap (λ l. filter (is_wrong u.place.key.size h.part) l ++ wrong_lengths u.place.setup u.place.task u.place.key.size (h.calls ++ seg) (h.n + 1) h.left) size_found
+        wrong_more u.place.setup u.place.turn u.place.key.size (h.calls ++ seg) (first_in u) h.got (h.part ∷ h.left)
+        ∙ ap (λ l. l ++ wrong_lengths u.place.setup u.place.turn u.place.key.size (h.calls ++ seg) (first_in u + length h.got) (h.part ∷ h.left))
+        (same_wrong u.place.setup u.place.turn u.place.key.size (first_in u) h.got h.calls seg (λ i low high. moving.others i (let a = f.within.aligned in let b = f.number in let c = f.few in omega (arith, a, b, c, high)) (λ e. let a = f.within.aligned in let b = f.number in omega (arith, a, b, e, high))) ∙ f.within.right)
+        ∙ ap (λ k. wrong_lengths u.place.setup u.place.turn u.place.key.size (h.calls ++ seg) k (h.part ∷ h.left)) number
+        ∙ ap (λ l. filter (is_wrong u.place.key.size h.part) l ++ wrong_lengths u.place.setup u.place.turn u.place.key.size (h.calls ++ seg) (h.n + 1) h.left) size_found
         ∙ ap (λ l. filter (is_wrong u.place.key.size h.part) (m ∷ []) ++ l) later
         ∙ rw is_wrong_now refl
 
@@ -302,15 +303,15 @@ unasked_end u cur got left calls w =
 
 -- a verdict that stops it
 pub asked_end : (u : Turn) (cur : List Asking) (got left : List Part) (part : Part) (a : Asking) (n : ℕ) (calls : List Call) (answer : Answer) → Within u cur got (part ∷ left) calls
-    → n ≡ first_in u + length cur → n < 2 ^ 64 → AsksFor (fetch_request u.place.setup u.place.task) n part.key a → not (is_failed a) ≡ true → asking_stop W.Get a ≡ Some answer
+    → n ≡ first_in u + length cur → n < 2 ^ 64 → AsksFor (fetch_request u.place.setup u.place.turn) n part.key a → not (is_failed a) ≡ true → asking_stop W.Get a ≡ Some answer
     → Ended u.place (u.past ++ (cur ++ a ∷ [])) (calls ++ []) answer
 asked_end u cur got left part a n calls answer w is few asks ok stop =
     let fresh : reads_of (fetch_at u.place n) (calls ++ []) ≡ [] =
     reads_behind (fetch_at u.place n) calls [] (w.sound.fresh n (let o = own_number u cur n is in omega (arith, o)) few) in
-    let asked : GetAsks u.place.setup u.place.task u.place.key u.place.sizes u.place.file (u.past ++ (cur ++ a ∷ [])) (calls ++ []) =
+    let asked : GetAsks u.place.setup u.place.turn u.place.key u.place.sizes u.place.file (u.past ++ (cur ++ a ∷ [])) (calls ++ []) =
     within_asks u cur got left part a n calls [] w is asks ok refl refl (λ i low high. refl) (ap (is_run 0) fresh) in
     let P : List Asking → Type 0 = λ l. Ended u.place l (calls ++ []) answer in
-    let Q : List Asking → Type 0 = λ l. GetAsks u.place.setup u.place.task u.place.key u.place.sizes u.place.file l (calls ++ []) in
+    let Q : List Asking → Type 0 = λ l. GetAsks u.place.setup u.place.turn u.place.key u.place.sizes u.place.file l (calls ++ []) in
     let S : List Call → Type 0 = λ l. Sound u.place ((u.past ++ cur) ++ a ∷ []) l in
     let R : List Call → Type 0 = λ l. are_free u.place l ≡ true in
     subst P (append_assoc u.past cur (a ∷ []))
@@ -319,7 +320,7 @@ asked_end u cur got left part a n calls answer w is few asks ok stop =
     (subst S (sym (append-nil calls)) (sound_asked u.place (u.past ++ cur) a calls w.sound (let o = own_number u cur n is in omega (arith, o, few))))
     (subst R (sym (append-nil calls)) w.free) stop)
 
-pub asks_for_part : (setup : Setup) (t n : ℕ) (text : List ℕ) (key : Parts) (request : Option HostMessage) (v : Verdict) → key_reading text ≡ Some key
+pub asks_for_part : (setup : Setup) (t : TaskTurn) (n : ℕ) (text : List ℕ) (key : Parts) (request : Option HostMessage) (v : Verdict) → key_reading text ≡ Some key
     → KeepsRequest (Transfer false text (fetch_file setup t n)) request v → AsksFor (fetch_request setup t) n key (record { request = request; name = None; verdict = v })
 asks_for_part setup t n text key None v e k = k
 asks_for_part setup t n text key (Some q) v e k = rw k (refl, e)
@@ -327,7 +328,7 @@ asks_for_part setup t n text key (Some q) v e k = rw k (refl, e)
 undone_end : (u : Turn) (cur : List Asking) (got left : List Part) (part : Part) (n : ℕ) (calls : List Call) (held : List (ℕ × List ℕ)) (bytes : List ℕ) (before after : Checker)
     (request : Option HostMessage) (v : Verdict) (text fetch : List ℕ) → Within u cur got (part ∷ left) calls
     → length (lengths_at_begin u.place.file calls) ≡ length u.done + 1 → n ≡ first_in u + length cur → n < 2 ^ 64
-    → AsksFor (fetch_request u.place.setup u.place.task) n part.key (record { request = request; name = None; verdict = v })
+    → AsksFor (fetch_request u.place.setup u.place.turn) n part.key (record { request = request; name = None; verdict = v })
     → is_verdict_of (Transfer false text fetch) v ≡ true → is_done_at v ≡ false
     → PartEnd u cur got left part calls held bytes before after (record { request = request; name = None; verdict = v } ∷ []) [] (Ok (undone_went v))
 undone_end u cur got left part n calls held bytes before after request (V.Done at) text fetch w begun is few asks kind d = apart (sym d)
@@ -355,7 +356,7 @@ grown_by text part fetch n before after pairs later old new result (Fetched v ho
 
 fetched_end : (u : Turn) (cur : List Asking) (got left : List Part) (part : Part) (n : ℕ) (calls : List Call) (held : List (ℕ × List ℕ)) (bytes : List ℕ) (len size : ℕ) (before after : Checker)
     (request : Option HostMessage) (v : Verdict) (how : Come) → Within u cur got (part ∷ left) calls → Kept u cur got (part ∷ left) calls held bytes → n ≡ first_in u + length cur → n + length left < 2 ^ 64
-    → AsksFor (fetch_request u.place.setup u.place.task) n part.key (record { request = request; name = None; verdict = v }) → is_done_at v ≡ true
+    → AsksFor (fetch_request u.place.setup u.place.turn) n part.key (record { request = request; name = None; verdict = v }) → is_done_at v ≡ true
     → u.place.key.size ≡ Some size → len ≡ part.to - part.from → ComeIs (part_of u.place.file) (fetch_at u.place n) len before after how
     → PartEnd u cur got left part calls held bytes before after (record { request = request; name = None; verdict = v } ∷ []) (come_calls (part_of u.place.file) (fetch_at u.place n) len how) (come_result how)
 fetched_end u cur got left part n calls held bytes len size before after request v how w k is room asks d s l so =
@@ -373,10 +374,10 @@ pub take_end : (u : Turn) (cur : List Asking) (got left : List Part) (part : Par
 take_end u cur got left part n calls held bytes len size text before after pairs later old new result Unmade so w k is room r s l = rw so.no_memory (unasked_end u cur got (part ∷ left) calls w)
 take_end u cur got left part n calls held bytes len size text before after pairs later old new result (Undone v) so w k is room r s l =
     rw so.goes (undone_end u cur got left part n calls held bytes before after so.asks.request v text (fetch_at u.place n) w k.begun is (omega (arith, room))
-    (asks_for_part u.place.setup u.place.task n text part.key so.asks.request v r so.asks.kept) so.of_kind so.not_done)
+    (asks_for_part u.place.setup u.place.turn n text part.key so.asks.request v r so.asks.kept) so.of_kind so.not_done)
 take_end u cur got left part n calls held bytes len size text before after pairs later old new result (Fetched v how) so w k is room r s l =
     rw so.goes (fetched_end u cur got left part n calls held bytes len size before after so.asks.request v how w k is room
-    (asks_for_part u.place.setup u.place.task n text part.key so.asks.request v r so.asks.kept) so.done s l so.so)
+    (asks_for_part u.place.setup u.place.turn n text part.key so.asks.request v r so.asks.kept) so.done s l so.so)
 
 -- the same, by the names that the code has
 pub take_ran : (u : Turn) (cur : List Asking) (got left : List Part) (part : Part) (n : ℕ) (calls : List Call) (held : List (ℕ × List ℕ)) (bytes : List ℕ) (len size : ℕ) (text name fetch : List ℕ)

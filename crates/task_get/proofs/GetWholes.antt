@@ -23,6 +23,7 @@ use Rattle.journal_model.specs.declared.verdict.Verdict.{Verdict}
 use Rattle.journal_model.specs.declared.verdict.Verdict.TheVariants as V
 use Rattle.task_run.specs.Stops.{is_done, call_stop, is_done_at, AnsweredBy, all_but_last, failed_at, last_failed}
 use Rattle.task_run.specs.declared.setup.Setup.{Setup}
+use Rattle.task_run.specs.declared.turn.TaskTurn.{TaskTurn}
 use Rattle.task_run.specs.Names.{part_of, fetch_file}
 use Rattle.task_run.specs.Stores.{is_size}
 use Rattle.task_run.specs.Requests.{AsksFor, AskInOrder}
@@ -62,7 +63,7 @@ plain_within p past done tried calls b = record {
   all_done = refl;
   in_order = λ more next h.
       let e : (length past + 1) + 0 ≡ length past + 1 = omega arith in
-      let P : ℕ → Type 0 = λ k. AskInOrder (fetch_request p.setup p.task) k more next in subst P e h;
+      let P : ℕ → Type 0 = λ k. AskInOrder (fetch_request p.setup p.turn) k more next in subst P e h;
   aligned = refl;
   wants = λ later. b.wants later ∙ plain_wants later;
   begun = let n = b.begun in omega (arith, n);
@@ -119,7 +120,7 @@ own_in p past done tried x calls f = own_apart (record { place = p; past = past;
 
 plain_wrong : (p : Place) (past : List Asking) (done : List (List Part)) (tried : List ℕ) (x : Asking) (calls seg : List Call) (m : ℕ) → FetchingAt (plain_here p past done tried x calls)
     → is_size p.key.size m ≡ false → lengths_found (fetch_at p (length past + 1)) seg ≡ m ∷ [] → Moving (plain_here p past done tried x calls) seg → is_removed (part_of p.file) (calls ++ seg) ≡ true
-    → GetAnswers p.setup p.task p.key p.sizes p.file (past ++ x ∷ []) (calls ++ seg) (A.Size m)
+    → GetAnswers p.setup p.turn p.key p.sizes p.file (past ++ x ∷ []) (calls ++ seg) (A.Size m)
 plain_wrong p past done tried x calls seg m f s l g removed =
     let found : lengths_found (fetch_at p (length past + 1)) (calls ++ seg) ≡ m ∷ [] = lengths_behind (fetch_at p (length past + 1)) calls seg (own_in p past done tried x calls f) ∙ l in
     let w : is_wrong p.key.size (whole_part p.key) m ≡ true = wrong_if p.key.size (whole_part p.key) m false refl refl s in
@@ -137,7 +138,7 @@ plain_said : (p : Place) (past : List Asking) (done : List (List Part)) (tried :
     → is_reading 0 m (reads_of (fetch_at p (length past + 1)) seg) ≡ true → IsSaid p.key bytes (fit_in answer)
     → MatchBool (is_got answer) (IsMoved p (calls ++ seg) bytes)
     (is_removed (part_of p.file) (calls ++ seg) ≡ true)
-    → GetAnswers p.setup p.task p.key p.sizes p.file (past ++ x ∷ []) (calls ++ seg) answer
+    → GetAnswers p.setup p.turn p.key p.sizes p.file (past ++ x ∷ []) (calls ++ seg) answer
 plain_said p past done tried x calls seg m bytes answer f g s l b whole said part =
     answers_said (record { place = p; past = past; done = done; tried = tried; chunk = 0; rest = [] }) (x ∷ []) (whole_part p.key ∷ []) (calls ++ seg) answer (plain_last p past done tried x calls seg f g)
     (ap (λ r. filter (is_wrong p.key.size (whole_part p.key)) r ++ []) found ∙ rw w refl)
@@ -162,7 +163,7 @@ plain_said p past done tried x calls seg m bytes answer f g s l b whole said par
     w : is_wrong p.key.size (whole_part p.key) m ≡ false
     w = wrong_if p.key.size (whole_part p.key) m true refl refl s
 
-    fetched : bytes_fetched p.setup p.task (calls ++ seg) (length past + 1) (x ∷ []) ≡ bytes
+    fetched : bytes_fetched p.setup p.turn (calls ++ seg) (length past + 1) (x ∷ []) ≡ bytes
     fetched = append-nil (bytes_of (reads_of (fetch_at p (length past + 1)) (calls ++ seg))) ∙ ap bytes_of reads ∙ b
 
     by_test : (t : Bool)
@@ -396,7 +397,7 @@ failed_of request w at e = rw e refl
 
 -- every layout has failed
 pub plain_failed : (p : Place) (past : List Asking) (done : List (List Part)) (tried : List ℕ) (a : Asking) (calls : List Call) (at : ℕ) → Between p past done tried (0 ∷ []) calls → length past + 1 < 2 ^ 64
-    → AsksFor (fetch_request p.setup p.task) (length past + 1) p.key a → a.verdict ≡ V.Failed at → Ended p (past ++ a ∷ []) (calls ++ []) (A.Failed at)
+    → AsksFor (fetch_request p.setup p.turn) (length past + 1) p.key a → a.verdict ≡ V.Failed at → Ended p (past ++ a ∷ []) (calls ++ []) (A.Failed at)
 plain_failed p past done tried a calls at b few asks v =
     let P : List Call → Type 0 = λ l. Ended p (past ++ a ∷ []) l (A.Failed at) in
     subst P (sym (append-nil calls)) (ended_finished p (past ++ a ∷ []) calls (A.Failed at) fore b.free (record { answered = answer }))
@@ -416,7 +417,7 @@ plain_failed p past done tried a calls at b few asks v =
     fore : Fore p (past ++ a ∷ []) calls
     fore = record {
       asks =
-          let Q : List Asking → Type 0 = λ l. GetAsks p.setup p.task p.key p.sizes p.file l calls in
+          let Q : List Asking → Type 0 = λ l. GetAsks p.setup p.turn p.key p.sizes p.file l calls in
           let n = b.begun in
           let d : length (done ++ (whole_part p.key ∷ []) ∷ []) ≡ length done + 1 = length-append done ((whole_part p.key ∷ []) ∷ []) in
           subst Q (append-nil (past ++ a ∷ []))
@@ -427,18 +428,18 @@ plain_failed p past done tried a calls at b few asks v =
       calm = tries.calm;
     }
 
-    answer : MatchBool (failures (past ++ a ∷ []) == length p.sizes) (last_failed (past ++ a ∷ []) ≡ Some (A.Failed at)) (Decides p.setup p.task p.key p.sizes p.file (past ++ a ∷ []) calls (A.Failed at))
+    answer : MatchBool (failures (past ++ a ∷ []) == length p.sizes) (last_failed (past ++ a ∷ []) ≡ Some (A.Failed at)) (Decides p.setup p.turn p.key p.sizes p.file (past ++ a ∷ []) calls (A.Failed at))
     answer =
         let none : List ℕ = [] in
         let s : length p.sizes ≡ length (tried ++ 0 ∷ []) = ap length tries.sizes_are ∙ ap length (append-nil (tried ++ 0 ∷ [])) in
         let e : (failures (past ++ a ∷ []) == length p.sizes) ≡ true = eq-eqb (failures (past ++ a ∷ [])) (length p.sizes) (tries.failed ∙ sym tries.each_done ∙ sym s) in
-        let P : Bool → Type 0 = λ t. MatchBool t (last_failed (past ++ a ∷ []) ≡ Some (A.Failed at)) (Decides p.setup p.task p.key p.sizes p.file (past ++ a ∷ []) calls (A.Failed at)) in
+        let P : Bool → Type 0 = λ t. MatchBool t (last_failed (past ++ a ∷ []) ≡ Some (A.Failed at)) (Decides p.setup p.turn p.key p.sizes p.file (past ++ a ∷ []) calls (A.Failed at)) in
         subst P (sym e) (failed_last past a (A.Failed at) (rw v refl))
 
 -- ---- what the code promises
 
 asked_over : (p : Place) (past : List Asking) (done : List (List Part)) (tried : List ℕ) (request : Option HostMessage) (v : Verdict) (calls : List Call) (text : List ℕ) → Between p past done tried (0 ∷ []) calls → length past + 1 < 2 ^ 64
-    → AsksFor (fetch_request p.setup p.task) (length past + 1) p.key (record { request = request; name = None; verdict = v }) → is_verdict_of (Transfer false text (fetch_at p (length past + 1))) v ≡ true → is_done_at v ≡ false
+    → AsksFor (fetch_request p.setup p.turn) (length past + 1) p.key (record { request = request; name = None; verdict = v }) → is_verdict_of (Transfer false text (fetch_at p (length past + 1))) v ≡ true → is_done_at v ≡ false
     → Ended p (past ++ record { request = request; name = None; verdict = v } ∷ []) (calls ++ []) (unwrap_or (undone_answer v) A.Memory)
 asked_over p past done tried request (V.Done at) calls text b few asks k d = apart (sym d)
 asked_over p past done tried request (V.Absent at) calls text b few asks k d = apart k
@@ -448,13 +449,13 @@ asked_over p past done tried request (V.Unsupported at) calls text b few asks k 
 asked_over p past done tried request (V.Ended why) calls text b few asks k d = asked_end (record { place = p; past = past; done = done; tried = tried; chunk = 0; rest = [] }) [] [] [] (whole_part p.key) _ (length past + 1) calls (A.Ended why) (plain_within p past done tried calls b) (omega arith) few asks refl refl
 asked_over p past done tried request V.Unsent calls text b few asks k d = asked_end (record { place = p; past = past; done = done; tried = tried; chunk = 0; rest = [] }) [] [] [] (whole_part p.key) _ (length past + 1) calls A.Unsent (plain_within p past done tried calls b) (omega arith) few asks refl refl
 
-pub whole_nothing : (setup : Setup) (t : ℕ) (key : Parts) (file : List ℕ) (first : ℕ) (pairs : List Asking) (log : Option Log) (e : NoMemory) → WholeRan setup t key file first pairs pairs log log (Err e)
+pub whole_nothing : (setup : Setup) (t : TaskTurn) (key : Parts) (file : List ℕ) (first : ℕ) (pairs : List Asking) (log : Option Log) (e : NoMemory) → WholeRan setup t key file first pairs pairs log log (Err e)
 whole_nothing setup t key file first pairs log e = record {
   grown = record { asked = []; made = []; pairs_are = sym (append-nil pairs); log_is = gained_nothing log };
   goes = λ sizes past done tried calls n b. unasked_end (record { place = place_at setup t key file sizes; past = past; done = done; tried = tried; chunk = 0; rest = [] }) [] [] (whole_part key ∷ []) calls (plain_within (place_at setup t key file sizes) past done tried calls b);
 }
 
-whole_undone : (setup : Setup) (t : ℕ) (key : Parts) (file : List ℕ) (first : ℕ) (pairs later : List Asking) (log : Option Log) (text : List ℕ) (v : Verdict) → first + 1 < 2 ^ 64 → key_reading text ≡ Some key
+whole_undone : (setup : Setup) (t : TaskTurn) (key : Parts) (file : List ℕ) (first : ℕ) (pairs later : List Asking) (log : Option Log) (text : List ℕ) (v : Verdict) → first + 1 < 2 ^ 64 → key_reading text ≡ Some key
     → AsksOne pairs later None (Transfer false text (fetch_file setup t (first + 1))) v → is_verdict_of (Transfer false text (fetch_file setup t (first + 1))) v ≡ true → is_done_at v ≡ false
     → WholeRan setup t key file first pairs later log log (Ok (unwrap_or (undone_answer v) A.Memory))
 whole_undone setup t key file first pairs later log text v few r a k d = record {
@@ -468,7 +469,7 @@ whole_undone setup t key file first pairs later log text v few r a k d = record 
       asked_over p past done tried a.request v calls text b (omega (arith, n, few)) (subst N e (asks_for_part setup t (first + 1) text key a.request v r a.kept)) (subst K e k) d;
 }
 
-pub whole_fetched : (setup : Setup) (t : ℕ) (key : Parts) (file part fetch : List ℕ) (first : ℕ) (pairs later : List Asking) (old new : Option Log) (text : List ℕ) (v : Verdict) (result : Result Answer NoMemory) → first + 1 < 2 ^ 64 → key_reading text ≡ Some key
+pub whole_fetched : (setup : Setup) (t : TaskTurn) (key : Parts) (file part fetch : List ℕ) (first : ℕ) (pairs later : List Asking) (old new : Option Log) (text : List ℕ) (v : Verdict) (result : Result Answer NoMemory) → first + 1 < 2 ^ 64 → key_reading text ≡ Some key
     → AsksOne pairs later None (Transfer false text (fetch_file setup t (first + 1))) v → is_done_at v ≡ true → part ≡ part_of file → fetch ≡ fetch_file setup t (first + 1)
     → Fetches (record { file = file; part = part; fetch = fetch }) key old new result → WholeRan setup t key file first pairs later old new result
 whole_fetched setup t key file part fetch first pairs later old new text v result few r a d p q f = record {
@@ -492,7 +493,7 @@ whole_fetched setup t key file part fetch first pairs later old new text v resul
 }
 
 -- whatever the request came to
-pub whole_taken : (setup : Setup) (t : ℕ) (key : Parts) (file part fetch : List ℕ) (first : ℕ) (pairs later : List Asking) (old new : Option Log) (text : List ℕ) (v : Verdict) (result : Result Answer NoMemory) → first + 1 < 2 ^ 64 → key_reading text ≡ Some key
+pub whole_taken : (setup : Setup) (t : TaskTurn) (key : Parts) (file part fetch : List ℕ) (first : ℕ) (pairs later : List Asking) (old new : Option Log) (text : List ℕ) (v : Verdict) (result : Result Answer NoMemory) → first + 1 < 2 ^ 64 → key_reading text ≡ Some key
     → AsksOne pairs later None (Transfer false text (fetch_file setup t (first + 1))) v → is_verdict_of (Transfer false text (fetch_file setup t (first + 1))) v ≡ true → part ≡ part_of file → fetch ≡ fetch_file setup t (first + 1)
     → TakesWhole (record { file = file; part = part; fetch = fetch }) key v old new result → WholeRan setup t key file first pairs later old new result
 whole_taken setup t key file part fetch first pairs later old new text v result few r a k p q h = by_test (is_done_at v) refl h

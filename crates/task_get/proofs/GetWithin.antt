@@ -59,41 +59,41 @@ pub record Segment (p : Place) (n : ℕ) (front seg : List Call) : Type 0 where
   pub found : are_found (part_of p.file) front seg ≡ true
   pub others : (m : ℕ) → m < 2 ^ 64 → (m ≡ n → ⊥) → list_all (is_apart (fetch_at p m)) seg ≡ true
 
-more_names : (p : Place) (asked : List Asking) (x : Asking) → Sub (fetch_files p.setup p.task (length asked)) (fetch_files p.setup p.task (length (asked ++ x ∷ [])))
+more_names : (p : Place) (asked : List Asking) (x : Asking) → Sub (fetch_files p.setup p.turn (length asked)) (fetch_files p.setup p.turn (length (asked ++ x ∷ [])))
 more_names p asked x =
     let e : length (asked ++ x ∷ []) ≡ length asked + 1 = length-append asked (x ∷ []) in
-    let P : List (List ℕ) → Type 0 = λ l. Sub (fetch_files p.setup p.task (length asked)) l in
-    subst P (sym (ap (fetch_files p.setup p.task) e ∙ fetch_files_more p.setup p.task (length asked))) (sub_front (fetch_files p.setup p.task (length asked)) (fetch_at p (length asked + 1) ∷ []))
+    let P : List (List ℕ) → Type 0 = λ l. Sub (fetch_files p.setup p.turn (length asked)) l in
+    subst P (sym (ap (fetch_files p.setup p.turn) e ∙ fetch_files_more p.setup p.turn (length asked))) (sub_front (fetch_files p.setup p.turn (length asked)) (fetch_at p (length asked + 1) ∷ []))
 
 sub_two : (a b : List ℕ) (xs ys : List (List ℕ)) → Sub xs ys → Sub (a ∷ b ∷ xs) (a ∷ b ∷ ys)
 sub_two a b xs ys s = sub_cons a (b ∷ xs) (b ∷ ys) (sub_cons b xs ys s)
 
-own_name : (p : Place) (asked : List Asking) (x : Asking) → Sub (fetch_at p (length asked + 1) ∷ []) (fetch_files p.setup p.task (length (asked ++ x ∷ [])))
+own_name : (p : Place) (asked : List Asking) (x : Asking) → Sub (fetch_at p (length asked + 1) ∷ []) (fetch_files p.setup p.turn (length (asked ++ x ∷ [])))
 own_name p asked x =
     let e : length (asked ++ x ∷ []) ≡ length asked + 1 = length-append asked (x ∷ []) in
     let P : List (List ℕ) → Type 0 = λ l. Sub (fetch_at p (length asked + 1) ∷ []) l in
-    subst P (sym (ap (fetch_files p.setup p.task) e ∙ fetch_files_more p.setup p.task (length asked))) (sub_behind (fetch_files p.setup p.task (length asked)) (fetch_at p (length asked + 1) ∷ []))
+    subst P (sym (ap (fetch_files p.setup p.turn) e ∙ fetch_files_more p.setup p.turn (length asked))) (sub_behind (fetch_files p.setup p.turn (length asked)) (fetch_at p (length asked + 1) ∷ []))
 
-more_fetched : (p : Place) (asked : List Asking) (x : Asking) → Sub (fetched_files p.setup p.task 1 asked) (fetched_files p.setup p.task 1 (asked ++ x ∷ []))
+more_fetched : (p : Place) (asked : List Asking) (x : Asking) → Sub (fetched_files p.setup p.turn 1 asked) (fetched_files p.setup p.turn 1 (asked ++ x ∷ []))
 more_fetched p asked x =
-    let P : List (List ℕ) → Type 0 = λ l. Sub (fetched_files p.setup p.task 1 asked) l in
-    subst P (sym (fetched_files_more p.setup p.task 1 asked x)) (sub_front (fetched_files p.setup p.task 1 asked) (fetched_files p.setup p.task (1 + length asked) (x ∷ [])))
+    let P : List (List ℕ) → Type 0 = λ l. Sub (fetched_files p.setup p.turn 1 asked) l in
+    subst P (sym (fetched_files_more p.setup p.turn 1 asked x)) (sub_front (fetched_files p.setup p.turn 1 asked) (fetched_files p.setup p.turn (1 + length asked) (x ∷ [])))
 
-own_fetched : (p : Place) (asked : List Asking) (x : Asking) → is_done x ≡ true → Sub (fetch_at p (length asked + 1) ∷ []) (fetched_files p.setup p.task 1 (asked ++ x ∷ []))
+own_fetched : (p : Place) (asked : List Asking) (x : Asking) → is_done x ≡ true → Sub (fetch_at p (length asked + 1) ∷ []) (fetched_files p.setup p.turn 1 (asked ++ x ∷ []))
 own_fetched p asked x d =
     let n : 1 + length asked ≡ length asked + 1 = omega arith in
-    let e : fetched_files p.setup p.task (1 + length asked) (x ∷ []) ≡ fetch_at p (length asked + 1) ∷ [] = ap (λ k. fetched_files p.setup p.task k (x ∷ [])) n ∙ rw d refl in
+    let e : fetched_files p.setup p.turn (1 + length asked) (x ∷ []) ≡ fetch_at p (length asked + 1) ∷ [] = ap (λ k. fetched_files p.setup p.turn k (x ∷ [])) n ∙ rw d refl in
     let P : List (List ℕ) → Type 0 = λ l. Sub (fetch_at p (length asked + 1) ∷ []) l in
-    subst P (sym (fetched_files_more p.setup p.task 1 asked x ∙ ap (λ l. fetched_files p.setup p.task 1 asked ++ l) e))
-    (sub_behind (fetched_files p.setup p.task 1 asked) (fetch_at p (length asked + 1) ∷ []))
+    subst P (sym (fetched_files_more p.setup p.turn 1 asked x ∙ ap (λ l. fetched_files p.setup p.turn 1 asked ++ l) e))
+    (sub_behind (fetched_files p.setup p.turn 1 asked) (fetch_at p (length asked + 1) ∷ []))
 
 pub sound_asked : (p : Place) (asked : List Asking) (x : Asking) (calls : List Call) → Sound p asked calls → length asked + 1 < 2 ^ 64 → Sound p (asked ++ x ∷ []) calls
 sound_asked p asked x calls s few = record {
-  names = names_sub (p.file ∷ part_of p.file ∷ fetch_files p.setup p.task (length asked)) (p.file ∷ part_of p.file ∷ fetch_files p.setup p.task (length (asked ++ x ∷ []))) calls
-      (sub_two p.file (part_of p.file) (fetch_files p.setup p.task (length asked)) (fetch_files p.setup p.task (length (asked ++ x ∷ []))) (more_names p asked x)) s.names;
-  changes = changes_sub p.file (fetch_files p.setup p.task (length asked)) (fetch_files p.setup p.task (length (asked ++ x ∷ []))) calls (more_names p asked x) s.changes;
-  lengths = sizes_sub (part_of p.file ∷ fetched_files p.setup p.task 1 asked) (part_of p.file ∷ fetched_files p.setup p.task 1 (asked ++ x ∷ [])) calls
-      (sub_cons (part_of p.file) (fetched_files p.setup p.task 1 asked) (fetched_files p.setup p.task 1 (asked ++ x ∷ [])) (more_fetched p asked x)) s.lengths;
+  names = names_sub (p.file ∷ part_of p.file ∷ fetch_files p.setup p.turn (length asked)) (p.file ∷ part_of p.file ∷ fetch_files p.setup p.turn (length (asked ++ x ∷ []))) calls
+      (sub_two p.file (part_of p.file) (fetch_files p.setup p.turn (length asked)) (fetch_files p.setup p.turn (length (asked ++ x ∷ []))) (more_names p asked x)) s.names;
+  changes = changes_sub p.file (fetch_files p.setup p.turn (length asked)) (fetch_files p.setup p.turn (length (asked ++ x ∷ []))) calls (more_names p asked x) s.changes;
+  lengths = sizes_sub (part_of p.file ∷ fetched_files p.setup p.turn 1 asked) (part_of p.file ∷ fetched_files p.setup p.turn 1 (asked ++ x ∷ [])) calls
+      (sub_cons (part_of p.file) (fetched_files p.setup p.turn 1 asked) (fetched_files p.setup p.turn 1 (asked ++ x ∷ [])) (more_fetched p asked x)) s.lengths;
   found = s.found;
   held = s.held;
   told = s.told;
@@ -104,11 +104,11 @@ sound_asked p asked x calls s few = record {
 pub sound_fetch : (p : Place) (asked : List Asking) (x : Asking) (n : ℕ) (calls seg : List Call) → Sound p asked calls → n ≡ length asked + 1 → n < 2 ^ 64 → is_done x ≡ true
     → Segment p n calls seg → Sound p (asked ++ x ∷ []) (calls ++ seg)
 sound_fetch p asked x n calls seg s is few d g = record {
-  names = list_all-append _ calls seg before.names (names_sub (p.file ∷ part_of p.file ∷ fetch_at p n ∷ []) (p.file ∷ part_of p.file ∷ fetch_files p.setup p.task (length (asked ++ x ∷ []))) seg
-      (sub_two p.file (part_of p.file) (fetch_at p n ∷ []) (fetch_files p.setup p.task (length (asked ++ x ∷ []))) own) g.fair.names);
-  changes = list_all-append _ calls seg before.changes (changes_sub p.file (fetch_at p n ∷ []) (fetch_files p.setup p.task (length (asked ++ x ∷ []))) seg own g.fair.changes);
-  lengths = list_all-append _ calls seg before.lengths (sizes_sub (part_of p.file ∷ fetch_at p n ∷ []) (part_of p.file ∷ fetched_files p.setup p.task 1 (asked ++ x ∷ [])) seg
-      (sub_cons (part_of p.file) (fetch_at p n ∷ []) (fetched_files p.setup p.task 1 (asked ++ x ∷ [])) owned) g.fair.lengths);
+  names = list_all-append _ calls seg before.names (names_sub (p.file ∷ part_of p.file ∷ fetch_at p n ∷ []) (p.file ∷ part_of p.file ∷ fetch_files p.setup p.turn (length (asked ++ x ∷ []))) seg
+      (sub_two p.file (part_of p.file) (fetch_at p n ∷ []) (fetch_files p.setup p.turn (length (asked ++ x ∷ []))) own) g.fair.names);
+  changes = list_all-append _ calls seg before.changes (changes_sub p.file (fetch_at p n ∷ []) (fetch_files p.setup p.turn (length (asked ++ x ∷ []))) seg own g.fair.changes);
+  lengths = list_all-append _ calls seg before.lengths (sizes_sub (part_of p.file ∷ fetch_at p n ∷ []) (part_of p.file ∷ fetched_files p.setup p.turn 1 (asked ++ x ∷ [])) seg
+      (sub_cons (part_of p.file) (fetch_at p n ∷ []) (fetched_files p.setup p.turn 1 (asked ++ x ∷ [])) owned) g.fair.lengths);
   found = found_more (part_of p.file) [] calls seg s.found g.found;
   held = held_run p.file calls seg g.fair.no_read s.held;
   told = λ before. ap is_some (holds_more (part_of p.file) (Some before) calls seg) ∙ told (part_of p.file) (holds (part_of p.file) (Some before) calls) seg g.fair.lasting (s.told before);
@@ -119,34 +119,34 @@ sound_fetch p asked x n calls seg s is few d g = record {
     before : Sound p (asked ++ x ∷ []) calls
     before = sound_asked p asked x calls s (omega (arith, is, few))
 
-    own : Sub (fetch_at p n ∷ []) (fetch_files p.setup p.task (length (asked ++ x ∷ [])))
-    own = let P : ℕ → Type 0 = λ k. Sub (fetch_at p k ∷ []) (fetch_files p.setup p.task (length (asked ++ x ∷ []))) in subst P (sym is) (own_name p asked x)
+    own : Sub (fetch_at p n ∷ []) (fetch_files p.setup p.turn (length (asked ++ x ∷ [])))
+    own = let P : ℕ → Type 0 = λ k. Sub (fetch_at p k ∷ []) (fetch_files p.setup p.turn (length (asked ++ x ∷ []))) in subst P (sym is) (own_name p asked x)
 
-    owned : Sub (fetch_at p n ∷ []) (fetched_files p.setup p.task 1 (asked ++ x ∷ []))
-    owned = let P : ℕ → Type 0 = λ k. Sub (fetch_at p k ∷ []) (fetched_files p.setup p.task 1 (asked ++ x ∷ [])) in subst P (sym is) (own_fetched p asked x d)
+    owned : Sub (fetch_at p n ∷ []) (fetched_files p.setup p.turn 1 (asked ++ x ∷ []))
+    owned = let P : ℕ → Type 0 = λ k. Sub (fetch_at p k ∷ []) (fetched_files p.setup p.turn 1 (asked ++ x ∷ [])) in subst P (sym is) (own_fetched p asked x d)
 
 -- ---- a part more is asked for
 
 pub within_asks : (u : Turn) (cur : List Asking) (got left : List Part) (part : Part) (x : Asking) (n : ℕ) (calls seg : List Call) → Within u cur got (part ∷ left) calls → n ≡ first_in u + length cur
-    → AsksFor (fetch_request u.place.setup u.place.task) n part.key x → not (is_failed x) ≡ true
-    → filter_map (length_or_none (part_of u.place.file)) seg ≡ [] → reads_of (part_of u.place.file) seg ≡ [] → Apart u.place.setup u.place.task (first_in u) (length cur) seg
+    → AsksFor (fetch_request u.place.setup u.place.turn) n part.key x → not (is_failed x) ≡ true
+    → filter_map (length_or_none (part_of u.place.file)) seg ≡ [] → reads_of (part_of u.place.file) seg ≡ [] → Apart u.place.setup u.place.turn (first_in u) (length cur) seg
     → is_run 0 (reads_of (fetch_at u.place n) (calls ++ seg)) ≡ true
-    → GetAsks u.place.setup u.place.task u.place.key u.place.sizes u.place.file (u.past ++ (cur ++ x ∷ [])) (calls ++ seg)
+    → GetAsks u.place.setup u.place.turn u.place.key u.place.sizes u.place.file (u.past ++ (cur ++ x ∷ [])) (calls ++ seg)
 within_asks u cur got left part x n calls seg w is a ok no_length no_read others run =
     asks_of u.place u.past (cur ++ x ∷ []) u.done ((got ++ part ∷ left) ∷ wanted u.place.key u.rest []) u.tried (u.chunk ∷ u.rest) (calls ++ seg) w.tries
     (list_all-append (λ b. not (is_failed b)) cur (x ∷ []) (none_failed cur w.all_done) (rw ok refl))
     (rw all_but (all_calm u.past cur w.tries.calm w.all_done))
     (ap (wanted u.place.key u.place.sizes) lengths ∙ ap (wanted u.place.key u.place.sizes) (sym (append-nil (lengths_at_begin u.place.file calls))) ∙ w.wants [])
-    (asks_last (fetch_request u.place.setup u.place.task) (first_in u) (keys_in (got ++ part ∷ left)) (map keys_in (wanted u.place.key u.rest [])) cur x w.all_done order)
+    (asks_last (fetch_request u.place.setup u.place.turn) (first_in u) (keys_in (got ++ part ∷ left)) (map keys_in (wanted u.place.key u.rest [])) cur x w.all_done order)
     (omega (arith, few, w.begun)) (omega (arith, few, w.begun_chunked))
-    (ap (λ (k : ℕ). wrong_lengths u.place.setup u.place.task u.place.key.size (calls ++ seg) (first_in u) (take k (got ++ part ∷ left))) count
-    ∙ ap (λ (l : List Part). wrong_lengths u.place.setup u.place.task u.place.key.size (calls ++ seg) (first_in u) l) (take-append_seam got (part ∷ left))
-    ∙ same_wrong u.place.setup u.place.task u.place.key.size (first_in u) got calls seg (λ i low high. others i low (omega (arith, high, w.aligned)))
+    (ap (λ (k : ℕ). wrong_lengths u.place.setup u.place.turn u.place.key.size (calls ++ seg) (first_in u) (take k (got ++ part ∷ left))) count
+    ∙ ap (λ (l : List Part). wrong_lengths u.place.setup u.place.turn u.place.key.size (calls ++ seg) (first_in u) l) (take-append_seam got (part ∷ left))
+    ∙ same_wrong u.place.setup u.place.turn u.place.key.size (first_in u) got calls seg (λ i low high. others i low (omega (arith, high, w.aligned)))
     ∙ w.right)
     (held_run u.place.file calls seg no_read w.sound.held)
-    (read_more u.place.setup u.place.task (first_in u) (calls ++ seg) cur (x ∷ [])
-    ∙ ap (λ b. b && are_read u.place.setup u.place.task (calls ++ seg) (first_in u + length cur) (x ∷ [])) (same_read u.place.setup u.place.task (first_in u) cur calls seg others ∙ w.read)
-    ∙ ap (λ k. are_read u.place.setup u.place.task (calls ++ seg) k (x ∷ [])) (sym is) ∙ rw run refl)
+    (read_more u.place.setup u.place.turn (first_in u) (calls ++ seg) cur (x ∷ [])
+    ∙ ap (λ b. b && are_read u.place.setup u.place.turn (calls ++ seg) (first_in u + length cur) (x ∷ [])) (same_read u.place.setup u.place.turn (first_in u) cur calls seg others ∙ w.read)
+    ∙ ap (λ k. are_read u.place.setup u.place.turn (calls ++ seg) k (x ∷ [])) (sym is) ∙ rw run refl)
   where
     all_but : all_but_last (u.past ++ (cur ++ x ∷ [])) ≡ u.past ++ cur
     all_but = ap all_but_last (sym (append_assoc u.past cur (x ∷ []))) ∙ but_last (u.past ++ cur) x
@@ -160,18 +160,18 @@ within_asks u cur got left part x n calls seg w is a ok no_length no_read others
     count : length (cur ++ x ∷ []) - 1 ≡ length got
     count = let l : length (cur ++ x ∷ []) ≡ length cur + 1 = length-append cur (x ∷ []) in omega (arith, l, w.aligned)
 
-    order : AskInOrder (fetch_request u.place.setup u.place.task) (first_in u) (keys_in (got ++ part ∷ left)) (cur ++ x ∷ [])
+    order : AskInOrder (fetch_request u.place.setup u.place.turn) (first_in u) (keys_in (got ++ part ∷ left)) (cur ++ x ∷ [])
     order =
-        let P : List Parts → Type 0 = λ ks. AskInOrder (fetch_request u.place.setup u.place.task) (first_in u) ks (cur ++ x ∷ []) in
-        let Q : ℕ → Type 0 = λ k. AsksFor (fetch_request u.place.setup u.place.task) k part.key x in
+        let P : List Parts → Type 0 = λ ks. AskInOrder (fetch_request u.place.setup u.place.turn) (first_in u) ks (cur ++ x ∷ []) in
+        let Q : ℕ → Type 0 = λ k. AsksFor (fetch_request u.place.setup u.place.turn) k part.key x in
         subst P (sym (map-append (λ (q : Part). q.key) got (part ∷ left))) (w.in_order (keys_in (part ∷ left)) (x ∷ []) (subst Q is a, tt))
 
 pub within_order : (u : Turn) (cur : List Asking) (got left : List Part) (calls : List Call) → Within u cur got left calls
-    → RoundsAsk (fetch_request u.place.setup u.place.task) (first_in u) (map keys_in ((got ++ left) ∷ wanted u.place.key u.rest [])) (rounds cur)
+    → RoundsAsk (fetch_request u.place.setup u.place.turn) (first_in u) (map keys_in ((got ++ left) ∷ wanted u.place.key u.rest [])) (rounds cur)
 within_order u cur got left calls w =
-    let P : List Parts → Type 0 = λ ks. AskInOrder (fetch_request u.place.setup u.place.task) (first_in u) ks cur in
-    let Q : List Asking → Type 0 = λ l. AskInOrder (fetch_request u.place.setup u.place.task) (first_in u) (keys_in got ++ keys_in left) l in
-    asks_done (fetch_request u.place.setup u.place.task) (first_in u) (keys_in (got ++ left)) (map keys_in (wanted u.place.key u.rest [])) cur w.all_done
+    let P : List Parts → Type 0 = λ ks. AskInOrder (fetch_request u.place.setup u.place.turn) (first_in u) ks cur in
+    let Q : List Asking → Type 0 = λ l. AskInOrder (fetch_request u.place.setup u.place.turn) (first_in u) (keys_in got ++ keys_in left) l in
+    asks_done (fetch_request u.place.setup u.place.turn) (first_in u) (keys_in (got ++ left)) (map keys_in (wanted u.place.key u.rest [])) cur w.all_done
     (subst P (sym (map-append (λ (q : Part). q.key) got left)) (subst Q (append-nil cur) (w.in_order (keys_in left) [] tt)))
 
 -- nothing more is asked for
@@ -184,8 +184,8 @@ within_fore u cur got left calls w = record {
       (ap (wanted u.place.key u.place.sizes) (sym (append-nil (lengths_at_begin u.place.file calls))) ∙ w.wants [])
       (within_order u cur got left calls w)
       w.begun w.begun_chunked
-      (ap (λ (l : List Part). wrong_lengths u.place.setup u.place.task u.place.key.size calls (first_in u) l) (take-append-le (length cur - 1) got left (omega (arith, w.aligned)))
-      ∙ wrong_taken u.place.setup u.place.task u.place.key.size calls (first_in u) (length cur - 1) got w.right)
+      (ap (λ (l : List Part). wrong_lengths u.place.setup u.place.turn u.place.key.size calls (first_in u) l) (take-append-le (length cur - 1) got left (omega (arith, w.aligned)))
+      ∙ wrong_taken u.place.setup u.place.turn u.place.key.size calls (first_in u) (length cur - 1) got w.right)
       w.sound.held
       w.read;
   sound = w.sound;
@@ -202,13 +202,13 @@ pub record Fetching (u : Turn) (cur : List Asking) (got left : List Part) (part 
   pub within : Within u cur got (part ∷ left) calls
   pub number : n ≡ first_in u + length cur
   pub few : n < 2 ^ 64
-  pub asks : AsksFor (fetch_request u.place.setup u.place.task) n part.key x
+  pub asks : AsksFor (fetch_request u.place.setup u.place.turn) n part.key x
   pub is_done_now : is_done x ≡ true
 
 own_number : (u : Turn) (cur : List Asking) (n : ℕ) → n ≡ first_in u + length cur → n ≡ length (u.past ++ cur) + 1
 own_number u cur n e = let l : length (u.past ++ cur) ≡ length u.past + length cur = length-append u.past cur in omega (arith, e, l)
 
-earlier_apart : (u : Turn) (cur : List Asking) (n : ℕ) (front seg : List Call) → n ≡ first_in u + length cur → n < 2 ^ 64 → Segment u.place n front seg → Apart u.place.setup u.place.task (first_in u) (length cur) seg
+earlier_apart : (u : Turn) (cur : List Asking) (n : ℕ) (front seg : List Call) → n ≡ first_in u + length cur → n < 2 ^ 64 → Segment u.place n front seg → Apart u.place.setup u.place.turn (first_in u) (length cur) seg
 earlier_apart u cur n front seg e few g = λ i low high. g.others i (omega (arith, e, few, high)) (λ same. omega (arith, e, high, same))
 
 pub own_apart : (u : Turn) (cur : List Asking) (got left : List Part) (part : Part) (x : Asking) (n : ℕ) (calls : List Call) → Fetching u cur got left part x n calls → list_all (is_apart (fetch_at u.place n)) calls ≡ true
@@ -250,26 +250,26 @@ within_next u cur got left part x n calls seg f g run free right = record {
   begun = omega (arith, few, f.within.begun);
   begun_chunked = omega (arith, few, f.within.begun_chunked);
   right =
-      wrong_more u.place.setup u.place.task u.place.key.size (calls ++ seg) (first_in u) got (part ∷ [])
-      ∙ ap (λ l. l ++ wrong_lengths u.place.setup u.place.task u.place.key.size (calls ++ seg) (first_in u + length got) (part ∷ [])) (same_wrong u.place.setup u.place.task u.place.key.size (first_in u) got calls seg
+      wrong_more u.place.setup u.place.turn u.place.key.size (calls ++ seg) (first_in u) got (part ∷ [])
+      ∙ ap (λ l. l ++ wrong_lengths u.place.setup u.place.turn u.place.key.size (calls ++ seg) (first_in u + length got) (part ∷ [])) (same_wrong u.place.setup u.place.turn u.place.key.size (first_in u) got calls seg
       (λ i low high. others i low (omega (arith, high, f.within.aligned))) ∙ f.within.right)
-      ∙ ap (λ k. wrong_lengths u.place.setup u.place.task u.place.key.size (calls ++ seg) k (part ∷ [])) number
+      ∙ ap (λ k. wrong_lengths u.place.setup u.place.turn u.place.key.size (calls ++ seg) k (part ∷ [])) number
       ∙ append-nil (filter (is_wrong u.place.key.size part) (lengths_found (fetch_at u.place n) (calls ++ seg)))
       ∙ ap (filter (is_wrong u.place.key.size part)) (lengths_behind (fetch_at u.place n) calls seg (own_apart u cur got left part x n calls f))
       ∙ right;
   read =
-      read_more u.place.setup u.place.task (first_in u) (calls ++ seg) cur (x ∷ [])
-      ∙ ap (λ b. b && are_read u.place.setup u.place.task (calls ++ seg) (first_in u + length cur) (x ∷ [])) (same_read u.place.setup u.place.task (first_in u) cur calls seg others ∙ f.within.read)
-      ∙ ap (λ k. are_read u.place.setup u.place.task (calls ++ seg) k (x ∷ [])) (sym f.number)
+      read_more u.place.setup u.place.turn (first_in u) (calls ++ seg) cur (x ∷ [])
+      ∙ ap (λ b. b && are_read u.place.setup u.place.turn (calls ++ seg) (first_in u + length cur) (x ∷ [])) (same_read u.place.setup u.place.turn (first_in u) cur calls seg others ∙ f.within.read)
+      ∙ ap (λ k. are_read u.place.setup u.place.turn (calls ++ seg) k (x ∷ [])) (sym f.number)
       ∙ ap (λ r. is_run 0 r && true) (reads_behind (fetch_at u.place n) calls seg (own_apart u cur got left part x n calls f)) ∙ rw run refl;
   sound = (fetch_fore u cur got left part x n calls seg f g run).sound;
   free = list_all-append (λ call. is_none (call_stop (part_of u.place.file) call)) calls seg f.within.free free;
 }
   where
     ask : ℕ → List ℕ → HostMessage
-    ask = fetch_request u.place.setup u.place.task
+    ask = fetch_request u.place.setup u.place.turn
 
-    others : Apart u.place.setup u.place.task (first_in u) (length cur) seg
+    others : Apart u.place.setup u.place.turn (first_in u) (length cur) seg
     others = earlier_apart u cur n calls seg f.number f.few g
 
     lengths : lengths_at_begin u.place.file (calls ++ seg) ≡ lengths_at_begin u.place.file calls
@@ -293,9 +293,9 @@ kept_next u cur got left part x n calls seg held bytes more f k g no_begin grown
   held_are = held_more u.place.file calls seg no_begin ∙ rw g.fair.no_read (append-nil (held_reads u.place.file calls)) ∙ k.held_are;
   held_whole = rw (append_assoc got (part ∷ []) left) k.held_whole;
   bytes_are =
-      bytes_more u.place.setup u.place.task (first_in u) (calls ++ seg) cur (x ∷ [])
-      ∙ ap (λ l. l ++ bytes_fetched u.place.setup u.place.task (calls ++ seg) (first_in u + length cur) (x ∷ [])) (same_bytes u.place.setup u.place.task (first_in u) cur calls seg others ∙ k.bytes_are)
-      ∙ ap (λ m. bytes ++ bytes_fetched u.place.setup u.place.task (calls ++ seg) m (x ∷ [])) (sym f.number)
+      bytes_more u.place.setup u.place.turn (first_in u) (calls ++ seg) cur (x ∷ [])
+      ∙ ap (λ l. l ++ bytes_fetched u.place.setup u.place.turn (calls ++ seg) (first_in u + length cur) (x ∷ [])) (same_bytes u.place.setup u.place.turn (first_in u) cur calls seg others ∙ k.bytes_are)
+      ∙ ap (λ m. bytes ++ bytes_fetched u.place.setup u.place.turn (calls ++ seg) m (x ∷ [])) (sym f.number)
       ∙ ap (λ r. bytes ++ (bytes_of r ++ [])) (reads_behind (fetch_at u.place n) calls seg own)
       ∙ ap (λ l. bytes ++ l) (append-nil (bytes_of (reads_of (fetch_at u.place n) seg)) ∙ bs);
   moved = appended_more u.place.file calls seg no_begin ∙ ap (λ l. l ++ appended (part_of u.place.file) seg) k.moved ∙ ap (λ l. bytes ++ l) moved;
@@ -305,15 +305,15 @@ kept_next u cur got left part x n calls seg held bytes more f k g no_begin grown
       ∙ holds_grown (part_of u.place.file) (bytes_of held ++ bytes) seg grown
       ∙ ap (λ l. Some ((bytes_of held ++ bytes) ++ l)) moved ∙ ap Some (append_assoc (bytes_of held) bytes more);
   whole =
-      whole_more u.place.setup u.place.task (first_in u) (calls ++ seg) cur (x ∷ [])
-      ∙ ap (λ b. b && are_read_whole u.place.setup u.place.task (calls ++ seg) (first_in u + length cur) (x ∷ [])) (same_whole u.place.setup u.place.task (first_in u) cur calls seg others ∙ k.whole)
-      ∙ ap (λ m. are_read_whole u.place.setup u.place.task (calls ++ seg) m (x ∷ [])) (sym f.number)
+      whole_more u.place.setup u.place.turn (first_in u) (calls ++ seg) cur (x ∷ [])
+      ∙ ap (λ b. b && are_read_whole u.place.setup u.place.turn (calls ++ seg) (first_in u + length cur) (x ∷ [])) (same_whole u.place.setup u.place.turn (first_in u) cur calls seg others ∙ k.whole)
+      ∙ ap (λ m. are_read_whole u.place.setup u.place.turn (calls ++ seg) m (x ∷ [])) (sym f.number)
       ∙ ap (λ r. is_read_whole r (lengths_found (fetch_at u.place n) (calls ++ seg)) && true) (reads_behind (fetch_at u.place n) calls seg own)
       ∙ ap (λ l. is_read_whole (reads_of (fetch_at u.place n) seg) l && true) (lengths_behind (fetch_at u.place n) calls seg own)
       ∙ rw whole refl;
 }
   where
-    others : Apart u.place.setup u.place.task (first_in u) (length cur) seg
+    others : Apart u.place.setup u.place.turn (first_in u) (length cur) seg
     others = earlier_apart u cur n calls seg f.number f.few g
 
     own : list_all (is_apart (fetch_at u.place n)) calls ≡ true

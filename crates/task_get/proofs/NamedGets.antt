@@ -16,6 +16,7 @@ use Rattle.task_text.specs.declared.task.Task.{Task}
 use Rattle.task_text.specs.declared.task.Work.TheVariants as W
 use Rattle.task_run.specs.Askers.{Asking, AsksOne}
 use Rattle.task_run.specs.declared.setup.Setup.{Setup}
+use Rattle.task_run.specs.declared.turn.TaskTurn.{TaskTurn}
 use Rattle.task_run.specs.Stops.{AnsweredBy, is_done_at}
 use Rattle.task_run.specs.Names.{part_of, fetch_file}
 use Rattle.task_run.specs.Reads.{is_removed}
@@ -33,12 +34,12 @@ use Rattle.task_get.proofs.GetRuns.{done}
 use Rattle.task_get.proofs.GetAlls.{between_first}
 use Rattle.task_get.proofs.GetWholes.{whole_fetched}
 
-abbrev GetRun : Setup → ℕ → Task → Parts → List (ℕ × ℕ) → List Asking → List Call → Answer → Type 0
+abbrev GetRun : Setup → TaskTurn → Task → Parts → List (ℕ × ℕ) → List Asking → List Call → Answer → Type 0
 GetRun setup t task key layouts asked calls answer = RunOf setup t (with_work W.XGet task) key layouts asked calls [] answer
 
 -- ---- nothing is called
 
-get_nothing : (setup : Setup) (t : ℕ) (task : Task) (key : Parts) (layouts : List (ℕ × ℕ)) → GetRun setup t task key layouts [] [] A.Memory
+get_nothing : (setup : Setup) (t : TaskTurn) (task : Task) (key : Parts) (layouts : List (ℕ × ℕ)) → GetRun setup t task key layouts [] [] A.Memory
 get_nothing setup t task key layouts = record {
   asked_till_stop = refl;
   calls_till_stop = refl;
@@ -47,7 +48,7 @@ get_nothing setup t task key layouts = record {
   answered = tt;
 }
 
-pub get_nothing_ran : (task : Task) (t : ℕ) (setup : Setup) (layouts : List (ℕ × ℕ)) (pairs : List Asking) (log : Option Log) (e : NoMemory) → task.work ≡ W.XGet → RanGet task t setup layouts pairs pairs log log (Err e)
+pub get_nothing_ran : (task : Task) (t : TaskTurn) (setup : Setup) (layouts : List (ℕ × ℕ)) (pairs : List Asking) (log : Option Log) (e : NoMemory) → task.work ≡ W.XGet → RanGet task t setup layouts pairs pairs log log (Err e)
 get_nothing_ran task t setup layouts pairs log e w = record {
   asked = [];
   calls = [];
@@ -57,7 +58,7 @@ get_nothing_ran task t setup layouts pairs log e w = record {
 }
 
 -- the request isn't done
-get_undone : (setup : Setup) (t : ℕ) (task : Task) (key : Parts) (layouts : List (ℕ × ℕ)) (request : Option HostMessage) (v : Verdict) → AsksOfName (fetch_export setup t) (key ∷ []) task.name (named task.name request v ∷ [])
+get_undone : (setup : Setup) (t : TaskTurn) (task : Task) (key : Parts) (layouts : List (ℕ × ℕ)) (request : Option HostMessage) (v : Verdict) → AsksOfName (fetch_export setup t) (key ∷ []) task.name (named task.name request v ∷ [])
     → is_verdict_of (Transferexport false task.key (fetch_file setup t 1)) v ≡ true → is_done_at v ≡ false → GetRun setup t task key layouts (named task.name request v ∷ []) [] (unwrap_or (undone_answer v) A.Memory)
 get_undone setup t task key layouts request (V.Failed at) h k d = record {
   asked_till_stop = refl;
@@ -125,7 +126,7 @@ by_stops [] (A.Size n) Finished Finishes f h = f h
 by_stops [] (A.Hash digest) Finished Finishes f h = f h
 
 -- what is decided of the fetched file goes by the verdict of its request, and not by what was said before it
-module _ (setup : Setup) (t : ℕ) (key : Parts) (file name : List ℕ) (plain request : Option HostMessage) (at : ℕ) (calls : List Call) (answer : Answer) where
+module _ (setup : Setup) (t : TaskTurn) (key : Parts) (file name : List ℕ) (plain request : Option HostMessage) (at : ℕ) (calls : List Call) (answer : Answer) where
   is_checked : IsChecked setup t key (0 ∷ []) file (done plain at ∷ []) calls answer → IsChecked setup t key (0 ∷ []) file (named name request (V.Done at) ∷ []) calls answer
   is_checked h = record { said = h.said; held_whole = h.held_whole; fetched_whole = h.fetched_whole }
 
@@ -138,7 +139,7 @@ module _ (setup : Setup) (t : ℕ) (key : Parts) (file name : List ℕ) (plain r
   answers : GetAnswers setup t key (0 ∷ []) file (done plain at ∷ []) calls answer → GetAnswers setup t key (0 ∷ []) file (named name request (V.Done at) ∷ []) calls answer
   answers h = record { answered = decides h.answered }
 
-get_done : (setup : Setup) (t : ℕ) (task : Task) (key : Parts) (layouts : List (ℕ × ℕ)) (plain request : Option HostMessage) (at : ℕ) (calls : List Call) (answer : Answer)
+get_done : (setup : Setup) (t : TaskTurn) (task : Task) (key : Parts) (layouts : List (ℕ × ℕ)) (plain request : Option HostMessage) (at : ℕ) (calls : List Call) (answer : Answer)
     → AsksOfName (fetch_export setup t) (key ∷ []) task.name (named task.name request (V.Done at) ∷ []) → Ended (place_at setup t key task.file (0 ∷ [])) (done plain at ∷ []) calls answer
     → GetRun setup t task key layouts (named task.name request (V.Done at) ∷ []) calls answer
 get_done setup t task key layouts plain request at calls answer h e = record {
@@ -154,7 +155,7 @@ get_done setup t task key layouts plain request at calls answer h e = record {
 read_once : (text : List ℕ) (p q : Parts) → key_reading text ≡ Some p → key_reading text ≡ Some q → p ≡ q
 read_once text p q e f = cc
 
-fetched_ran : (task : Task) (t : ℕ) (setup : Setup) (layouts : List (ℕ × ℕ)) (key : Parts) (part fetch : List ℕ) (pairs later : List Asking) (old new : Option Log) (at : ℕ) (result : Result Answer NoMemory) → task.work ≡ W.XGet
+fetched_ran : (task : Task) (t : TaskTurn) (setup : Setup) (layouts : List (ℕ × ℕ)) (key : Parts) (part fetch : List ℕ) (pairs later : List Asking) (old new : Option Log) (at : ℕ) (result : Result Answer NoMemory) → task.work ≡ W.XGet
     → key_reading task.key ≡ Some key → AsksOne pairs later (Some task.name) (Transferexport false task.key (fetch_file setup t 1)) (V.Done at) → part ≡ part_of task.file → fetch ≡ fetch_file setup t 1
     → Fetches (record { file = task.file; part = part; fetch = fetch }) key old new result → RanGet task t setup layouts pairs later old new result
 fetched_ran task t setup layouts key part fetch pairs later old new at result w r a p q f = record {
@@ -183,7 +184,7 @@ fetched_ran task t setup layouts key part fetch pairs later old new at result w 
         let P : List Asking → Type 0 = λ l. Ended (place_at setup t key task.file (0 ∷ [])) l as_plain.grown.made (answered result) in
         subst P (sym as_plain.grown.pairs_are) (as_plain.goes (0 ∷ []) [] [] [] [] refl (between_first (place_at setup t key task.file (0 ∷ []))))
 
-undone_ran : (task : Task) (t : ℕ) (setup : Setup) (layouts : List (ℕ × ℕ)) (pairs later : List Asking) (old new : Option Log) (v : Verdict) (result : Result Answer NoMemory) → task.work ≡ W.XGet
+undone_ran : (task : Task) (t : TaskTurn) (setup : Setup) (layouts : List (ℕ × ℕ)) (pairs later : List Asking) (old new : Option Log) (v : Verdict) (result : Result Answer NoMemory) → task.work ≡ W.XGet
     → AsksOne pairs later (Some task.name) (Transferexport false task.key (fetch_file setup t 1)) v → is_verdict_of (Transferexport false task.key (fetch_file setup t 1)) v ≡ true → is_done_at v ≡ false
     → new ≡ old → result ≡ Ok (unwrap_or (undone_answer v) A.Memory) → RanGet task t setup layouts pairs later old new result
 undone_ran task t setup layouts pairs later old new v result w a k d n e = record {
@@ -196,7 +197,7 @@ undone_ran task t setup layouts pairs later old new v result w a k d n e = recor
       subst P (sym e) (get_undone setup t task key layouts a.request v (asks_of_name (fetch_export setup t) task.key task.name key a.request v r refl a.kept) k d));
 }
 
-pub taken_ran : (task : Task) (t : ℕ) (setup : Setup) (layouts : List (ℕ × ℕ)) (key : Parts) (part fetch : List ℕ) (pairs later : List Asking) (old new : Option Log) (v : Verdict) (result : Result Answer NoMemory) → task.work ≡ W.XGet
+pub taken_ran : (task : Task) (t : TaskTurn) (setup : Setup) (layouts : List (ℕ × ℕ)) (key : Parts) (part fetch : List ℕ) (pairs later : List Asking) (old new : Option Log) (v : Verdict) (result : Result Answer NoMemory) → task.work ≡ W.XGet
     → key_reading task.key ≡ Some key → AsksOne pairs later (Some task.name) (Transferexport false task.key (fetch_file setup t 1)) v → is_verdict_of (Transferexport false task.key (fetch_file setup t 1)) v ≡ true
     → part ≡ part_of task.file → fetch ≡ fetch_file setup t 1 → TakesWhole (record { file = task.file; part = part; fetch = fetch }) key v old new result → RanGet task t setup layouts pairs later old new result
 taken_ran task t setup layouts key part fetch pairs later old new (V.Done at) result w r a k p q h = fetched_ran task t setup layouts key part fetch pairs later old new at result w r a p q h

@@ -11,6 +11,7 @@ use Rattle.ann_outside.specs.declared.file_desk.Call.TheVariants.{Size, ReadAt, 
 use Rattle.chunk_plan.specs.Layouts.{Part}
 use Rattle.task_run.specs.Askers.{Asking}
 use Rattle.task_run.specs.declared.setup.Setup.{Setup}
+use Rattle.task_run.specs.declared.turn.TaskTurn.{TaskTurn}
 use Rattle.task_run.specs.Stops.{is_done}
 use Rattle.task_run.specs.Names.{fetch_file, fetch_files, part_of, is_among}
 use Rattle.task_run.specs.Reads.{length_or_none, length_found, lengths_found, read_of, reads_of, bytes_of, is_run, piece_of, appended}
@@ -91,10 +92,10 @@ size_sub xs ys s (Remove name answer) h = refl
 pub sizes_sub : (xs ys : List (List ℕ)) (calls : List Call) → Sub xs ys → size_of_only xs calls ≡ true → size_of_only ys calls ≡ true
 sizes_sub xs ys calls s h = weaken (size_among xs) (size_among ys) calls (size_sub xs ys s) h
 
-pub fetch_files_more : (setup : Setup) (t n : ℕ) → fetch_files setup t (n + 1) ≡ fetch_files setup t n ++ fetch_file setup t (n + 1) ∷ []
+pub fetch_files_more : (setup : Setup) (t : TaskTurn) (n : ℕ) → fetch_files setup t (n + 1) ≡ fetch_files setup t n ++ fetch_file setup t (n + 1) ∷ []
 fetch_files_more setup t n = map-range_with_len_more (fetch_file setup t) 1 n (n + 1) (omega arith)
 
-pub fetched_files_more : (setup : Setup) (t n : ℕ) (asked : List Asking) (x : Asking)
+pub fetched_files_more : (setup : Setup) (t : TaskTurn) (n : ℕ) (asked : List Asking) (x : Asking)
     → fetched_files setup t n (asked ++ x ∷ []) ≡ fetched_files setup t n asked ++ fetched_files setup t (n + length asked) (x ∷ [])
 fetched_files_more setup t n [] x = let e : n + 0 ≡ n = omega arith in ap (λ k. fetched_files setup t k (x ∷ [])) (sym e)
 fetched_files_more setup t n (a ∷ more) x =
@@ -161,16 +162,16 @@ lengths_behind name xs ys h = filter_map-append (length_found name) xs ys ∙ rw
 -- ---- of the requests' files
 
 -- the calls are of none of the files of k requests, the first of which is request n
-abbrev pub Apart : Setup → ℕ → ℕ → ℕ → List Call → Type 0
+abbrev pub Apart : Setup → TaskTurn → ℕ → ℕ → List Call → Type 0
 Apart setup t n k calls = (i : ℕ) → n ≤ i → i < n + k → list_all (is_apart (fetch_file setup t i)) calls ≡ true
 
-first_apart : (setup : Setup) (t n k : ℕ) (calls : List Call) → Apart setup t n (k + 1) calls → list_all (is_apart (fetch_file setup t n)) calls ≡ true
+first_apart : (setup : Setup) (t : TaskTurn) (n k : ℕ) (calls : List Call) → Apart setup t n (k + 1) calls → list_all (is_apart (fetch_file setup t n)) calls ≡ true
 first_apart setup t n k calls h = h n (omega arith) (omega arith)
 
-rest_apart : (setup : Setup) (t n k : ℕ) (calls : List Call) → Apart setup t n (k + 1) calls → Apart setup t (n + 1) k calls
+rest_apart : (setup : Setup) (t : TaskTurn) (n k : ℕ) (calls : List Call) → Apart setup t n (k + 1) calls → Apart setup t (n + 1) k calls
 rest_apart setup t n k calls h = λ i low high. h i (omega arith) (omega arith)
 
-pub same_read : (setup : Setup) (t n : ℕ) (asked : List Asking) (xs ys : List Call) → Apart setup t n (length asked) ys → are_read setup t (xs ++ ys) n asked ≡ are_read setup t xs n asked
+pub same_read : (setup : Setup) (t : TaskTurn) (n : ℕ) (asked : List Asking) (xs ys : List Call) → Apart setup t n (length asked) ys → are_read setup t (xs ++ ys) n asked ≡ are_read setup t xs n asked
 same_read setup t n [] xs ys h = refl
 same_read setup t n (a ∷ more) xs ys h =
     let g : Apart setup t n (length more + 1) ys = λ i low high. h i low (omega arith) in
@@ -178,7 +179,7 @@ same_read setup t n (a ∷ more) xs ys h =
     let rest : are_read setup t (xs ++ ys) (n + 1) more ≡ are_read setup t xs (n + 1) more = same_read setup t (n + 1) more xs ys (rest_apart setup t n (length more) ys g) in
     ap (λ l. is_run 0 l && are_read setup t (xs ++ ys) (n + 1) more) one ∙ ap (λ b. is_run 0 (reads_of (fetch_file setup t n) xs) && b) rest
 
-pub same_bytes : (setup : Setup) (t n : ℕ) (asked : List Asking) (xs ys : List Call) → Apart setup t n (length asked) ys → bytes_fetched setup t (xs ++ ys) n asked ≡ bytes_fetched setup t xs n asked
+pub same_bytes : (setup : Setup) (t : TaskTurn) (n : ℕ) (asked : List Asking) (xs ys : List Call) → Apart setup t n (length asked) ys → bytes_fetched setup t (xs ++ ys) n asked ≡ bytes_fetched setup t xs n asked
 same_bytes setup t n [] xs ys h = refl
 same_bytes setup t n (a ∷ more) xs ys h =
     let g : Apart setup t n (length more + 1) ys = λ i low high. h i low (omega arith) in
@@ -186,7 +187,7 @@ same_bytes setup t n (a ∷ more) xs ys h =
     let rest : bytes_fetched setup t (xs ++ ys) (n + 1) more ≡ bytes_fetched setup t xs (n + 1) more = same_bytes setup t (n + 1) more xs ys (rest_apart setup t n (length more) ys g) in
     ap (λ l. bytes_of l ++ bytes_fetched setup t (xs ++ ys) (n + 1) more) one ∙ ap (λ l. bytes_of (reads_of (fetch_file setup t n) xs) ++ l) rest
 
-pub same_whole : (setup : Setup) (t n : ℕ) (asked : List Asking) (xs ys : List Call) → Apart setup t n (length asked) ys → are_read_whole setup t (xs ++ ys) n asked ≡ are_read_whole setup t xs n asked
+pub same_whole : (setup : Setup) (t : TaskTurn) (n : ℕ) (asked : List Asking) (xs ys : List Call) → Apart setup t n (length asked) ys → are_read_whole setup t (xs ++ ys) n asked ≡ are_read_whole setup t xs n asked
 same_whole setup t n [] xs ys h = refl
 same_whole setup t n (a ∷ more) xs ys h =
     let g : Apart setup t n (length more + 1) ys = λ i low high. h i low (omega arith) in
@@ -197,7 +198,7 @@ same_whole setup t n (a ∷ more) xs ys h =
     ∙ ap (λ l. is_read_whole (reads_of (fetch_file setup t n) xs) l && are_read_whole setup t (xs ++ ys) (n + 1) more) long
     ∙ ap (λ b. is_read_whole (reads_of (fetch_file setup t n) xs) (lengths_found (fetch_file setup t n) xs) && b) rest
 
-pub same_wrong : (setup : Setup) (t : ℕ) (size : Option ℕ) (n : ℕ) (parts : List Part) (xs ys : List Call) → Apart setup t n (length parts) ys
+pub same_wrong : (setup : Setup) (t : TaskTurn) (size : Option ℕ) (n : ℕ) (parts : List Part) (xs ys : List Call) → Apart setup t n (length parts) ys
     → wrong_lengths setup t size (xs ++ ys) n parts ≡ wrong_lengths setup t size xs n parts
 same_wrong setup t size n [] xs ys h = refl
 same_wrong setup t size n (part ∷ more) xs ys h =
@@ -208,7 +209,7 @@ same_wrong setup t size n (part ∷ more) xs ys h =
     ∙ ap (λ l. filter (is_wrong size part) (lengths_found (fetch_file setup t n) xs) ++ l) rest
 
 -- nothing was fetched of these
-pub none_wrong : (setup : Setup) (t : ℕ) (size : Option ℕ) (n : ℕ) (parts : List Part) (calls : List Call) → Apart setup t n (length parts) calls → wrong_lengths setup t size calls n parts ≡ []
+pub none_wrong : (setup : Setup) (t : TaskTurn) (size : Option ℕ) (n : ℕ) (parts : List Part) (calls : List Call) → Apart setup t n (length parts) calls → wrong_lengths setup t size calls n parts ≡ []
 none_wrong setup t size n [] calls h = refl
 none_wrong setup t size n (part ∷ more) calls h =
     let g : Apart setup t n (length more + 1) calls = λ i low high. h i low (omega arith) in
@@ -220,21 +221,21 @@ both_and : (a b c : Bool) → (a && (b && c)) ≡ ((a && b) && c)
 both_and true b c = refl
 both_and false b c = refl
 
-pub read_more : (setup : Setup) (t n : ℕ) (calls : List Call) (xs ys : List Asking) → are_read setup t calls n (xs ++ ys) ≡ (are_read setup t calls n xs && are_read setup t calls (n + length xs) ys)
+pub read_more : (setup : Setup) (t : TaskTurn) (n : ℕ) (calls : List Call) (xs ys : List Asking) → are_read setup t calls n (xs ++ ys) ≡ (are_read setup t calls n xs && are_read setup t calls (n + length xs) ys)
 read_more setup t n calls [] ys = let e : n + 0 ≡ n = omega arith in ap (λ k. are_read setup t calls k ys) (sym e)
 read_more setup t n calls (x ∷ xs) ys =
     let e : (n + 1) + length xs ≡ n + length (x ∷ xs) = omega arith in
     ap (λ b. is_run 0 (reads_of (fetch_file setup t n) calls) && b) (read_more setup t (n + 1) calls xs ys ∙ ap (λ k. are_read setup t calls (n + 1) xs && are_read setup t calls k ys) e)
     ∙ both_and (is_run 0 (reads_of (fetch_file setup t n) calls)) (are_read setup t calls (n + 1) xs) (are_read setup t calls (n + length (x ∷ xs)) ys)
 
-pub bytes_more : (setup : Setup) (t n : ℕ) (calls : List Call) (xs ys : List Asking) → bytes_fetched setup t calls n (xs ++ ys) ≡ bytes_fetched setup t calls n xs ++ bytes_fetched setup t calls (n + length xs) ys
+pub bytes_more : (setup : Setup) (t : TaskTurn) (n : ℕ) (calls : List Call) (xs ys : List Asking) → bytes_fetched setup t calls n (xs ++ ys) ≡ bytes_fetched setup t calls n xs ++ bytes_fetched setup t calls (n + length xs) ys
 bytes_more setup t n calls [] ys = let e : n + 0 ≡ n = omega arith in ap (λ k. bytes_fetched setup t calls k ys) (sym e)
 bytes_more setup t n calls (x ∷ xs) ys =
     let e : (n + 1) + length xs ≡ n + length (x ∷ xs) = omega arith in
     ap (λ b. bytes_of (reads_of (fetch_file setup t n) calls) ++ b) (bytes_more setup t (n + 1) calls xs ys ∙ ap (λ k. bytes_fetched setup t calls (n + 1) xs ++ bytes_fetched setup t calls k ys) e)
     ∙ sym (append_assoc (bytes_of (reads_of (fetch_file setup t n) calls)) (bytes_fetched setup t calls (n + 1) xs) (bytes_fetched setup t calls (n + length (x ∷ xs)) ys))
 
-pub whole_more : (setup : Setup) (t n : ℕ) (calls : List Call) (xs ys : List Asking) → are_read_whole setup t calls n (xs ++ ys) ≡ (are_read_whole setup t calls n xs && are_read_whole setup t calls (n + length xs) ys)
+pub whole_more : (setup : Setup) (t : TaskTurn) (n : ℕ) (calls : List Call) (xs ys : List Asking) → are_read_whole setup t calls n (xs ++ ys) ≡ (are_read_whole setup t calls n xs && are_read_whole setup t calls (n + length xs) ys)
 whole_more setup t n calls [] ys = let e : n + 0 ≡ n = omega arith in ap (λ k. are_read_whole setup t calls k ys) (sym e)
 whole_more setup t n calls (x ∷ xs) ys =
     let e : (n + 1) + length xs ≡ n + length (x ∷ xs) = omega arith in
@@ -242,7 +243,7 @@ whole_more setup t n calls (x ∷ xs) ys =
     (whole_more setup t (n + 1) calls xs ys ∙ ap (λ k. are_read_whole setup t calls (n + 1) xs && are_read_whole setup t calls k ys) e)
     ∙ both_and (is_read_whole (reads_of (fetch_file setup t n) calls) (lengths_found (fetch_file setup t n) calls)) (are_read_whole setup t calls (n + 1) xs) (are_read_whole setup t calls (n + length (x ∷ xs)) ys)
 
-pub wrong_more : (setup : Setup) (t : ℕ) (size : Option ℕ) (calls : List Call) (n : ℕ) (xs ys : List Part)
+pub wrong_more : (setup : Setup) (t : TaskTurn) (size : Option ℕ) (calls : List Call) (n : ℕ) (xs ys : List Part)
     → wrong_lengths setup t size calls n (xs ++ ys) ≡ wrong_lengths setup t size calls n xs ++ wrong_lengths setup t size calls (n + length xs) ys
 wrong_more setup t size calls n [] ys = let e : n + 0 ≡ n = omega arith in ap (λ k. wrong_lengths setup t size calls k ys) (sym e)
 wrong_more setup t size calls n (x ∷ xs) ys =
@@ -259,7 +260,7 @@ nil_behind [] ys e = e
 nil_behind (x ∷ xs) ys e = absurd cc
 
 -- none of the first of them is wrong where none is
-pub wrong_taken : (setup : Setup) (t : ℕ) (size : Option ℕ) (calls : List Call) (n k : ℕ) (parts : List Part) → wrong_lengths setup t size calls n parts ≡ [] → wrong_lengths setup t size calls n (take k parts) ≡ []
+pub wrong_taken : (setup : Setup) (t : TaskTurn) (size : Option ℕ) (calls : List Call) (n k : ℕ) (parts : List Part) → wrong_lengths setup t size calls n parts ≡ [] → wrong_lengths setup t size calls n (take k parts) ≡ []
 wrong_taken setup t size calls n zero parts h = refl
 wrong_taken setup t size calls n (suc k) [] h = refl
 wrong_taken setup t size calls n (suc k) (part ∷ more) h =

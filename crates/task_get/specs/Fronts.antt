@@ -9,6 +9,7 @@ use Rattle.ann_outside.specs.declared.file_desk.Call.TheVariants.{Size, ReadAt}
 use Rattle.task_run.specs.Askers.{Asking}
 use Rattle.journal_model.specs.declared.answer.Answer.{Answer}
 use Rattle.task_run.specs.declared.setup.Setup.{Setup}
+use Rattle.task_run.specs.declared.turn.TaskTurn.{TaskTurn}
 use Rattle.task_run.specs.Stops.{is_done, asking_stop, call_stop, is_stop_last, stops_of, AnsweredBy}
 use Rattle.task_run.specs.Names.{fetch_file, fetch_files, part_of}
 use Rattle.task_run.specs.Requests.{rounds, AskInOrder, RoundsAsk}
@@ -20,13 +21,13 @@ use Rattle.task_run.specs.TaskCalls.{GetCalls, fetched_files}
 -- what a get works on: the chunk sizes of its layouts stand in their order, the plain one's 0 last
 pub record Place : Type 0 where
   pub setup : Setup
-  pub task : ℕ
+  pub turn : TaskTurn
   pub key : Parts
   pub file : List ℕ
   pub sizes : List ℕ
 
 abbrev pub fetch_at : Place → ℕ → List ℕ
-fetch_at p n = fetch_file p.setup p.task n
+fetch_at p n = fetch_file p.setup p.turn n
 
 abbrev pub keys_in : List Part → List Parts
 keys_in parts = map (λ (p : Part). p.key) parts
@@ -47,16 +48,16 @@ pub record Tried (p : Place) (past : List Asking) (done : List (List Part)) (tri
   pub each_done : length tried ≡ length done
   pub failed : failures past ≡ length done
   pub calm : list_all is_calm past ≡ true
-  pub in_order : (more : List (List Parts)) (next : List Asking) → RoundsAsk (fetch_request p.setup p.task) (length past + 1) more (rounds next)
-      → RoundsAsk (fetch_request p.setup p.task) 1 (map keys_in done ++ more) (rounds (past ++ next))
+  pub in_order : (more : List (List Parts)) (next : List Asking) → RoundsAsk (fetch_request p.setup p.turn) (length past + 1) more (rounds next)
+      → RoundsAsk (fetch_request p.setup p.turn) 1 (map keys_in done ++ more) (rounds (past ++ next))
   pub last : (next : List Asking) → list_all (λ a. not (is_failed a)) next ≡ true → asked_last (past ++ next) ≡ next
 
 -- The calls name and change what they may, in the order that they may; and none of a file that is fetched later. What part holds is known
 -- after them where it was before.
 pub record Sound (p : Place) (asked : List Asking) (calls : List Call) : Type 0 where
-  pub names : name_only (p.file ∷ part_of p.file ∷ fetch_files p.setup p.task (length asked)) calls ≡ true
-  pub changes : list_all (changes_as_result p.file (fetch_files p.setup p.task (length asked))) calls ≡ true
-  pub lengths : size_of_only (part_of p.file ∷ fetched_files p.setup p.task 1 asked) calls ≡ true
+  pub names : name_only (p.file ∷ part_of p.file ∷ fetch_files p.setup p.turn (length asked)) calls ≡ true
+  pub changes : list_all (changes_as_result p.file (fetch_files p.setup p.turn (length asked))) calls ≡ true
+  pub lengths : size_of_only (part_of p.file ∷ fetched_files p.setup p.turn 1 asked) calls ≡ true
   pub found : are_found (part_of p.file) [] calls ≡ true
   pub held : is_run 0 (held_reads p.file calls) ≡ true
   pub told : (before : List ℕ) → is_some (holds (part_of p.file) (Some before) calls) ≡ true
@@ -92,14 +93,14 @@ first_in u = length u.past + 1
 pub record Within (u : Turn) (cur : List Asking) (got left : List Part) (calls : List Call) : Type 0 where
   pub tries : Tried u.place u.past u.done u.tried (u.chunk ∷ u.rest)
   pub all_done : list_all is_done cur ≡ true
-  pub in_order : (more : List Parts) (next : List Asking) → AskInOrder (fetch_request u.place.setup u.place.task) (first_in u + length cur) more next
-      → AskInOrder (fetch_request u.place.setup u.place.task) (first_in u) (keys_in got ++ more) (cur ++ next)
+  pub in_order : (more : List Parts) (next : List Asking) → AskInOrder (fetch_request u.place.setup u.place.turn) (first_in u + length cur) more next
+      → AskInOrder (fetch_request u.place.setup u.place.turn) (first_in u) (keys_in got ++ more) (cur ++ next)
   pub aligned : length got ≡ length cur
   pub wants : (later : List ℕ) → wanted u.place.key u.place.sizes (lengths_at_begin u.place.file calls ++ later) ≡ u.done ++ (got ++ left) ∷ wanted u.place.key u.rest later
   pub begun : length (lengths_at_begin u.place.file calls) ≤ length u.done + 1
   pub begun_chunked : length (lengths_at_begin u.place.file calls) ≤ length u.place.sizes - 1
-  pub right : wrong_lengths u.place.setup u.place.task u.place.key.size calls (first_in u) got ≡ []
-  pub read : are_read u.place.setup u.place.task calls (first_in u) cur ≡ true
+  pub right : wrong_lengths u.place.setup u.place.turn u.place.key.size calls (first_in u) got ≡ []
+  pub read : are_read u.place.setup u.place.turn calls (first_in u) cur ≡ true
   pub sound : Sound u.place (u.past ++ cur) calls
   pub free : are_free u.place calls ≡ true
 
@@ -115,16 +116,16 @@ pub record Kept (u : Turn) (cur : List Asking) (got left : List Part) (calls : L
   pub known : is_known (part_of u.place.file) calls ≡ true
   pub held_are : held_reads u.place.file calls ≡ held
   pub held_whole : is_reading 0 (begin_of u.place.key (got ++ left)) held ≡ true
-  pub bytes_are : bytes_fetched u.place.setup u.place.task calls (first_in u) cur ≡ bytes
+  pub bytes_are : bytes_fetched u.place.setup u.place.turn calls (first_in u) cur ≡ bytes
   pub moved : appended (part_of u.place.file) (since_begin u.place.file calls) ≡ bytes
   pub content : (before : List ℕ) → are_found_so (part_of u.place.file) (Some before) calls ≡ true → holds (part_of u.place.file) (Some before) calls ≡ Some (bytes_of held ++ bytes)
-  pub whole : are_read_whole u.place.setup u.place.task calls (first_in u) cur ≡ true
+  pub whole : are_read_whole u.place.setup u.place.turn calls (first_in u) cur ≡ true
 
 -- The get has ended with this answer.
 pub record Ended (p : Place) (asked : List Asking) (calls : List Call) (answer : Answer) : Type 0 where
   pub asked_till_stop : is_stop_last (asking_stop W.Get) asked ≡ true
   pub calls_till_stop : is_stop_last (call_stop (part_of p.file)) calls ≡ true
   pub found : are_found (part_of p.file) [] calls ≡ true
-  pub get_calls : GetCalls p.setup p.task p.file asked calls
-  pub get_asks : GetAsks p.setup p.task p.key p.sizes p.file asked calls
-  pub answered : AnsweredBy (stops_of W.Get (part_of p.file) asked calls) answer (GetAnswers p.setup p.task p.key p.sizes p.file asked calls answer)
+  pub get_calls : GetCalls p.setup p.turn p.file asked calls
+  pub get_asks : GetAsks p.setup p.turn p.key p.sizes p.file asked calls
+  pub answered : AnsweredBy (stops_of W.Get (part_of p.file) asked calls) answer (GetAnswers p.setup p.turn p.key p.sizes p.file asked calls answer)

@@ -12,6 +12,7 @@ use Rattle.journal_model.specs.declared.answer.Answer.{Answer}
 use Rattle.journal_model.specs.declared.answer.Answer.TheVariants.{Memory}
 use Rattle.task_run.specs.Askers.{Asking}
 use Rattle.task_run.specs.declared.setup.Setup.{Setup}
+use Rattle.task_run.specs.declared.turn.TaskTurn.{TaskTurn}
 use Rattle.task_get.specs.declared.get_chunk.Went.{Went}
 use Rattle.task_get.specs.declared.get_chunk.Went.TheVariants as T
 use Rattle.task_run.specs.Names.{part_of}
@@ -35,10 +36,10 @@ pub record Behind : Type 0 where
   pub rest : List ℕ
   pub calls : List Call
 
-abbrev pub place_at : Setup → ℕ → Parts → List ℕ → List ℕ → Place
-place_at setup t key file sizes = record { setup = setup; task = t; key = key; file = file; sizes = sizes }
+abbrev pub place_at : Setup → TaskTurn → Parts → List ℕ → List ℕ → Place
+place_at setup t key file sizes = record { setup = setup; turn = t; key = key; file = file; sizes = sizes }
 
-abbrev pub turn_at : Setup → ℕ → Parts → List ℕ → ℕ → Behind → Turn
+abbrev pub turn_at : Setup → TaskTurn → Parts → List ℕ → ℕ → Behind → Turn
 turn_at setup t key file chunk b = record { place = place_at setup t key file b.sizes; past = b.past; done = b.done; tried = b.tried; chunk = chunk; rest = b.rest }
 
 -- the chunks from one on, which are counted from 0 here
@@ -69,7 +70,7 @@ ChunksEnd u parts calls held before after asked made (Ok (T.Over answer)) = Ende
 ChunksEnd u parts calls held before after asked made (Err e) = Ended u.place (u.past ++ asked) (calls ++ made) Memory
 
 -- what a call for the next chunk promises
-abbrev pub NextDoes : Setup → ℕ → Parts → ℕ → ℕ → ℕ → List ℕ → ℕ → Checker → Checker → List Asking → List Call → Result Went NoMemory → Type 0
+abbrev pub NextDoes : Setup → TaskTurn → Parts → ℕ → ℕ → ℕ → List ℕ → ℕ → Checker → Checker → List Asking → List Call → Result Went NoMemory → Type 0
 NextDoes setup t key size chunk i part now before after asked made result =
     (file : List ℕ) (b : Behind) (cur : List Asking) (got left : List Part) (calls : List Call) (held : List (ℕ × List ℕ)) (bytes : List ℕ) → part ≡ part_of file
     → now ≡ length b.past + length cur → now + 1 + length left < 2 ^ 64
@@ -77,13 +78,13 @@ NextDoes setup t key size chunk i part now before after asked made result =
     → Kept (turn_at setup t key file chunk b) cur got (chunk_part key size chunk (i + 1) ∷ left) calls held bytes
     → PartEnd (turn_at setup t key file chunk b) cur got left (chunk_part key size chunk (i + 1)) calls held bytes before after asked made result
 
-pub record NextRan (setup : Setup) (t : ℕ) (key : Parts) (size chunk i : ℕ) (part : List ℕ) (now : ℕ) (pairs later : List Asking) (old new : Option Log) (before after : Checker) (result : Result Went NoMemory) : Type 0 where
+pub record NextRan (setup : Setup) (t : TaskTurn) (key : Parts) (size chunk i : ℕ) (part : List ℕ) (now : ℕ) (pairs later : List Asking) (old new : Option Log) (before after : Checker) (result : Result Went NoMemory) : Type 0 where
   pub grown : Grown pairs later old new
   pub goes : NextDoes setup t key size chunk i part now before after grown.asked grown.made result
   pub one : (went : Went) → result ≡ Ok went → length grown.asked ≡ 1
 
 -- what all of them promise
-pub record ChunksRan (setup : Setup) (t : ℕ) (key : Parts) (size chunk held : ℕ) (part : List ℕ) (first now : ℕ) (pairs later : List Asking) (old new : Option Log) (before after : Checker) (result : Result Went NoMemory) : Type 0 where
+pub record ChunksRan (setup : Setup) (t : TaskTurn) (key : Parts) (size chunk held : ℕ) (part : List ℕ) (first now : ℕ) (pairs later : List Asking) (old new : Option Log) (before after : Checker) (result : Result Went NoMemory) : Type 0 where
   pub grown : Grown pairs later old new
   pub goes : (file : List ℕ) (b : Behind) (calls : List Call) (reads : List (ℕ × List ℕ)) → part ≡ part_of file → first ≡ length b.past
       → Within (turn_at setup t key file chunk b) [] [] (parts_from key size chunk held) calls
@@ -99,14 +100,14 @@ LayoutEnd u calls asked made (Ok T.Failed) =
 LayoutEnd u calls asked made (Ok (T.Over answer)) = Ended u.place (u.past ++ asked) (calls ++ made) answer
 LayoutEnd u calls asked made (Err e) = Ended u.place (u.past ++ asked) (calls ++ made) Memory
 
-pub record LayoutRan (setup : Setup) (t : ℕ) (key : Parts) (file : List ℕ) (chunk : ℕ) (first now : ℕ) (pairs later : List Asking) (old new : Option Log) (result : Result Went NoMemory) : Type 0 where
+pub record LayoutRan (setup : Setup) (t : TaskTurn) (key : Parts) (file : List ℕ) (chunk : ℕ) (first now : ℕ) (pairs later : List Asking) (old new : Option Log) (result : Result Went NoMemory) : Type 0 where
   pub grown : Grown pairs later old new
   pub goes : (b : Behind) → first ≡ length b.past → 1 ≤ length b.rest → Between (place_at setup t key file b.sizes) b.past b.done b.tried (chunk ∷ b.rest) b.calls
       → LayoutEnd (turn_at setup t key file chunk b) b.calls grown.asked grown.made result
   pub counted : result ≡ Ok T.Failed → now ≡ first + length grown.asked
 
 -- the plain layout, after all others
-pub record WholeRan (setup : Setup) (t : ℕ) (key : Parts) (file : List ℕ) (first : ℕ) (pairs later : List Asking) (old new : Option Log) (result : Result Answer NoMemory) : Type 0 where
+pub record WholeRan (setup : Setup) (t : TaskTurn) (key : Parts) (file : List ℕ) (first : ℕ) (pairs later : List Asking) (old new : Option Log) (result : Result Answer NoMemory) : Type 0 where
   pub grown : Grown pairs later old new
   pub goes : (sizes : List ℕ) (past : List Asking) (done : List (List Part)) (tried : List ℕ) (calls : List Call) → first ≡ length past → Between (place_at setup t key file sizes) past done tried (0 ∷ []) calls
       → Ended (place_at setup t key file sizes) (past ++ grown.asked) (calls ++ grown.made) (answered result)
@@ -118,11 +119,11 @@ TriesEnd p rest now asked made (Ok T.Failed) = (done : List (List Part)) × (tri
 TriesEnd p rest now asked made (Ok (T.Over answer)) = Ended p asked made answer
 TriesEnd p rest now asked made (Err e) = Ended p asked made Memory
 
-pub record TriesRan (setup : Setup) (t : ℕ) (key : Parts) (file : List ℕ) (layouts : List (ℕ × ℕ)) (now : ℕ) (pairs later : List Asking) (old new : Option Log) (result : Result Went NoMemory) : Type 0 where
+pub record TriesRan (setup : Setup) (t : TaskTurn) (key : Parts) (file : List ℕ) (layouts : List (ℕ × ℕ)) (now : ℕ) (pairs later : List Asking) (old new : Option Log) (result : Result Went NoMemory) : Type 0 where
   pub grown : Grown pairs later old new
   pub goes : TriesEnd (place_at setup t key file (sizes_tried key layouts)) (0 ∷ []) now grown.asked grown.made result
 
 -- the whole get
-pub record GetRan (setup : Setup) (t : ℕ) (key : Parts) (file : List ℕ) (layouts : List (ℕ × ℕ)) (pairs later : List Asking) (old new : Option Log) (result : Result Answer NoMemory) : Type 0 where
+pub record GetRan (setup : Setup) (t : TaskTurn) (key : Parts) (file : List ℕ) (layouts : List (ℕ × ℕ)) (pairs later : List Asking) (old new : Option Log) (result : Result Answer NoMemory) : Type 0 where
   pub grown : Grown pairs later old new
   pub goes : Ended (place_at setup t key file (sizes_tried key layouts)) grown.asked grown.made (answered result)

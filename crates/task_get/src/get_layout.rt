@@ -22,12 +22,12 @@ use ann_outside::Desk;
 use chunk_plan::{count, piece, range};
 use std::alloc::Global;
 use task_run::names::fetch_name;
-use task_run::{Asker, Setup};
+use task_run::{Asker, Setup, TaskTurn};
 
 // Asks for the chunk after the first i, as the next request, and adds it to part.
 fn next_chunk<A: Asker, D: Desk>(
     alloc: Global,
-    number: u32,
+    turn: TaskTurn,
     setup: &Setup,
     key: KeyRef<'_>,
     size: u64,
@@ -48,9 +48,9 @@ fn next_chunk<A: Asker, D: Desk>(
     requires few { asked.old + 1 < 2 ^ 64 }
     requires room { taken_of checker.old ≤ from_of chunk (i + 1) }
     requires folder { has_newline setup.now.work ≡ false }
-    requires number { number ≡ A.task asker.old }
+    requires number { turn.task ≡ A.task asker.old }
     requires ready { A.ready asker.old }
-    ensures ran { NextRan setup.now number (parts_of key.entry) size chunk i part.now asked.old (A.pairs asker.old) (A.pairs asker.new) (D.log desk.old) (D.log desk.new) checker.old checker.new result }
+    ensures ran { NextRan setup.now turn (parts_of key.entry) size chunk i part.now asked.old (A.pairs asker.old) (A.pairs asker.new) (D.log desk.old) (D.log desk.new) checker.old checker.new result }
     ensures counted { asked.new ≡ asked.old + 1 }
     ensures room { result ≡ Ok T.Whole → taken_of checker.new ≤ from_of chunk (i + 2) }
     ensures notes { A.notes asker.new ≡ A.notes asker.old }
@@ -59,7 +59,7 @@ fn next_chunk<A: Asker, D: Desk>(
     ensures causes { HasQuietCauses (D.counts desk.old) (D.counts desk.new) (answer_in result) }
 {
     *asked += 1;
-    let Ok(fetch) = fetch_name(alloc, setup, number, *asked) else {
+    let Ok(fetch) = fetch_name(alloc, setup, turn, *asked) else {
         return Err(NoMemory);
     };
     let Ok(piece) = piece(alloc, key, chunk, i + 1) else {
@@ -68,7 +68,7 @@ fn next_chunk<A: Asker, D: Desk>(
     let (from, to) = range(size, chunk, i + 1);
     take_chunk(
         alloc,
-        number,
+        turn.task,
         piece.view(),
         to - from,
         part,
@@ -82,7 +82,7 @@ fn next_chunk<A: Asker, D: Desk>(
 // Asks for the chunks after the first `held`, one after the other.
 fn chunks<A: Asker, D: Desk>(
     alloc: Global,
-    number: u32,
+    turn: TaskTurn,
     setup: &Setup,
     key: KeyRef<'_>,
     size: u64,
@@ -103,9 +103,9 @@ fn chunks<A: Asker, D: Desk>(
     requires few { asked.old + count_of size chunk < 2 ^ 64 }
     requires room { taken_of checker.old ≤ from_of chunk (held + 1) }
     requires folder { has_newline setup.now.work ≡ false }
-    requires number { number ≡ A.task asker.old }
+    requires number { turn.task ≡ A.task asker.old }
     requires ready { A.ready asker.old }
-    ensures ran { ChunksRan setup.now number (parts_of key.entry) size chunk held part.now asked.old asked.new (A.pairs asker.old) (A.pairs asker.new) (D.log desk.old) (D.log desk.new) checker.old checker.new result }
+    ensures ran { ChunksRan setup.now turn (parts_of key.entry) size chunk held part.now asked.old asked.new (A.pairs asker.old) (A.pairs asker.new) (D.log desk.old) (D.log desk.new) checker.old checker.new result }
     ensures notes { A.notes asker.new ≡ A.notes asker.old }
     ensures same { IsSameTask (A.task asker.old) (A.task asker.new) (A.may_note asker.old) (A.may_note asker.new) (A.loans asker.old) (A.loans asker.new) }
     ensures on { A.goes_on asker.old asker.new }
@@ -114,7 +114,7 @@ fn chunks<A: Asker, D: Desk>(
     let count = count(size, chunk);
     for i in held..count {
         match next_chunk(
-            alloc, number, setup, key, size, chunk, i, part, asked, asker, desk, checker,
+            alloc, turn, setup, key, size, chunk, i, part, asked, asker, desk, checker,
         ) {
             Ok(Went::Whole) => {}
             Ok(Went::Failed) => return Ok(Went::Failed),
@@ -128,7 +128,7 @@ fn chunks<A: Asker, D: Desk>(
 /// Fetches what part doesn't hold whole in chunks of this size, and keeps part as the file where all of it fits.
 pub fn get_layout<A: Asker, D: Desk>(
     alloc: Global,
-    number: u32,
+    turn: TaskTurn,
     setup: &Setup,
     key: KeyRef<'_>,
     size: u64,
@@ -145,9 +145,9 @@ pub fn get_layout<A: Asker, D: Desk>(
     requires chunk { 0 < chunk }
     requires part { part.now ≡ part_of file.now }
     requires folder { has_newline setup.now.work ≡ false }
-    requires number { number ≡ A.task asker.old }
+    requires number { turn.task ≡ A.task asker.old }
     requires ready { A.ready asker.old }
-    ensures ran { LayoutRan setup.now number (parts_of key.entry) file.now chunk asked.old asked.new (A.pairs asker.old) (A.pairs asker.new) (D.log desk.old) (D.log desk.new) result }
+    ensures ran { LayoutRan setup.now turn (parts_of key.entry) file.now chunk asked.old asked.new (A.pairs asker.old) (A.pairs asker.new) (D.log desk.old) (D.log desk.new) result }
     ensures notes { A.notes asker.new ≡ A.notes asker.old }
     ensures same { IsSameTask (A.task asker.old) (A.task asker.new) (A.may_note asker.old) (A.may_note asker.new) (A.loans asker.old) (A.loans asker.new) }
     ensures on { A.goes_on asker.old asker.new }
@@ -161,7 +161,7 @@ pub fn get_layout<A: Asker, D: Desk>(
     match begin_part(alloc, desk, size, chunk, part, &mut checker) {
         Ok(Begun::Held(held)) => match chunks(
             alloc,
-            number,
+            turn,
             setup,
             key,
             size,

@@ -22,13 +22,13 @@ use chunk_plan::count;
 use journal_model::Answer;
 use std::alloc::Global;
 use task_run::names::{fetch_name, part_name};
-use task_run::{Asker, Setup, ask};
+use task_run::{Asker, Setup, TaskTurn, ask};
 use task_text::Task;
 
 // Fetches the key whole, by this name of the fetched file.
 fn whole_by<A: Asker, D: Desk>(
     alloc: Global,
-    number: u32,
+    turn: TaskTurn,
     key: KeyRef<'_>,
     file: &str,
     part: &str,
@@ -40,16 +40,16 @@ fn whole_by<A: Asker, D: Desk>(
     requires part { part.now ≡ part_of file.now }
     requires line { has_newline fetch.now ≡ false }
     requires differ { fetch.now ≢ part.now }
-    requires number { number ≡ A.task asker.old }
+    requires number { turn.task ≡ A.task asker.old }
     requires ready { A.ready asker.old }
-    ensures ran { (setup : Setup) (first : ℕ) → fetch.now ≡ fetch_file setup number (first + 1) → first + 1 < 2 ^ 64
-        → WholeRan setup number (parts_of key.entry) file.now first (A.pairs asker.old) (A.pairs asker.new) (D.log desk.old) (D.log desk.new) result }
+    ensures ran { (setup : Setup) (first : ℕ) → fetch.now ≡ fetch_file setup turn (first + 1) → first + 1 < 2 ^ 64
+        → WholeRan setup turn (parts_of key.entry) file.now first (A.pairs asker.old) (A.pairs asker.new) (D.log desk.old) (D.log desk.new) result }
     ensures notes { A.notes asker.new ≡ A.notes asker.old }
     ensures same { IsSameTask (A.task asker.old) (A.task asker.new) (A.may_note asker.old) (A.may_note asker.new) (A.loans asker.old) (A.loans asker.new) }
     ensures on { A.goes_on asker.old asker.new }
     ensures causes { HasQuietCauses (D.counts desk.old) (D.counts desk.new) result }
 {
-    match ask::transfer(alloc, asker, number, false, key, fetch) {
+    match ask::transfer(alloc, asker, turn.task, false, key, fetch) {
         Ok(verdict) => take_whole(alloc, desk, key, file, part, fetch, verdict),
         Err(error) => Err(error),
     }
@@ -58,7 +58,7 @@ fn whole_by<A: Asker, D: Desk>(
 // Fetches the key whole, after so many requests.
 fn get_whole<A: Asker, D: Desk>(
     alloc: Global,
-    number: u32,
+    turn: TaskTurn,
     setup: &Setup,
     key: KeyRef<'_>,
     file: &str,
@@ -70,9 +70,9 @@ fn get_whole<A: Asker, D: Desk>(
     requires sent { is_sent_key (text_of key) ≡ true }
     requires part { part.now ≡ part_of file.now }
     requires folder { has_newline setup.now.work ≡ false }
-    requires number { number ≡ A.task asker.old }
+    requires number { turn.task ≡ A.task asker.old }
     requires ready { A.ready asker.old }
-    ensures ran { WholeRan setup.now number (parts_of key.entry) file.now asked (A.pairs asker.old) (A.pairs asker.new) (D.log desk.old) (D.log desk.new) result }
+    ensures ran { WholeRan setup.now turn (parts_of key.entry) file.now asked (A.pairs asker.old) (A.pairs asker.new) (D.log desk.old) (D.log desk.new) result }
     ensures notes { A.notes asker.new ≡ A.notes asker.old }
     ensures same { IsSameTask (A.task asker.old) (A.task asker.new) (A.may_note asker.old) (A.may_note asker.new) (A.loans asker.old) (A.loans asker.new) }
     ensures on { A.goes_on asker.old asker.new }
@@ -81,16 +81,16 @@ fn get_whole<A: Asker, D: Desk>(
     if asked == u64::MAX {
         return Err(NoMemory);
     }
-    let Ok(fetch) = fetch_name(alloc, setup, number, asked + 1) else {
+    let Ok(fetch) = fetch_name(alloc, setup, turn, asked + 1) else {
         return Err(NoMemory);
     };
-    whole_by(alloc, number, key, file, part, fetch.view(), asker, desk)
+    whole_by(alloc, turn, key, file, part, fetch.view(), asker, desk)
 }
 
 // Tries the layouts that have the number of chunks which the size asks for, one after the other.
 fn try_layouts<A: Asker, D: Desk>(
     alloc: Global,
-    number: u32,
+    turn: TaskTurn,
     setup: &Setup,
     key: KeyRef<'_>,
     size: u64,
@@ -108,9 +108,9 @@ fn try_layouts<A: Asker, D: Desk>(
     requires part { part.now ≡ part_of file.now }
     requires first { asked.old ≡ 0 }
     requires folder { has_newline setup.now.work ≡ false }
-    requires number { number ≡ A.task asker.old }
+    requires number { turn.task ≡ A.task asker.old }
     requires ready { A.ready asker.old }
-    ensures ran { TriesRan setup.now number (parts_of key.entry) file.now layouts.now asked.new (A.pairs asker.old) (A.pairs asker.new) (D.log desk.old) (D.log desk.new) result }
+    ensures ran { TriesRan setup.now turn (parts_of key.entry) file.now layouts.now asked.new (A.pairs asker.old) (A.pairs asker.new) (D.log desk.old) (D.log desk.new) result }
     ensures notes { A.notes asker.new ≡ A.notes asker.old }
     ensures same { IsSameTask (A.task asker.old) (A.task asker.new) (A.may_note asker.old) (A.may_note asker.new) (A.loans asker.old) (A.loans asker.new) }
     ensures on { A.goes_on asker.old asker.new }
@@ -120,7 +120,7 @@ fn try_layouts<A: Asker, D: Desk>(
         let (chunk, chunks) = layouts[i];
         if chunks == count(size, chunk) {
             match get_layout(
-                alloc, number, setup, key, size, chunk, file, part, asked, asker, desk,
+                alloc, turn, setup, key, size, chunk, file, part, asked, asker, desk,
             ) {
                 Ok(Went::Failed) => {}
                 Ok(Went::Whole) => return Ok(Went::Whole),
@@ -135,7 +135,7 @@ fn try_layouts<A: Asker, D: Desk>(
 // Tries the layouts of chunks. A key without a size has none.
 fn try_chunks<A: Asker, D: Desk>(
     alloc: Global,
-    number: u32,
+    turn: TaskTurn,
     setup: &Setup,
     key: KeyRef<'_>,
     layouts: &[(u64, u64)],
@@ -151,9 +151,9 @@ fn try_chunks<A: Asker, D: Desk>(
     requires part { part.now ≡ part_of file.now }
     requires first { asked.old ≡ 0 }
     requires folder { has_newline setup.now.work ≡ false }
-    requires number { number ≡ A.task asker.old }
+    requires number { turn.task ≡ A.task asker.old }
     requires ready { A.ready asker.old }
-    ensures ran { TriesRan setup.now number (parts_of key.entry) file.now layouts.now asked.new (A.pairs asker.old) (A.pairs asker.new) (D.log desk.old) (D.log desk.new) result }
+    ensures ran { TriesRan setup.now turn (parts_of key.entry) file.now layouts.now asked.new (A.pairs asker.old) (A.pairs asker.new) (D.log desk.old) (D.log desk.new) result }
     ensures notes { A.notes asker.new ≡ A.notes asker.old }
     ensures same { IsSameTask (A.task asker.old) (A.task asker.new) (A.may_note asker.old) (A.may_note asker.new) (A.loans asker.old) (A.loans asker.new) }
     ensures on { A.goes_on asker.old asker.new }
@@ -161,7 +161,7 @@ fn try_chunks<A: Asker, D: Desk>(
 {
     match key.size() {
         Some(size) => try_layouts(
-            alloc, number, setup, key, size, layouts, file, part, asked, asker, desk,
+            alloc, turn, setup, key, size, layouts, file, part, asked, asker, desk,
         ),
         None => Ok(Went::Failed),
     }
@@ -170,7 +170,7 @@ fn try_chunks<A: Asker, D: Desk>(
 // Tries the layouts of chunks, and then the plain one.
 fn get_from<A: Asker, D: Desk>(
     alloc: Global,
-    number: u32,
+    turn: TaskTurn,
     setup: &Setup,
     key: KeyRef<'_>,
     layouts: &[(u64, u64)],
@@ -184,9 +184,9 @@ fn get_from<A: Asker, D: Desk>(
     requires sizes { are_layouts layouts.now ≡ true }
     requires part { part.now ≡ part_of file.now }
     requires folder { has_newline setup.now.work ≡ false }
-    requires number { number ≡ A.task asker.old }
+    requires number { turn.task ≡ A.task asker.old }
     requires ready { A.ready asker.old }
-    ensures ran { GetRan setup.now number (parts_of key.entry) file.now layouts.now (A.pairs asker.old) (A.pairs asker.new) (D.log desk.old) (D.log desk.new) result }
+    ensures ran { GetRan setup.now turn (parts_of key.entry) file.now layouts.now (A.pairs asker.old) (A.pairs asker.new) (D.log desk.old) (D.log desk.new) result }
     ensures notes { A.notes asker.new ≡ A.notes asker.old }
     ensures same { IsSameTask (A.task asker.old) (A.task asker.new) (A.may_note asker.old) (A.may_note asker.new) (A.loans asker.old) (A.loans asker.new) }
     ensures on { A.goes_on asker.old asker.new }
@@ -194,9 +194,9 @@ fn get_from<A: Asker, D: Desk>(
 {
     let mut asked = 0;
     match try_chunks(
-        alloc, number, setup, key, layouts, file, part, &mut asked, asker, desk,
+        alloc, turn, setup, key, layouts, file, part, &mut asked, asker, desk,
     ) {
-        Ok(Went::Failed) => get_whole(alloc, number, setup, key, file, part, asked, asker, desk),
+        Ok(Went::Failed) => get_whole(alloc, turn, setup, key, file, part, asked, asker, desk),
         Ok(Went::Over(answer)) => Ok(answer),
         Ok(Went::Whole) => unreachable!(),
         Err(error) => Err(error),
@@ -208,7 +208,7 @@ fn get_from<A: Asker, D: Desk>(
 pub fn get_key<A: Asker, D: Desk>(
     alloc: Global,
     task: &Task,
-    number: u32,
+    turn: TaskTurn,
     setup: &Setup,
     asker: &mut A,
     desk: &mut D,
@@ -216,9 +216,9 @@ pub fn get_key<A: Asker, D: Desk>(
     requires task { IsTask task.now }
     requires work { task.now.work ≡ W.Get }
     requires folder { has_newline setup.now.work ≡ false }
-    requires number { number ≡ A.task asker.old }
+    requires number { turn.task ≡ A.task asker.old }
     requires ready { A.ready asker.old }
-    ensures ran { RanGet task.now number setup.now (A.current asker.old) (A.pairs asker.old) (A.pairs asker.new) (D.log desk.old) (D.log desk.new) result }
+    ensures ran { RanGet task.now turn setup.now (A.current asker.old) (A.pairs asker.old) (A.pairs asker.new) (D.log desk.old) (D.log desk.new) result }
     ensures notes { A.notes asker.new ≡ A.notes asker.old }
     ensures same { IsSameTask (A.task asker.old) (A.task asker.new) (A.may_note asker.old) (A.may_note asker.new) (A.loans asker.old) (A.loans asker.new) }
     ensures on { A.goes_on asker.old asker.new }
@@ -228,13 +228,13 @@ pub fn get_key<A: Asker, D: Desk>(
     let Ok(part) = part_name(alloc, file) else {
         return Err(NoMemory);
     };
-    let Ok(layouts) = asker.layouts(alloc, number) else {
+    let Ok(layouts) = asker.layouts(alloc, turn.task) else {
         return Err(NoMemory);
     };
     let key = task.key.view();
     get_from(
         alloc,
-        number,
+        turn,
         setup,
         key,
         layouts.view(),

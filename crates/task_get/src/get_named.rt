@@ -12,14 +12,14 @@ use ann_outside::Desk;
 use journal_model::Answer;
 use std::alloc::Global;
 use task_run::names::{fetch_name, part_name};
-use task_run::{Asker, Setup, ask};
+use task_run::{Asker, Setup, TaskTurn, ask};
 use task_text::Task;
 
 /// Fetches what is there under the task's name, and keeps it as the file where it fits the key.
 pub fn get_export<A: Asker, D: Desk>(
     alloc: Global,
     task: &Task,
-    number: u32,
+    turn: TaskTurn,
     setup: &Setup,
     asker: &mut A,
     desk: &mut D,
@@ -27,9 +27,9 @@ pub fn get_export<A: Asker, D: Desk>(
     requires task { IsTask task.now }
     requires work { task.now.work ≡ W.XGet }
     requires folder { has_newline setup.now.work ≡ false }
-    requires number { number ≡ A.task asker.old }
+    requires number { turn.task ≡ A.task asker.old }
     requires ready { A.ready asker.old }
-    ensures ran { RanGet task.now number setup.now (A.current asker.old) (A.pairs asker.old) (A.pairs asker.new) (D.log desk.old) (D.log desk.new) result }
+    ensures ran { RanGet task.now turn setup.now (A.current asker.old) (A.pairs asker.old) (A.pairs asker.new) (D.log desk.old) (D.log desk.new) result }
     ensures notes { A.notes asker.new ≡ A.notes asker.old }
     ensures same { IsSameTask (A.task asker.old) (A.task asker.new) (A.may_note asker.old) (A.may_note asker.new) (A.loans asker.old) (A.loans asker.new) }
     ensures on { A.goes_on asker.old asker.new }
@@ -41,12 +41,12 @@ pub fn get_export<A: Asker, D: Desk>(
     let Ok(part) = part_name(alloc, file) else {
         return Err(NoMemory);
     };
-    let Ok(fetch) = fetch_name(alloc, setup, number, 1) else {
+    let Ok(fetch) = fetch_name(alloc, setup, turn, 1) else {
         return Err(NoMemory);
     };
     let part = part.view();
     let fetch = fetch.view();
-    match ask::transfer_named(alloc, asker, number, false, key, fetch, name) {
+    match ask::transfer_named(alloc, asker, turn.task, false, key, fetch, name) {
         Ok(verdict) => take_whole(alloc, desk, key, file, part, fetch, verdict),
         Err(error) => Err(error),
     }

@@ -5,6 +5,7 @@ use Rattle.std.proofs.lemmas.Bool.{and_parts, eqb-true}
 use Rattle.ann_outside.specs.declared.file_desk.Call.{Call}
 use Rattle.task_run.specs.Askers.{Asking}
 use Rattle.task_run.specs.declared.setup.Setup.{Setup}
+use Rattle.task_run.specs.declared.turn.TaskTurn.{TaskTurn}
 use Rattle.task_run.specs.Names.{fetch_file}
 use Rattle.task_run.specs.Reads.{lengths_found, reads_of, bytes_of, is_reading}
 use Rattle.task_run.specs.Gets.{bytes_fetched, is_read_whole, are_read_whole}
@@ -29,7 +30,7 @@ read_whole name content calls f h = by_lengths (lengths_found name calls) f.leng
 
 -- ---- the files of the last layout
 
-pub fetched_are : (setup : Setup) (t : ℕ) (calls : List Call) (n : ℕ) (asked : List Asking) (contents : List (List ℕ)) → AreFetched setup t calls n asked contents → are_read_whole setup t calls n asked ≡ true
+pub fetched_are : (setup : Setup) (t : TaskTurn) (calls : List Call) (n : ℕ) (asked : List Asking) (contents : List (List ℕ)) → AreFetched setup t calls n asked contents → are_read_whole setup t calls n asked ≡ true
     → bytes_fetched setup t calls n asked ≡ concat contents
 fetched_are setup t calls n [] [] f w = refl
 fetched_are setup t calls n [] (c ∷ contents) f w = absurd f

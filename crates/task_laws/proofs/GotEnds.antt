@@ -20,6 +20,7 @@ use Rattle.task_text.specs.declared.task.Work.{Work}
 use Rattle.task_text.specs.declared.task.Work.TheVariants as W
 use Rattle.task_run.specs.Askers.{Asking, Noting}
 use Rattle.task_run.specs.declared.setup.Setup.{Setup}
+use Rattle.task_run.specs.declared.turn.TaskTurn.{TaskTurn}
 use Rattle.task_run.specs.Stops.{verdict_stop, asking_stop, result_stop, call_stop, stops_of, AnsweredBy, is_question, is_store}
 use Rattle.task_run.specs.Names.{part_of}
 use Rattle.task_run.specs.Layouts.{sizes_tried}
@@ -104,7 +105,7 @@ abbrev pub keys_wanted : Parts → List ℕ → List ℕ → List (List Parts)
 keys_wanted key sizes lengths = map (λ (parts : List Part). map (λ (p : Part). p.key) parts) (wanted key sizes lengths)
 
 -- what it asked last and how it ended
-pub record GotEnds (setup : Setup) (t : ℕ) (work : Work) (file : List ℕ) (key : Parts) (layouts : List (ℕ × ℕ)) (asked : List Asking) (calls : List Call) : Type 0 where
+pub record GotEnds (setup : Setup) (t : TaskTurn) (work : Work) (file : List ℕ) (key : Parts) (layouts : List (ℕ × ℕ)) (asked : List Asking) (calls : List Call) : Type 0 where
   pub asks : LastAsks (fetch_of work setup t) (keys_wanted key (sizes_got work key layouts) (lengths_at_begin file calls)) asked
   pub answers : GetAnswers setup t key (sizes_got work key layouts) file asked calls A.Got
 
@@ -137,7 +138,7 @@ plain_alone : (key : Parts) (lengths : List ℕ) → keys_wanted key (0 ∷ []) 
 plain_alone key [] = refl
 plain_alone key (n ∷ later) = refl
 
-module _ (setup : Setup) (t : ℕ) (task : Task) (key : Parts) (layouts : List (ℕ × ℕ)) (asked : List Asking) (calls : List Call) (noted : List Noting) where
+module _ (setup : Setup) (t : TaskTurn) (task : Task) (key : Parts) (layouts : List (ℕ × ℕ)) (asked : List Asking) (calls : List Call) (noted : List Noting) where
   ends_by : (work : Work) → is_get work ≡ true → WorkAsks setup t task key layouts work asked calls noted → WorkAnswers setup t task key layouts work asked calls noted A.Got
       → GotEnds setup t work task.file key layouts asked calls
   ends_by W.Get h a r = record {
@@ -151,7 +152,7 @@ module _ (setup : Setup) (t : ℕ) (task : Task) (key : Parts) (layouts : List (
   }
   ends_by _ h a r = absurd cc
 
-pub got_ends : (task : Task) (t : ℕ) (setup : Setup) (layouts : List (ℕ × ℕ)) (asked : List Asking) (calls : List Call) (noted : List Noting) (key : Parts)
+pub got_ends : (task : Task) (t : TaskTurn) (setup : Setup) (layouts : List (ℕ × ℕ)) (asked : List Asking) (calls : List Call) (noted : List Noting) (key : Parts)
     → key_reading task.key ≡ Some key → TaskRun task t setup layouts asked calls noted A.Got → GotEnds setup t task.work task.file key layouts asked calls
 got_ends task t setup layouts asked calls noted key e r =
     let P : Option Parts → Type 0 = λ o. IfSome o (λ k. RunOf setup t task k layouts asked calls noted A.Got) in

@@ -12,6 +12,7 @@ use Rattle.journal_model.specs.declared.answer.Answer.TheVariants as A
 use Rattle.task_text.specs.declared.task.Task.{Task}
 use Rattle.task_run.specs.Askers.{Asking, Noting}
 use Rattle.task_run.specs.declared.setup.Setup.{Setup}
+use Rattle.task_run.specs.declared.turn.TaskTurn.{TaskTurn}
 use Rattle.task_run.specs.Stops.{asking_stop, call_stop, stops_of, AnsweredBy}
 use Rattle.task_run.specs.Names.{part_of}
 use Rattle.task_run.specs.Gets.{checked, is_got}
@@ -42,7 +43,7 @@ goes_on part (call ∷ more) e = by_case (call_stop part call) refl e (goes_on p
     by_case None s e k = (s, k e)
     by_case (Some answer) s e k = absurd cc
 
-pub got_goes_on : (task : Task) (t : ℕ) (setup : Setup) (layouts : List (ℕ × ℕ)) (asked : List Asking) (calls : List Call) (noted : List Noting) (key : Parts)
+pub got_goes_on : (task : Task) (t : TaskTurn) (setup : Setup) (layouts : List (ℕ × ℕ)) (asked : List Asking) (calls : List Call) (noted : List Noting) (key : Parts)
     → key_reading task.key ≡ Some key → TaskRun task t setup layouts asked calls noted A.Got → GoOn (part_of task.file) calls
 got_goes_on task t setup layouts asked calls noted key e r =
     let P : Option Parts → Type 0 = λ o. IfSome o (λ k. RunOf setup t task k layouts asked calls noted A.Got) in

@@ -17,6 +17,7 @@ use Rattle.task_text.specs.declared.task.Work.{Work}
 use Rattle.task_text.specs.declared.task.Work.TheVariants as W
 use Rattle.task_run.specs.Askers.{Asking}
 use Rattle.task_run.specs.declared.setup.Setup.{Setup}
+use Rattle.task_run.specs.declared.turn.TaskTurn.{TaskTurn}
 use Rattle.task_run.specs.Stops.{is_done, last_failed}
 use Rattle.task_run.specs.Names.{fetch_file}
 use Rattle.task_run.specs.Requests.{AskInOrder}
@@ -60,7 +61,7 @@ right_length size part content (k ∷ ks) reads some l w = by_test (k == part.to
     by_test true e w = sym is ∙ eqb-true k (part.to - part.from) e
     by_test false e w = absurd cc
 
-contents_long : (setup : Setup) (t size : ℕ) (calls : List Call) (n : ℕ) (asked : List Asking) (parts : List Part) (contents : List (List ℕ)) → AreFetched setup t calls n asked contents
+contents_long : (setup : Setup) (t : TaskTurn) (size : ℕ) (calls : List Call) (n : ℕ) (asked : List Asking) (parts : List Part) (contents : List (List ℕ)) → AreFetched setup t calls n asked contents
     → length asked ≡ length parts → wrong_lengths setup t (Some size) calls n parts ≡ [] → are_read_whole setup t calls n asked ≡ true → length (concat contents) ≡ total parts
 unfolding total
 contents_long setup t size calls n [] [] [] f l w r = refl
@@ -116,7 +117,7 @@ asks_few ask n [] (a ∷ more) h = absurd h
 asks_few ask n (key ∷ keys) (a ∷ more) h = let rest : length more ≤ length keys = asks_few ask (n + 1) keys more h.1 in omega arith
 
 -- how it decided
-pub record Decided (setup : Setup) (t : ℕ) (key : Parts) (sizes : List ℕ) (file : List ℕ) (asked : List Asking) (calls : List Call) : Type 0 where
+pub record Decided (setup : Setup) (t : TaskTurn) (key : Parts) (sizes : List ℕ) (file : List ℕ) (asked : List Asking) (calls : List Call) : Type 0 where
   pub other : failures asked ≡ length sizes → ⊥
   pub begun : (is_plain_last sizes asked || length (lengths_at_begin file calls) == failures asked + 1) ≡ true
   pub right : wrong_lengths setup t key.size calls (first_asked asked) (parts_last key sizes (lengths_at_begin file calls) asked) ≡ []
@@ -124,7 +125,7 @@ pub record Decided (setup : Setup) (t : ℕ) (key : Parts) (sizes : List ℕ) (f
   pub was : IsChecked setup t key sizes file asked calls A.Got
   pub kept : IsFetchKept setup t sizes file asked calls
 
-pub decided : (setup : Setup) (t : ℕ) (key : Parts) (sizes : List ℕ) (file : List ℕ) (asked : List Asking) (calls : List Call) → GetAnswers setup t key sizes file asked calls A.Got → Decided setup t key sizes file asked calls
+pub decided : (setup : Setup) (t : TaskTurn) (key : Parts) (sizes : List ℕ) (file : List ℕ) (asked : List Asking) (calls : List Call) → GetAnswers setup t key sizes file asked calls A.Got → Decided setup t key sizes file asked calls
 decided setup t key sizes file asked calls r = by_test (failures asked == length sizes) refl r.answered
   where
     Count : Type 0
@@ -145,7 +146,7 @@ record AskedAll (ask : ℕ → List ℕ → HostMessage) (key : Parts) (sizes : 
   parts : parts_last key sizes (lengths_at_begin file calls) asked ≡ parts_of_layout key (chunk_last sizes asked)
   in_order : AskInOrder ask (first_asked asked) (keys_of_layout key (chunk_last sizes asked)) (asked_last asked)
 
-asked_all : (ask : ℕ → List ℕ → HostMessage) (setup : Setup) (t : ℕ) (key : Parts) (sizes : List ℕ) (file : List ℕ) (asked : List Asking) (calls : List Call)
+asked_all : (ask : ℕ → List ℕ → HostMessage) (setup : Setup) (t : TaskTurn) (key : Parts) (sizes : List ℕ) (file : List ℕ) (asked : List Asking) (calls : List Call)
     → LastAsks ask (keys_wanted key sizes (lengths_at_begin file calls)) asked → Decided setup t key sizes file asked calls
     → is_afresh sizes file asked calls ≡ true → AskedAll ask key sizes file asked calls
 asked_all ask setup t key sizes file asked calls last d fresh = by_place (item_there (failures asked) sizes below)
@@ -198,7 +199,7 @@ none_more : (x y : List ℕ) → length (x ++ y) ≡ length y → x ≡ []
 none_more [] y e = refl
 none_more (b ∷ x) y e = let l : length (b ∷ x ++ y) ≡ length (b ∷ x) + length y = length-append (b ∷ x) y in absurd (omega arith)
 
-keeps : (work : Work) (setup : Setup) (t : ℕ) (key : Parts) (sizes : List ℕ) (file : List ℕ) (asked : List Asking) (calls : List Call) (contents : List (List ℕ))
+keeps : (work : Work) (setup : Setup) (t : TaskTurn) (key : Parts) (sizes : List ℕ) (file : List ℕ) (asked : List Asking) (calls : List Call) (contents : List (List ℕ))
     → (is_plain_last sizes asked ≡ false → is_some key.size ≡ true)
     → LastAsks (fetch_of work setup t) (keys_wanted key sizes (lengths_at_begin file calls)) asked → GetAnswers setup t key sizes file asked calls A.Got → is_afresh sizes file asked calls ≡ true
     → AreFetched setup t calls (first_asked asked) (asked_last asked) contents → Keeps work setup t key sizes file asked calls contents

@@ -268,7 +268,7 @@ none_without_child limit journal t some w answer z =
 
 -- ---- the run
 
-one_well : (o : Opening) (setup : Setup) (limit : ℕ) (journal : List Entry) (done : List TaskDone) (r : TaskDone) → WentWellAlone o setup limit journal done → IsDeskWell o setup journal 0 r.task r.calls
+one_well : (o : Opening) (setup : Setup) (limit : ℕ) (journal : List Entry) (done : List TaskDone) (r : TaskDone) → WentWellAlone o setup limit journal done → IsDeskWell o setup journal 0 r.task r.turn r.calls
     → HasRun o setup limit journal r → IsDoneWell o r
 one_well o setup limit journal done r w desk (inr z) = absurd (none_without_child limit journal r.task w.starts w.children r.answer z.0)
 one_well o setup limit journal done r w desk (inl c) = by_key (key_reading c.run.task.key) refl (w.keys r.task c.run.task c.run.is)
@@ -276,7 +276,7 @@ one_well o setup limit journal done r w desk (inl c) = by_key (key_reading c.run
     by_key : (x : Option Parts) → key_reading c.run.task.key ≡ x → is_some x ≡ true → IsDoneWell o r
     by_key None e s = apart s
     by_key (Some key) e s =
-        one_succeeds o setup journal (record { number = 0; task = r.task; calls = r.calls; answer = r.answer }) w.asked
+        one_succeeds o setup journal (record { number = 0; task = r.task; turn = r.turn; calls = r.calls; answer = r.answer }) w.asked
         (record { run = c.run; answer_is = c.answer; key = key; keyed = e; desk = desk c.run key e })
 
 pub lone_succeeds : LoneSucceeds

@@ -1,4 +1,4 @@
--- A get keeps the content that one task stored in chunks.
+-- A get keeps the content that one run of a task stored in chunks.
 use Rattle.std.proofs.Common.{◌≡◌, ◌∙◌, ◌⊎◌, inl, inr, ℕ, zero, suc, ◌+◌, ◌==◌, Bool, true, false, not, List, [], ◌∷◌, ◌++◌, length, take, drop, reverse, refl, sym, ap, subst, arith, ◌<◌}
 use Rattle.std.specs.Prelude.{◌≢◌, ◌&&◌, cond, if◌then◌else◌, All, Option, Some, None, is_some, option_map, option_and_then, map, unwrap_or}
 use Rattle.std.specs.List.{cons_option, concat, slice_range, range_with_len}
@@ -18,11 +18,12 @@ use Rattle.journal_model.specs.declared.entry.What.TheVariants.{Ask}
 use Rattle.journal_model.specs.declared.entry.Entry.{Entry}
 use Rattle.journal_model.specs.declared.opening.Opening.{Opening}
 use Rattle.journal_model.specs.Journal.{verdict_of, addressed}
-use Rattle.journal_model.specs.Legality.{Legal, task_of, is_done}
+use Rattle.journal_model.specs.Legality.{Legal, task_of, is_done, turn_of_task}
 use Rattle.journal_model.proofs.Looks.{verdict_of-append}
 use Rattle.task_text.specs.declared.task.Task.{Task}
 use Rattle.task_run.specs.Askers.{Asking}
 use Rattle.task_run.specs.declared.setup.Setup.{Setup}
+use Rattle.task_run.specs.declared.turn.TaskTurn.{TaskTurn}
 use Rattle.task_run.specs.Askings.{past_claim, asking_of, askings_from, name_before, run_askings, run_notings}
 use Rattle.task_run.specs.Requests.{AsksFor, AskInOrder}
 use Rattle.task_run.specs.Layouts.{parts_of_layout}
@@ -41,7 +42,7 @@ use Rattle.task_laws.proofs.WithinRuns.{within_run, in_reversed, found_in, in_fr
 use Rattle.task_laws.proofs.Sending.{chunk_ranges, store_asks, content_long}
 use Rattle.task_run.specs.Stores.{ChunkStoreAsks}
 use Rattle.task_laws.proofs.Keeping.{some_part}
-use Rattle.task_laws.proofs.Retrieving.{keeps_stored}
+use Rattle.task_laws.proofs.Retrieving.{keeps_stored, ran_in}
 
 -- ---- what stored a key
 
@@ -93,7 +94,7 @@ store_of journal r s key file got = by_change (last_change journal key got.answe
 abbrev IsAmong : HostMessage → Verdict → List Asking → Type 0
 IsAmong q v asked = (name : Option (List ℕ)) × IsIn (record { request = Some q; name = name; verdict = v }) asked
 
-among : (journal : List Entry) (u : ℕ) (past entries : List Entry) (s : Request) (v : Verdict) → IsIn s (requests_from past entries) → s.task ≡ u → verdict_of journal s.child s.job ≡ Some v
+among : (journal : List Entry) (u : ℕ) (past entries : List Entry) (s : Request) (v : Verdict) → IsIn s (requests_from past entries) → s.turn.task ≡ u → verdict_of journal s.child s.job ≡ Some v
     → IsAmong s.asks v (askings_from journal u past entries)
 among journal u past [] s v h t e = absurd h
 among journal u past (entry ∷ rest) s v h t e = by_what entry.what h (λ k. among journal u (past ++ entry ∷ []) rest s v k t e)
@@ -108,12 +109,12 @@ among journal u past (entry ∷ rest) s v h t e = by_what entry.what h (λ k. am
     by_what (Ask child job task line) k more = by_reading (host_reading (addressed past child line).1) refl k
       where
         by_reading : (o : Option HostMessage) → host_reading (addressed past child line).1 ≡ o
-            → IsIn s (cons_option (option_map (λ q. record { at = length past; child = child; job = job; task = task; asks = q }) o) (requests_from (past ++ entry ∷ []) rest))
+            → IsIn s (cons_option (option_map (λ q. record { at = length past; child = child; job = job; turn = record { task = task; turn = turn_of_task past task }; asks = q }) o) (requests_from (past ++ entry ∷ []) rest))
             → IsAmong s.asks v (cons_option (asking_of journal u past (Ask child job task line)) (askings_from journal u (past ++ entry ∷ []) rest))
         by_reading None r k = later (Ask child job task line) (more k)
         by_reading (Some q) r (inr k) = later (Ask child job task line) (more k)
         by_reading (Some q) r (inl is) =
-            let of_task : (task == u) ≡ true = same task (ap (λ (x : Request). x.task) is ∙ t) in
+            let of_task : (task == u) ≡ true = same task (ap (λ (x : Request). x.turn.task) is ∙ t) in
             let settled : verdict_of journal child job ≡ Some v = ap (λ (x : Request). verdict_of journal x.child x.job) is ∙ e in
             let asks : host_reading (addressed past child line).1 ≡ Some s.asks = r ∙ ap (λ (x : Request). Some x.asks) is in
             let one : asking_of journal u past (Ask child job task line) ≡ Some (record { request = Some s.asks; name = name_before past child job; verdict = v }) =
@@ -205,26 +206,28 @@ record RangeIs (o : Opening) (setup : Setup) (told : Told) (k l : Parts) (conten
 some_in : {X : Type 0} (x : X) (xs : List X) → IsIn x xs → xs ≢ []
 some_in {X} x xs h e = let P : List X → Type 0 = λ ys. IsIn x ys in subst P e h
 
-range_is : (ask : ℕ → List ℕ → HostMessage) (o : Opening) (setup : Setup) (told : Told) (journal : List Entry) (t u n chunk : ℕ) (key : Parts) (content : List ℕ) (stores : List Request) (one : StoredInChunks o setup told journal u content stores)
+range_is : (ask : ℕ → List ℕ → HostMessage) (o : Opening) (setup : Setup) (told : Told) (journal : List Entry) (t u : TaskTurn) (n chunk : ℕ) (key : Parts) (content : List ℕ) (stores : List Request) (one : StoredInChunks o setup told journal u content stores)
     (p : Part) (a : Asking) (s : Request) → key.chunk ≡ None → IsIn p (parts_of_layout key chunk) → AsksFor ask n p.key a → IsStoredFor journal t a.request s
-    → s.task ≡ u → Legal o journal → RangeIs o setup told key one.key content s p (run_askings one.run.run)
+    → s.turn ≡ u → Legal o journal → RangeIs o setup told key one.key content s p (run_askings one.run.run)
 range_is ask o setup told journal t u n chunk key content stores one p a s base place asks stored of_task legal = by_request a.request asks stored
   where
     store_run : ChunkStoreAsks setup u one.key one.run.task.file (run_askings one.run.run) (told.calls u) (run_notings one.run.run)
-    store_run = store_asks one.run.task u setup one.run.layouts (run_askings one.run.run) (told.calls u) (run_notings one.run.run) one.run.run.answer one.key one.keyed one.work one.chunked one.run.ran
+    store_run = store_asks one.run.task u setup one.run.layouts (run_askings one.run.run) (told.calls u) (run_notings one.run.run) one.run.run.answer one.key one.keyed one.work one.chunked (ran_in o setup (told.calls u) one.number u journal one.run)
 
-    chunking : is_chunking setup (task_of o s.task) ≡ true
+    chunking : is_chunking setup (task_of o s.turn.task) ≡ true
     chunking =
         let keyed : key_reading one.run.task.key ≡ Some one.key = one.keyed in
         let of : is_chunking setup (Some one.run.task) ≡ true = rw keyed one.chunked in
-        ap (λ (m : ℕ). is_chunking setup (task_of o m)) of_task ∙ ap (is_chunking setup) one.run.is ∙ of
+        ap (λ (m : TaskTurn). is_chunking setup (task_of o m.task)) of_task ∙ ap (is_chunking setup) one.run.is ∙ of
 
     by_request : (request : Option HostMessage) → AsksFor ask n p.key (record { request = request; name = a.name; verdict = a.verdict }) → IsStoredFor journal t request s
         → RangeIs o setup told key one.key content s p (run_askings one.run.run)
     by_request (Some (Transfer false text file)) q (r, of_t, got) =
         let store : IsStore journal text s = store_of journal r s text file got in
         let found : IsAmong s.asks store.verdict (run_askings one.run.run) =
-        among journal u (past_claim one.run.run) one.run.run.within s store.verdict (within_run o journal u one.run.run s (task_above o u one.run.task one.run.is) legal store.there of_task) of_task store.settled in
+        among journal u.task (past_claim one.run.run) one.run.run.within s store.verdict
+        (within_run o journal u.task one.run.run s (task_above o u.task one.run.task one.run.is) legal store.there (ap (λ (m : TaskTurn). m.task) of_task) (ap (λ (m : TaskTurn). m.turn) of_task ∙ sym one.run.turn))
+        (ap (λ (m : TaskTurn). m.task) of_task) store.settled in
         let asking : Asking = record { request = Some s.asks; name = found.0; verdict = store.verdict } in
         let range : IsRangeSent setup one.key content (told.calls u) text store.file =
         chunk_ranges setup u one.key one.run.task.file content (run_askings one.run.run) (told.calls u) (run_notings one.run.run) asking text store.file store_run one.shows found.1
@@ -235,8 +238,8 @@ range_is ask o setup told journal t u n chunk key content stores one p a s base 
         (ap (λ (x : Option Parts). (unwrap_or x p.key)) keys) in
         record {
           bytes =
-              ap (λ (b : Bool). if b then unwrap_or (holds (file_named s.asks) None (told.calls s.task)) [] else unwrap_or (held_in (file_named s.asks) (told.before s.task)) []) chunking
-              ∙ ap (λ (m : ℕ). unwrap_or (holds (file_named s.asks) None (told.calls m)) []) of_task
+              ap (λ (b : Bool). if b then unwrap_or (holds (file_named s.asks) None (told.calls s.turn)) [] else unwrap_or (held_in (file_named s.asks) (told.before s.turn)) []) chunking
+              ∙ ap (λ (m : TaskTurn). unwrap_or (holds (file_named s.asks) None (told.calls m)) []) of_task
               ∙ ap (λ (x : HostMessage). unwrap_or (holds (file_named x) None (told.calls u)) []) store.asks
               ∙ ap (λ (o : Option (List ℕ)). unwrap_or o []) range.bytes
               ∙ ap (λ (m : ℕ). slice_range content m range.part.to) (sym same.from)
@@ -254,9 +257,9 @@ record RangesAre (o : Opening) (setup : Setup) (told : Told) (k l : Parts) (cont
   size : parts ≢ [] → k.size ≡ l.size
   some : parts ≢ [] → asked ≢ []
 
-ranges_are : (ask : ℕ → List ℕ → HostMessage) (o : Opening) (setup : Setup) (told : Told) (journal : List Entry) (t u n chunk : ℕ) (key : Parts) (content : List ℕ) (all : List Request) (one : StoredInChunks o setup told journal u content all)
+ranges_are : (ask : ℕ → List ℕ → HostMessage) (o : Opening) (setup : Setup) (told : Told) (journal : List Entry) (t u : TaskTurn) (n chunk : ℕ) (key : Parts) (content : List ℕ) (all : List Request) (one : StoredInChunks o setup told journal u content all)
     (parts : List Part) (asked : List Asking) (stores : List Request) → key.chunk ≡ None → ((p : Part) → IsIn p parts → IsIn p (parts_of_layout key chunk))
-    → AskInOrder ask n (map (λ (p : Part). p.key) parts) asked → length asked ≡ length parts → AreStoredFor journal t asked stores → ((s : Request) → IsIn s stores → s.task ≡ u) → Legal o journal
+    → AskInOrder ask n (map (λ (p : Part). p.key) parts) asked → length asked ≡ length parts → AreStoredFor journal t asked stores → ((s : Request) → IsIn s stores → s.turn ≡ u) → Legal o journal
     → RangesAre o setup told key one.key content stores parts (run_askings one.run.run)
 ranges_are ask o setup told journal t u n chunk key content all one [] [] [] base place asks long stored known legal =
     record { bytes = refl; size = λ some. absurd (some refl); some = λ some. absurd (some refl) }
@@ -303,7 +306,7 @@ keeps_stored_content o setup told journal number t u key content stores legal fa
     ranges =
         ranges_are (fetch_of got.run.task.work setup t) o setup told journal t u (first_asked (run_askings got.run.run)) (chunk_last (sizes_got got.run.task.work key got.run.layouts) (run_askings got.run.run)) key content stores one
         (parts_of_layout key (chunk_last (sizes_got got.run.task.work key got.run.layouts) (run_askings got.run.run))) (asked_last (run_askings got.run.run)) stores base (λ p h. h) kept.in_order long got.stored
-        (each_in (λ (s : Request). s.task ≡ u) stores one.of_task) legal
+        (each_in (λ (s : Request). s.turn ≡ u) stores one.of_run) legal
 
     some : parts_of_layout key (chunk_last (sizes_got got.run.task.work key got.run.layouts) (run_askings got.run.run)) ≢ []
     some = some_part key (unwrap_or key.size 0) (chunk_last (sizes_got got.run.task.work key got.run.layouts) (run_askings got.run.run))
@@ -315,7 +318,7 @@ keeps_stored_content o setup told journal number t u key content stores legal fa
         by_size None e h = apart h
         by_size (Some size) e h =
             content_long setup u size one.key one.run.task.file content (run_askings one.run.run) (told.calls u) (run_notings one.run.run) e
-            (store_asks one.run.task u setup one.run.layouts (run_askings one.run.run) (told.calls u) (run_notings one.run.run) one.run.run.answer one.key one.keyed one.work one.chunked one.run.ran)
+            (store_asks one.run.task u setup one.run.layouts (run_askings one.run.run) (told.calls u) (run_notings one.run.run) one.run.run.answer one.key one.keyed one.work one.chunked (ran_in o setup (told.calls u) one.number u journal one.run))
             one.shows (ranges.some some)
             ∙ ap (λ (y : Option ℕ). unwrap_or y 0) (sym (ranges.size some ∙ e))
 

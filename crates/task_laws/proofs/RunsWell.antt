@@ -5,12 +5,12 @@ use Rattle.std.specs.List.{list_all}
 use Rattle.std.proofs.lemmas.Bool.{and_parts}
 use Rattle.journal_model.specs.declared.answer.Answer.{Answer}
 use Rattle.journal_model.specs.declared.entry.Entry.{Entry}
-use Rattle.journal_model.specs.declared.entry.What.TheVariants.{Claim, Answer as Answered}
+use Rattle.journal_model.specs.declared.entry.What.TheVariants.{Claim}
 use Rattle.journal_model.specs.declared.opening.Opening.{Opening}
 use Rattle.task_text.specs.declared.task.Task.{Task}
 use Rattle.task_run.specs.Askers.{Asking}
 use Rattle.task_run.specs.declared.setup.Setup.{Setup}
-use Rattle.task_run.specs.Askings.{TaskStretch, askings_from, askings, run_askings, run_notings}
+use Rattle.task_run.specs.Askings.{TaskStretch, askings_from, askings, closing, run_askings, run_notings, run_turn}
 use Rattle.task_run.proofs.Askings.{askings_from-append}
 use Rattle.task_laws.specs.WentWell.{is_asked_well, WentWell, IsSuccess}
 use Rattle.task_laws.specs.RunWell.{TaskDone, AreAskedWell, RanWell, IsSucceeded, RunsSucceed}
@@ -32,7 +32,7 @@ behind_of p (x ∷ xs) ys h = behind_of p xs ys (and_parts (p x) (list_all p (xs
 pub run_asks : (p : Asking → Bool) (journal : List Entry) (t : ℕ) (run : TaskStretch journal t) → list_all p (askings journal t) ≡ true → list_all p (run_askings run) ≡ true
 run_asks p journal t run h =
     let front : List Entry = run.past ++ record { by = run.by; what = Claim t run.child } ∷ run.within in
-    let tail : List Entry = record { by = run.answered_by; what = Answered t run.answer } ∷ run.rest in
+    let tail : List Entry = record { by = run.closed_by; what = closing run.renewed t run.answer } ∷ run.rest in
     let split : askings journal t ≡ askings_from journal t [] front ++ askings_from journal t front tail = ap (askings_from journal t []) run.is ∙ askings_from-append journal t [] front tail in
     let claimed : askings_from journal t [] front ≡ askings_from journal t [] run.past ++ run_askings run = askings_from-append journal t [] run.past (record { by = run.by; what = Claim t run.child } ∷ run.within) in
     let P : List Asking → Type 0 = λ x. list_all p x ≡ true in
@@ -44,9 +44,9 @@ one_succeeds o setup journal r asked w task is =
     let at : w.run.task ≡ task = cc in
     let P : Task → Type 0 = λ x. IsSuccess x.work r.answer in
     let Q : Answer → Type 0 = λ x. IsSuccess w.run.task.work x in
-    let well : WentWell setup r.task w.run.task w.key w.run.layouts (run_askings w.run.run) r.calls =
+    let well : WentWell setup (run_turn w.run.run) w.run.task w.key w.run.layouts (run_askings w.run.run) r.calls =
     record { asked_well = run_asks (is_asked_well w.run.task.work) journal r.task w.run.run (asked r.task w.run.task w.run.is); desk = w.desk } in
-    subst P at (subst Q w.answer_is (well_is_success w.run.task r.task setup w.run.layouts (run_askings w.run.run) r.calls (run_notings w.run.run) w.run.run.answer w.key w.keyed well w.run.ran))
+    subst P at (subst Q w.answer_is (well_is_success w.run.task (run_turn w.run.run) setup w.run.layouts (run_askings w.run.run) r.calls (run_notings w.run.run) w.run.run.answer w.key w.keyed well w.run.ran))
 
 pub runs_succeed : RunsSucceed
 runs_succeed o setup journal done asked all k d h = one_succeeds o setup journal (slice_index_or done k d) asked (all k d h)

@@ -17,6 +17,7 @@ use Rattle.task_text.specs.declared.task.Work.{Work}
 use Rattle.task_text.specs.declared.task.Work.TheVariants as W
 use Rattle.task_run.specs.Askers.{Asking, Noting}
 use Rattle.task_run.specs.declared.setup.Setup.{Setup}
+use Rattle.task_run.specs.declared.turn.TaskTurn.{TaskTurn}
 use Rattle.task_run.specs.Names.{chunk_file}
 use Rattle.task_run.specs.Requests.{AsksFor, AskInOrder}
 use Rattle.task_run.specs.Layouts.{parts_of_layout, keys_of_layout}
@@ -45,7 +46,7 @@ no_question n (key ∷ keys) (b ∷ more) a text file h (inl is) e =
 -- ---- a transfer's file
 
 -- the part that a transfer stores
-record IsOfPart (setup : Setup) (t : ℕ) (file : List ℕ) (calls : List Call) (parts : List Part) (text name : List ℕ) : Type 0 where
+record IsOfPart (setup : Setup) (t : TaskTurn) (file : List ℕ) (calls : List Call) (parts : List Part) (text name : List ℕ) : Type 0 where
   part : Part
   there : IsIn part parts
   keyed : key_reading text ≡ Some part.key
@@ -57,7 +58,7 @@ filled_holds : (bytes : List ℕ) (held : Option (List ℕ)) → unwrap_or (opti
 filled_holds bytes None h = apart h
 filled_holds bytes (Some x) h = ap (λ (l : List ℕ). Some l) (sym ((bytes_eq-Decides bytes x).0 h))
 
-part_of_transfer : (setup : Setup) (t : ℕ) (file : List ℕ) (calls : List Call) (n : ℕ) (parts : List Part) (asked : List Asking) (a : Asking) (text name : List ℕ)
+part_of_transfer : (setup : Setup) (t : TaskTurn) (file : List ℕ) (calls : List Call) (n : ℕ) (parts : List Part) (asked : List Asking) (a : Asking) (text name : List ℕ)
     → AskInOrder (chunk_request setup t) n (map (λ (p : Part). p.key) parts) asked → are_whole setup t file calls n parts asked ≡ true → IsIn a asked → a.request ≡ Some (Transfer true text name)
     → IsOfPart setup t file calls parts text name
 part_of_transfer setup t file calls n parts [] a text name h w k e = absurd k
@@ -97,7 +98,7 @@ all_filtered p q (x ∷ xs) h = by_test (q x) (and_parts (p x) (list_all p xs) h
     by_test true one rest = rw (one, rest) refl
     by_test false one rest = rest
 
-range_sent : (setup : Setup) (t : ℕ) (file content : List ℕ) (calls : List Call) (parts : List Part) (text name : List ℕ) → Shows file content calls → (p : IsOfPart setup t file calls parts text name)
+range_sent : (setup : Setup) (t : TaskTurn) (file content : List ℕ) (calls : List Call) (parts : List Part) (text name : List ℕ) → Shows file content calls → (p : IsOfPart setup t file calls parts text name)
     → appended name calls ≡ slice_range content p.part.from p.part.to
 range_sent setup t file content calls parts text name shows p =
     let reads : List (ℕ × List ℕ) = reads_between file p.part.from p.part.to calls in
@@ -112,7 +113,7 @@ range_sent setup t file content calls parts text name shows p =
     ∙ ap (λ (n : ℕ). take n (drop p.part.from content)) p.long
 
 -- a request that is kept among the transfers follows a question whose chunk wasn't there
-one_missing : (setup : Setup) (t : ℕ) (key : Parts) (file : List ℕ) (asked : List Asking) (calls : List Call) (noted : List Noting) (a : Asking) (text name : List ℕ) → ChunkStoreAsks setup t key file asked calls noted
+one_missing : (setup : Setup) (t : TaskTurn) (key : Parts) (file : List ℕ) (asked : List Asking) (calls : List Call) (noted : List Noting) (a : Asking) (text name : List ℕ) → ChunkStoreAsks setup t key file asked calls noted
     → IsIn a (transfers asked) → a.request ≡ Some (Transfer true text name)
     → are_whole setup t file calls (questions asked + 1) (missing_parts key setup.chunk asked) (transfers asked) ≡ true
 one_missing setup t key file asked calls noted a text name s k e = by_case (or_cases (nat_lt (found asked) (questions asked)) (list_all (λ (b : Asking). not (is_some b.request)) (transfers asked)) s.only_missing)
@@ -129,7 +130,7 @@ one_missing setup t key file asked calls noted a text name s k e = by_case (or_c
         let P : Option HostMessage → Type 0 = λ o. not (is_some o) ≡ true in
         apart (subst P e (all_in (λ (b : Asking). not (is_some b.request)) (transfers asked) a none k))
 
-pub chunk_ranges : (setup : Setup) (t : ℕ) (key : Parts) (file content : List ℕ) (asked : List Asking) (calls : List Call) (noted : List Noting) (a : Asking) (text name : List ℕ)
+pub chunk_ranges : (setup : Setup) (t : TaskTurn) (key : Parts) (file content : List ℕ) (asked : List Asking) (calls : List Call) (noted : List Noting) (a : Asking) (text name : List ℕ)
     → ChunkStoreAsks setup t key file asked calls noted → Shows file content calls → IsIn a asked → a.request ≡ Some (Transfer true text name) → IsRangeSent setup key content calls text name
 chunk_ranges setup t key file content asked calls noted a text name s shows k e =
     let P : List Asking → Type 0 = λ xs. IsIn a xs in
@@ -151,7 +152,7 @@ chunk_ranges setup t key file content asked calls noted a text name s shows k e 
 
 -- ---- of a whole run
 
-pub store_asks : (task : Task) (t : ℕ) (setup : Setup) (layouts : List (ℕ × ℕ)) (asked : List Asking) (calls : List Call) (noted : List Noting) (answer : Answer) (key : Parts)
+pub store_asks : (task : Task) (t : TaskTurn) (setup : Setup) (layouts : List (ℕ × ℕ)) (asked : List Asking) (calls : List Call) (noted : List Noting) (answer : Answer) (key : Parts)
     → key_reading task.key ≡ Some key → task.work ≡ W.Store → is_chunked setup key ≡ true → TaskRun task t setup layouts asked calls noted answer → ChunkStoreAsks setup t key task.file asked calls noted
 store_asks task t setup layouts asked calls noted answer key e work chunked r =
     let P : Option Parts → Type 0 = λ o. IfSome o (λ k. RunOf setup t task k layouts asked calls noted answer) in
@@ -166,7 +167,7 @@ chunks_are_ranges task t setup layouts asked calls noted answer key content a te
     chunk_ranges setup t key task.file content asked calls noted a text file (store_asks task t setup layouts asked calls noted answer key e work chunked r) shows (is_in a asked there) of
 
 -- the content has the size that the key says
-pub content_long : (setup : Setup) (t size : ℕ) (key : Parts) (file content : List ℕ) (asked : List Asking) (calls : List Call) (noted : List Noting) → key.size ≡ Some size → ChunkStoreAsks setup t key file asked calls noted
+pub content_long : (setup : Setup) (t : TaskTurn) (size : ℕ) (key : Parts) (file content : List ℕ) (asked : List Asking) (calls : List Call) (noted : List Noting) → key.size ≡ Some size → ChunkStoreAsks setup t key file asked calls noted
     → Shows file content calls → asked ≢ [] → length content ≡ size
 content_long setup t size key file content asked calls noted sized s shows some = by_calls calls (s.fits some) shows.lengths
   where

@@ -20,6 +20,7 @@ use Rattle.task_text.specs.declared.task.Work.{Work}
 use Rattle.task_text.specs.declared.task.Work.TheVariants as W
 use Rattle.task_run.specs.Askers.{Asking, Noting}
 use Rattle.task_run.specs.declared.setup.Setup.{Setup}
+use Rattle.task_run.specs.declared.turn.TaskTurn.{TaskTurn}
 use Rattle.task_run.specs.Stops.{verdict_stop, asking_stop, result_stop, call_stop, stops_of, AnsweredBy, is_done, is_done_at, is_question, is_store, failed_at, last_failed}
 use Rattle.task_run.specs.Names.{part_of}
 use Rattle.task_run.specs.Layouts.{chunk_sizes, sizes_tried, layouts_tried, keys_of_layout, parts_of_layout}
@@ -195,7 +196,7 @@ layout_within key size chunk = by_test (chunk == 0)
     by_test true = let one : nat_le size size ≡ true = le-leb _ _ (omega arith) in rw one refl
     by_test false = ends_within key size chunk 1 (count_of size chunk)
 
-not_short : {B : Type 0} (setup : Setup) (t size : ℕ) (file : List ℕ) (asked : List Asking) (calls : List Call) (parts : List Part) (answer : Answer)
+not_short : {B : Type 0} (setup : Setup) (t : TaskTurn) (size : ℕ) (file : List ℕ) (asked : List Asking) (calls : List Call) (parts : List Part) (answer : Answer)
     → list_all (λ (p : Part). nat_le p.to size) parts ≡ true → list_all (is_read_within (Some size)) (reads_of file calls) ≡ true
     → IsShort setup t file asked calls parts answer → B
 not_short setup t size file asked calls [] answer h k s = absurd s
@@ -212,7 +213,7 @@ first_lengths key file (call ∷ more) h = by_case (length_found file call) h
     by_case None k = refl
     by_case (Some n) k = let one : is_size key.size n ≡ true = (and_parts (is_size key.size n) (list_all (is_size key.size) (filter_map (length_found file) more)) k).0 in rw one refl
 
-chunks_stored : (setup : Setup) (t size : ℕ) (key : Parts) (file : List ℕ) (asked : List Asking) (calls : List Call) (noted : List Noting) (answer : Answer)
+chunks_stored : (setup : Setup) (t : TaskTurn) (size : ℕ) (key : Parts) (file : List ℕ) (asked : List Asking) (calls : List Call) (noted : List Noting) (answer : Answer)
     → key.size ≡ Some size → list_all (is_asked_well W.Store) asked ≡ true → IsFileWhole key file calls
     → ChunkStoreAnswers setup t key file asked calls noted answer → answer ≡ A.Stored
 chunks_stored setup t size key file asked calls noted answer sized h whole r =
@@ -239,7 +240,7 @@ chunks_stored setup t size key file asked calls noted answer sized h whole r =
     by_tests true false f e = short e
     by_tests false c f e = length_fits key (lengths_found file (take 1 calls)) answer (first_lengths key file calls whole.lengths) f e
 
-store_well : (setup : Setup) (t : ℕ) (task : Task) (key : Parts) (asked : List Asking) (calls : List Call) (noted : List Noting) (answer : Answer)
+store_well : (setup : Setup) (t : TaskTurn) (task : Task) (key : Parts) (asked : List Asking) (calls : List Call) (noted : List Noting) (answer : Answer)
     → list_all (is_asked_well W.Store) asked ≡ true → IsFileWhole key task.file calls
     → MatchBool (is_chunked setup key) (ChunkStoreAnswers setup t key task.file asked calls noted answer) (PlainStoreAnswers key task.file asked calls answer) → answer ≡ A.Stored
 store_well setup t task key asked calls noted answer h whole r = by_size key.size (not (setup.chunk == 0)) refl r
@@ -323,7 +324,7 @@ said_fits key bytes (A.Unknown at) s f = absurd s
 said_fits key bytes (A.NotPrepared at) s f = absurd s
 said_fits key bytes (A.Ended why) s f = absurd s
 
-get_well : (work : Work) (setup : Setup) (t : ℕ) (key : Parts) (sizes : List ℕ) (file : List ℕ) (asked : List Asking) (calls : List Call) (answer : Answer)
+get_well : (work : Work) (setup : Setup) (t : TaskTurn) (key : Parts) (sizes : List ℕ) (file : List ℕ) (asked : List Asking) (calls : List Call) (answer : Answer)
     → list_all (is_asked_well work) asked ≡ true → IsSentWell setup t key sizes file asked calls → GetAnswers setup t key sizes file asked calls answer → answer ≡ A.Got
 get_well work setup t key sizes file asked calls answer h sent r = by_test (failures asked == length sizes) r.answered
   where
@@ -340,7 +341,7 @@ get_well work setup t key sizes file asked calls answer h sent r = by_test (fail
 
 -- ---- any task
 
-work_well : (setup : Setup) (t : ℕ) (task : Task) (key : Parts) (layouts : List (ℕ × ℕ)) (work : Work) (asked : List Asking) (calls : List Call) (noted : List Noting) (answer : Answer)
+work_well : (setup : Setup) (t : TaskTurn) (task : Task) (key : Parts) (layouts : List (ℕ × ℕ)) (work : Work) (asked : List Asking) (calls : List Call) (noted : List Noting) (answer : Answer)
     → list_all (is_asked_well work) asked ≡ true → IsFoundWell setup t task key layouts work asked calls → WorkAnswers setup t task key layouts work asked calls noted answer
     → answer ≡ success_of work
 work_well setup t task key layouts W.Store asked calls noted answer h f r = store_well setup t task key asked calls noted answer h f r
@@ -353,7 +354,7 @@ work_well setup t task key layouts W.XCheck asked calls noted answer h f r = che
 work_well setup t task key layouts W.XDrop asked calls noted answer h f r = export_done W.XDrop A.Dropped asked answer h r
 work_well setup t task key layouts W.XRename asked calls noted answer h f r = export_done W.XRename A.Renamed asked answer h r
 
-pub run_well : (setup : Setup) (t : ℕ) (task : Task) (key : Parts) (layouts : List (ℕ × ℕ)) (asked : List Asking) (calls : List Call) (noted : List Noting) (answer : Answer)
+pub run_well : (setup : Setup) (t : TaskTurn) (task : Task) (key : Parts) (layouts : List (ℕ × ℕ)) (asked : List Asking) (calls : List Call) (noted : List Noting) (answer : Answer)
     → WentWell setup t task key layouts asked calls → RunOf setup t task key layouts asked calls noted answer → IsSuccess task.work answer
 run_well setup t task key layouts asked calls noted answer w r =
     by_end (ended answer (WorkAnswers setup t task key layouts task.work asked calls noted answer) (subst P none r.answered))
@@ -406,7 +407,7 @@ call_refused part (Cut name size answer) = result_refused false answer
 call_refused part (Rename from to answer) = result_refused false answer
 call_refused part (Remove name answer) = result_refused (bytes_eq name part) answer
 
-run_unless_refused : (setup : Setup) (t : ℕ) (task : Task) (key : Parts) (layouts : List (ℕ × ℕ)) (asked : List Asking) (calls : List Call) (noted : List Noting) (answer : Answer)
+run_unless_refused : (setup : Setup) (t : TaskTurn) (task : Task) (key : Parts) (layouts : List (ℕ × ℕ)) (asked : List Asking) (calls : List Call) (noted : List Noting) (answer : Answer)
     → list_all (is_asked_well task.work) asked ≡ true → IsFoundWell setup t task key layouts task.work asked calls → RunOf setup t task key layouts asked calls noted answer
     → IsSuccess task.work answer ⊎ (is_of_content answer ≡ false)
 run_unless_refused setup t task key layouts asked calls noted answer h f r =

@@ -7,21 +7,22 @@ use Rattle.journal_model.specs.declared.entry.What.{What}
 use Rattle.journal_model.specs.declared.entry.What.TheVariants.{Ask}
 use Rattle.journal_model.specs.declared.entry.Entry.{Entry}
 use Rattle.journal_model.specs.Journal.{verdict_of, addressed}
-use Rattle.journal_model.specs.Legality.{is_done}
+use Rattle.journal_model.specs.Legality.{is_done, turn_of_task}
+use Rattle.task_run.specs.declared.turn.TaskTurn.{TaskTurn}
 
 -- ---- requests
 
--- a request, by its place, its child and job there, and its task
+-- a request, by its place, its child and job there, and the turn of the task that asked it
 pub record Request : Type 0 where
   pub at : ℕ
   pub child : ℕ
   pub job : ℕ
-  pub task : ℕ
+  pub turn : TaskTurn
   pub asks : HostMessage
 
 -- the request of an entry after past
 abbrev pub request_in : List Entry → What → Option Request
-request_in past (Ask child job task line) = option_map (λ q. record { at = length past; child = child; job = job; task = task; asks = q }) (host_reading (addressed past child line).1)
+request_in past (Ask child job task line) = option_map (λ q. record { at = length past; child = child; job = job; turn = record { task = task; turn = turn_of_task past task }; asks = q }) (host_reading (addressed past child line).1)
 request_in past w = None
 
 abbrev pub requests_from : List Entry → List Entry → List Request

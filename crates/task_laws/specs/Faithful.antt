@@ -11,24 +11,25 @@ use Rattle.journal_model.specs.Legality.{task_of}
 use Rattle.task_text.specs.declared.task.Task.{Task}
 use Rattle.task_run.specs.Askers.{Asking}
 use Rattle.task_run.specs.declared.setup.Setup.{Setup}
+use Rattle.task_run.specs.declared.turn.TaskTurn.{TaskTurn}
 use Rattle.task_run.specs.Reads.{holds}
 use Rattle.task_run.specs.Runs.{is_chunked}
 use Rattle.task_laws.specs.Changes.{Request, Retrieves}
 use Rattle.task_laws.specs.Contents.{Shows}
 
--- What is told of the desks of a run's tasks: the calls of each task, the files of its desk before the first of them, and those after the
--- last.
+-- What is told of the desks of a run's tasks: the calls of each turn of a task, the files of its desk before the first of them, and those
+-- after the last.
 pub record Told : Type 0 where
-  pub calls : ℕ → List Call
-  pub before : ℕ → Files
-  pub after : ℕ → Files
+  pub calls : TaskTurn → List Call
+  pub before : TaskTurn → Files
+  pub after : TaskTurn → Files
 
--- the task's calls made the files after them of those before them
-abbrev pub IsPlayed : Told → ℕ → Type 0
+-- the turn's calls made the files after them of those before them
+abbrev pub IsPlayed : Told → TaskTurn → Type 0
 IsPlayed told t = Played (told.calls t) (told.before t) (told.after t)
 
--- At a desk that had these files at first and those at last, these tasks were done, one after the other, and nothing else.
-abbrev pub AreInTurn : Told → List ℕ → Files → Files → Type 0
+-- At a desk that had these files at first and those at last, these turns of tasks were run, one after the other, and nothing else.
+abbrev pub AreInTurn : Told → List TaskTurn → Files → Files → Type 0
 AreInTurn told [] old new = AllStay old new
 AreInTurn told (t ∷ more) old new = AllStay old (told.before t) × IsPlayed told t × AreInTurn told more (told.after t) new
 
@@ -46,25 +47,25 @@ is_chunking setup (Some task) = of_key (key_reading task.key)
     of_key None = false
     of_key (Some key) = is_chunked setup key
 
--- What a STORE sent: of a chunk what the file that it names holds by the task's calls, and nothing where they don't say; else what the
--- task's desk held as that file before the task.
+-- What a STORE sent: of a chunk what the file that it names holds by the calls of its task's turn, and nothing where they don't say; else
+-- what that turn's desk held as that file before them.
 abbrev pub sent : Opening → Setup → Told → Request → List ℕ
 sent o setup told s =
-    if is_chunking setup (task_of o s.task) then unwrap_or (holds (file_named s.asks) None (told.calls s.task)) []
-    else unwrap_or (content (file_named s.asks) (told.before s.task)) []
+    if is_chunking setup (task_of o s.turn.task) then unwrap_or (holds (file_named s.asks) None (told.calls s.turn)) []
+    else unwrap_or (content (file_named s.asks) (told.before s.turn)) []
 
 -- What each retrieved key's file shows is what the STORE before it sent.
 abbrev pub IsFaithful : Opening → Setup → Told → List Entry → Type 0
 IsFaithful o setup told journal =
-    (r s : Request) (key file : List ℕ) → Retrieves journal r s key file → Shows file (sent o setup told s) (told.calls r.task)
+    (r s : Request) (key file : List ℕ) → Retrieves journal r s key file → Shows file (sent o setup told s) (told.calls r.turn)
 
--- a request of task t retrieved a key that s stored
-abbrev pub IsStoredFor : List Entry → ℕ → Option HostMessage → Request → Type 0
-IsStoredFor journal t (Some (Transfer false key file)) s = (r : Request) × (r.task ≡ t) × Retrieves journal r s key file
+-- a request of this turn retrieved a key that s stored
+abbrev pub IsStoredFor : List Entry → TaskTurn → Option HostMessage → Request → Type 0
+IsStoredFor journal t (Some (Transfer false key file)) s = (r : Request) × (r.turn ≡ t) × Retrieves journal r s key file
 IsStoredFor journal t request s = ⊥
 
--- these requests of task t retrieved keys that those stored, one by one
-abbrev pub AreStoredFor : List Entry → ℕ → List Asking → List Request → Type 0
+-- these requests of the turn retrieved keys that those stored, one by one
+abbrev pub AreStoredFor : List Entry → TaskTurn → List Asking → List Request → Type 0
 AreStoredFor journal t [] [] = Unit {0}
 AreStoredFor journal t (a ∷ more) (s ∷ stores) = IsStoredFor journal t a.request s × AreStoredFor journal t more stores
 AreStoredFor journal t asked stores = ⊥

@@ -11,6 +11,7 @@ use Rattle.journal_model.specs.declared.answer.Answer.TheVariants.{Got}
 use Rattle.task_text.specs.declared.task.Task.{Task}
 use Rattle.task_run.specs.Askers.{Asking, Noting}
 use Rattle.task_run.specs.declared.setup.Setup.{Setup}
+use Rattle.task_run.specs.declared.turn.TaskTurn.{TaskTurn}
 use Rattle.task_run.specs.Names.{part_of}
 use Rattle.task_run.specs.Gets.{checked, since_begin}
 use Rattle.task_run.specs.Reads.{is_call_of}
@@ -20,14 +21,14 @@ use Rattle.task_laws.specs.Contents.{Shows}
 use Rattle.task_laws.specs.Kept.{is_afresh}
 
 -- the file holds what was checked, which fits the key
-pub record HoldsChecked (setup : Setup) (t : ℕ) (key : Parts) (sizes : List ℕ) (file : List ℕ) (asked : List Asking) (calls : List Call) (new : Files) : Type 0 where
+pub record HoldsChecked (setup : Setup) (t : TaskTurn) (key : Parts) (sizes : List ℕ) (file : List ℕ) (asked : List Asking) (calls : List Call) (new : Files) : Type 0 where
   pub holds : content file new ≡ Some (checked setup t file sizes asked calls)
   pub fits : FitsKey key (checked setup t file sizes asked calls)
 
 -- Whatever its file and part held before: a get that is answered Got leaves in its file what it checked, which fits the key.
 abbrev pub GotHolds : Type 0
 GotHolds =
-    (task : Task) (t : ℕ) (setup : Setup) (layouts : List (ℕ × ℕ)) (asked : List Asking) (calls : List Call) (noted : List Noting) (key : Parts) (old new : Files)
+    (task : Task) (t : TaskTurn) (setup : Setup) (layouts : List (ℕ × ℕ)) (asked : List Asking) (calls : List Call) (noted : List Noting) (key : Parts) (old new : Files)
     → key_reading task.key ≡ Some key → TaskRun task t setup layouts asked calls noted Got → Played calls old new
     → HoldsChecked setup t key (sizes_got task.work key layouts) task.file asked calls new
 
@@ -59,6 +60,6 @@ pub record HasNoPart (file : List ℕ) (calls : List Call) (old : Files) : Type 
 -- A get that is answered Got and had no part began afresh.
 abbrev pub NoPartIsAfresh : Type 0
 NoPartIsAfresh =
-    (task : Task) (t : ℕ) (setup : Setup) (layouts : List (ℕ × ℕ)) (asked : List Asking) (calls : List Call) (noted : List Noting) (key : Parts) (old new : Files)
+    (task : Task) (t : TaskTurn) (setup : Setup) (layouts : List (ℕ × ℕ)) (asked : List Asking) (calls : List Call) (noted : List Noting) (key : Parts) (old new : Files)
     → key_reading task.key ≡ Some key → TaskRun task t setup layouts asked calls noted Got → Played calls old new → HasNoPart task.file calls old
     → is_afresh (sizes_got task.work key layouts) task.file asked calls ≡ true

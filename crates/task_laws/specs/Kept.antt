@@ -11,6 +11,7 @@ use Rattle.task_text.specs.declared.task.Work.{Work}
 use Rattle.task_text.specs.declared.task.Work.TheVariants.{XGet}
 use Rattle.task_run.specs.Askers.{Asking, Noting}
 use Rattle.task_run.specs.declared.setup.Setup.{Setup}
+use Rattle.task_run.specs.declared.turn.TaskTurn.{TaskTurn}
 use Rattle.task_run.specs.Names.{part_of}
 use Rattle.task_run.specs.Layouts.{keys_of_layout}
 use Rattle.task_run.specs.Requests.{AskInOrder}
@@ -22,7 +23,7 @@ use Rattle.task_run.specs.RunLaws.{sizes_got}
 use Rattle.task_laws.specs.Contents.{AreFetched}
 
 -- the request that fetches: under a name it says so
-abbrev pub fetch_of : Work → Setup → ℕ → ℕ → List ℕ → HostMessage
+abbrev pub fetch_of : Work → Setup → TaskTurn → ℕ → List ℕ → HostMessage
 fetch_of XGet setup t n key = fetch_export setup t n key
 fetch_of work setup t n key = fetch_request setup t n key
 
@@ -37,7 +38,7 @@ is_afresh sizes file asked calls = is_plain_last sizes asked || list_all (λ n. 
 -- The last layout's keys were asked for in their order, each into a file of its own. These contents, one after the other, were appended
 -- to part since it was begun, and are all that was checked; they fit the key. Where all that was found of part is so, whatever it held
 -- before the task, they are all that it holds in the end. Then it was renamed to the file.
-pub record Keeps (work : Work) (setup : Setup) (t : ℕ) (key : Parts) (sizes : List ℕ) (file : List ℕ) (asked : List Asking) (calls : List Call) (contents : List (List ℕ)) : Type 0 where
+pub record Keeps (work : Work) (setup : Setup) (t : TaskTurn) (key : Parts) (sizes : List ℕ) (file : List ℕ) (asked : List Asking) (calls : List Call) (contents : List (List ℕ)) : Type 0 where
   pub all : length (asked_last asked) ≡ length (keys_of_layout key (chunk_last sizes asked))
   pub in_order : AskInOrder (fetch_of work setup t) (first_asked asked) (keys_of_layout key (chunk_last sizes asked)) (asked_last asked)
   pub appended_are : appended (part_of file) (since_begin file calls) ≡ concat contents
@@ -49,7 +50,7 @@ pub record Keeps (work : Work) (setup : Setup) (t : ℕ) (key : Parts) (sizes : 
 -- A get that began afresh and is answered Got keeps what the files of its last layout hold.
 abbrev pub GotKeeps : Type 0
 GotKeeps =
-    (task : Task) (t : ℕ) (setup : Setup) (layouts : List (ℕ × ℕ)) (asked : List Asking) (calls : List Call) (noted : List Noting) (key : Parts) (contents : List (List ℕ))
+    (task : Task) (t : TaskTurn) (setup : Setup) (layouts : List (ℕ × ℕ)) (asked : List Asking) (calls : List Call) (noted : List Noting) (key : Parts) (contents : List (List ℕ))
     → key_reading task.key ≡ Some key → TaskRun task t setup layouts asked calls noted Got
     → is_afresh (sizes_got task.work key layouts) task.file asked calls ≡ true → AreFetched setup t calls (first_asked asked) (asked_last asked) contents
     → Keeps task.work setup t key (sizes_got task.work key layouts) task.file asked calls contents

@@ -12,7 +12,7 @@ use Rattle.journal_model.specs.Legality.{task_of}
 use Rattle.journal_model.specs.Shares.{is_closed}
 use Rattle.task_text.specs.declared.task.Task.{Task}
 use Rattle.task_run.specs.declared.setup.Setup.{Setup}
-use Rattle.task_run.specs.Askings.{run_askings}
+use Rattle.task_run.specs.Askings.{run_askings, run_turn}
 use Rattle.task_run.specs.TaskRuns.{refused_at}
 use Rattle.gathering.specs.JournalRuns.{JournalRun}
 use Rattle.lone_work.specs.Works.{TaskDone}
@@ -59,10 +59,10 @@ NoneWithoutChild = (limit : ℕ) (journal : List Entry) (t : ℕ) → 0 < limit 
 abbrev pub AreKeysRead : Opening → Type 0
 AreKeysRead o = (t : ℕ) (task : Task) → task_of o t ≡ Some task → is_some (key_reading task.key) ≡ true
 
--- in each run of the task by this number with these calls, all went well at its desk
-abbrev pub IsDeskWell : Opening → Setup → List Entry → ℕ → ℕ → List Call → Type 0
-IsDeskWell o setup journal number t calls =
-    (run : JournalRun o setup calls number t journal) (key : Parts) → key_reading run.task.key ≡ Some key → DeskWentWell setup t run.task key run.layouts (run_askings run.run) calls
+-- in each run of this turn of the task by this number with these calls, all went well at its desk
+abbrev pub IsDeskWell : Opening → Setup → List Entry → ℕ → ℕ → ℕ → List Call → Type 0
+IsDeskWell o setup journal number t k calls =
+    (run : JournalRun o setup calls number t k journal) (key : Parts) → key_reading run.task.key ≡ Some key → DeskWentWell setup (run_turn run.run) run.task key run.layouts (run_askings run.run) calls
 
 -- A start was allowed, all went well with the children and at the desk, and each request of a task was done; what a store asks before it
 -- stores may be answered in any way.
@@ -71,7 +71,7 @@ pub record WentWellAlone (o : Opening) (setup : Setup) (limit : ℕ) (journal : 
   pub keys : AreKeysRead o
   pub children : ChildrenWell journal
   pub asked : AreAskedWell o journal
-  pub desks : All (λ r. IsDeskWell o setup journal 0 r.task r.calls) done
+  pub desks : All (λ r. IsDeskWell o setup journal 0 r.task r.turn r.calls) done
 
 -- the task is answered by its success, or says that memory ran out
 abbrev pub IsDoneWell : Opening → TaskDone → Type 0

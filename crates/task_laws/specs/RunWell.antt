@@ -9,14 +9,15 @@ use Rattle.journal_model.specs.declared.opening.Opening.{Opening}
 use Rattle.journal_model.specs.Legality.{task_of}
 use Rattle.task_text.specs.declared.task.Task.{Task}
 use Rattle.task_run.specs.declared.setup.Setup.{Setup}
-use Rattle.task_run.specs.Askings.{askings, run_askings}
+use Rattle.task_run.specs.Askings.{askings, run_askings, run_turn}
 use Rattle.gathering.specs.JournalRuns.{JournalRun}
 use Rattle.task_laws.specs.WentWell.{is_asked_well, DeskWentWell, IsSuccess}
 
--- a task that was done: by which number, its desk's calls, and its answer
+-- a run of a task: by which number, which turn of it, its desk's calls, and its answer
 pub record TaskDone : Type 0 where
   pub number : ℕ
   pub task : ℕ
+  pub turn : ℕ
   pub calls : List Call
   pub answer : Answer
 
@@ -26,11 +27,11 @@ AreAskedWell o journal = (t : ℕ) (task : Task) → task_of o t ≡ Some task �
 
 -- The journal has this run, and all went well at its desk.
 pub record RanWell (o : Opening) (setup : Setup) (journal : List Entry) (r : TaskDone) : Type 0 where
-  pub run : JournalRun o setup r.calls r.number r.task journal
+  pub run : JournalRun o setup r.calls r.number r.task r.turn journal
   pub answer_is : run.run.answer ≡ r.answer
   pub key : Parts
   pub keyed : key_reading run.task.key ≡ Some key
-  pub desk : DeskWentWell setup r.task run.task key run.layouts (run_askings run.run) r.calls
+  pub desk : DeskWentWell setup (run_turn run.run) run.task key run.layouts (run_askings run.run) r.calls
 
 -- it is answered by its success, or says that memory ran out
 abbrev pub IsSucceeded : Opening → TaskDone → Type 0

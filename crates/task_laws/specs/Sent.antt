@@ -10,6 +10,7 @@ use Rattle.task_text.specs.declared.task.Task.{Task}
 use Rattle.task_text.specs.declared.task.Work.TheVariants as W
 use Rattle.task_run.specs.Askers.{Asking, Noting}
 use Rattle.task_run.specs.declared.setup.Setup.{Setup}
+use Rattle.task_run.specs.declared.turn.TaskTurn.{TaskTurn}
 use Rattle.task_run.specs.Layouts.{parts_of_layout}
 use Rattle.task_run.specs.Reads.{holds}
 use Rattle.task_run.specs.Runs.{TaskRun, is_chunked}
@@ -25,7 +26,7 @@ pub record IsRangeSent (setup : Setup) (key : Parts) (content : List ℕ) (calls
 -- Whatever its file's content, as its calls show it: a store in chunks stores each chunk from a file that holds the chunk's range of it.
 abbrev pub ChunksAreRanges : Type 0
 ChunksAreRanges =
-    (task : Task) (t : ℕ) (setup : Setup) (layouts : List (ℕ × ℕ)) (asked : List Asking) (calls : List Call) (noted : List Noting) (answer : Answer) (key : Parts) (content : List ℕ)
+    (task : Task) (t : TaskTurn) (setup : Setup) (layouts : List (ℕ × ℕ)) (asked : List Asking) (calls : List Call) (noted : List Noting) (answer : Answer) (key : Parts) (content : List ℕ)
     (a : Asking) (text file : List ℕ)
     → key_reading task.key ≡ Some key → task.work ≡ W.Store → is_chunked setup key ≡ true → TaskRun task t setup layouts asked calls noted answer
     → Shows task.file content calls → Contains asked a → a.request ≡ Some (Transfer true text file) → IsRangeSent setup key content calls text file

@@ -1,15 +1,20 @@
--- What is told of the tasks of one desk, and what its files hold in the end.
+-- What is told of the runs of one desk, and what its files hold in the end.
 use Rattle.std.specs.Prelude.{ℕ, ◌≡◌, List, ◌∷◌, ◌++◌, map, All, Option, Some, None}
 use Rattle.ann_outside.specs.Calls.{Log}
 use Rattle.ann_outside.specs.Files.{Files, content}
 use Rattle.lone_work.specs.Works.{TaskDone}
 use Rattle.task_laws.specs.Faithful.{Told, IsPlayed, AreInTurn}
 use Rattle.task_laws.specs.Retrieval.{AllLeave}
+use Rattle.task_run.specs.declared.turn.TaskTurn.{TaskTurn}
 
--- each of the tasks made the calls that are told of it, and one after the other they made the new files of the old ones
+-- the turn of a task that was run
+abbrev pub turn_done : TaskDone → TaskTurn
+turn_done r = record { task = r.task; turn = r.turn }
+
+-- each of the runs made the calls that are told of it, and one after the other they made the new files of the old ones
 pub record AreToldSo (told : Told) (done : List TaskDone) (old new : Files) : Type 0 where
-  pub calls : All (λ (r : TaskDone). told.calls r.task ≡ r.calls) done
-  pub turn : AreInTurn told (map (λ (r : TaskDone). r.task) done) old new
+  pub calls : All (λ (r : TaskDone). told.calls (turn_done r) ≡ r.calls) done
+  pub turn : AreInTurn told (map turn_done done) old new
 
 -- so it is where the files at first and in the end are told
 abbrev pub AreToldFrom : Told → List TaskDone → Option Files → Option Files → Type 0
@@ -22,10 +27,10 @@ abbrev pub IsToldAt : Told → List TaskDone → Option Log → Option Files →
 IsToldAt told done None files = Unit {0}
 IsToldAt told done (Some log) files = AreToldFrom told done log.origin files
 
--- The calls of each of a desk's tasks were played on its files, and what a file holds after one it holds in the end, where each later one
+-- The calls of each of a desk's runs were played on its files, and what a file holds after one it holds in the end, where each later one
 -- leaves it as it is.
 abbrev pub DeskHolds : Type 0
 DeskHolds =
     (told : Told) (earlier later : List TaskDone) (r : TaskDone) (old new : Files) → AreToldSo told (earlier ++ r ∷ later) old new
-    → IsPlayed told r.task
-    × ((name bytes : List ℕ) → content name (told.after r.task) ≡ Some bytes → AllLeave told name (map (λ (d : TaskDone). d.task) later) → content name new ≡ Some bytes)
+    → IsPlayed told (turn_done r)
+    × ((name bytes : List ℕ) → content name (told.after (turn_done r)) ≡ Some bytes → AllLeave told name (map turn_done later) → content name new ≡ Some bytes)

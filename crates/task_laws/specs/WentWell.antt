@@ -16,6 +16,7 @@ use Rattle.task_text.specs.declared.task.Work.{Work}
 use Rattle.task_text.specs.declared.task.Work.TheVariants as W
 use Rattle.task_run.specs.Askers.{Asking, Noting}
 use Rattle.task_run.specs.declared.setup.Setup.{Setup}
+use Rattle.task_run.specs.declared.turn.TaskTurn.{TaskTurn}
 use Rattle.task_run.specs.Stops.{is_done, is_question, is_store}
 use Rattle.task_run.specs.Names.{part_of}
 use Rattle.task_run.specs.Layouts.{sizes_tried}
@@ -83,17 +84,17 @@ pub record IsFileWhole (key : Parts) (file : List ℕ) (calls : List Call) : Typ
   pub reads : list_all (is_read_within key.size) (reads_of file calls) ≡ true
 
 -- all that the last layout asks for is there, and was read, and so was all of it that part held
-pub record HasReadAll (setup : Setup) (t : ℕ) (key : Parts) (sizes : List ℕ) (file : List ℕ) (asked : List Asking) (calls : List Call) : Type 0 where
+pub record HasReadAll (setup : Setup) (t : TaskTurn) (key : Parts) (sizes : List ℕ) (file : List ℕ) (asked : List Asking) (calls : List Call) : Type 0 where
   pub done : count_by is_done (asked_last asked) ≡ length (parts_last key sizes (lengths_at_begin file calls) asked)
   pub held : (is_plain_last sizes asked || is_reading 0 (end_held key sizes (lengths_at_begin file calls) asked) (held_reads file calls)) ≡ true
   pub fetched : are_read_whole setup t calls (first_asked asked) (asked_last asked) ≡ true
 
 -- Each file that was fetched has the length that its range asks for. What was read in all, once that is whole, fits the key.
-pub record IsSentWell (setup : Setup) (t : ℕ) (key : Parts) (sizes : List ℕ) (file : List ℕ) (asked : List Asking) (calls : List Call) : Type 0 where
+pub record IsSentWell (setup : Setup) (t : TaskTurn) (key : Parts) (sizes : List ℕ) (file : List ℕ) (asked : List Asking) (calls : List Call) : Type 0 where
   pub lengths : wrong_lengths setup t key.size calls (first_asked asked) (parts_last key sizes (lengths_at_begin file calls) asked) ≡ []
   pub fits : HasReadAll setup t key sizes file asked calls → FitsKey key (checked setup t file sizes asked calls)
 
-abbrev pub IsFoundWell : Setup → ℕ → Task → Parts → List (ℕ × ℕ) → Work → List Asking → List Call → Type 0
+abbrev pub IsFoundWell : Setup → TaskTurn → Task → Parts → List (ℕ × ℕ) → Work → List Asking → List Call → Type 0
 IsFoundWell setup t task key layouts W.Store asked calls = IsFileWhole key task.file calls
 IsFoundWell setup t task key layouts W.Get asked calls = IsSentWell setup t key (sizes_tried key layouts) task.file asked calls
 IsFoundWell setup t task key layouts W.Check asked calls = Unit {0}
@@ -107,12 +108,12 @@ IsFoundWell setup t task key layouts W.XRename asked calls = Unit {0}
 -- ---- a task that went well
 
 -- What its desk answered, and what was found there.
-pub record DeskWentWell (setup : Setup) (t : ℕ) (task : Task) (key : Parts) (layouts : List (ℕ × ℕ)) (asked : List Asking) (calls : List Call) : Type 0 where
+pub record DeskWentWell (setup : Setup) (t : TaskTurn) (task : Task) (key : Parts) (layouts : List (ℕ × ℕ)) (asked : List Asking) (calls : List Call) : Type 0 where
   pub called : list_all (is_called_well (part_of task.file)) calls ≡ true
   pub found : IsFoundWell setup t task key layouts task.work asked calls
 
 -- Each request was done, and all went well at its desk.
-pub record WentWell (setup : Setup) (t : ℕ) (task : Task) (key : Parts) (layouts : List (ℕ × ℕ)) (asked : List Asking) (calls : List Call) : Type 0 where
+pub record WentWell (setup : Setup) (t : TaskTurn) (task : Task) (key : Parts) (layouts : List (ℕ × ℕ)) (asked : List Asking) (calls : List Call) : Type 0 where
   pub asked_well : list_all (is_asked_well task.work) asked ≡ true
   pub desk : DeskWentWell setup t task key layouts asked calls
 
@@ -135,13 +136,13 @@ IsSuccess work answer = (answer ≡ success_of work) ⊎ (answer ≡ Memory)
 -- A task that went well from outside is answered by its success, or says that memory ran out.
 abbrev pub WellIsSuccess : Type 0
 WellIsSuccess =
-    (task : Task) (t : ℕ) (setup : Setup) (layouts : List (ℕ × ℕ)) (asked : List Asking) (calls : List Call) (noted : List Noting) (answer : Answer) (key : Parts)
+    (task : Task) (t : TaskTurn) (setup : Setup) (layouts : List (ℕ × ℕ)) (asked : List Asking) (calls : List Call) (noted : List Noting) (answer : Answer) (key : Parts)
     → key_reading task.key ≡ Some key → WentWell setup t task key layouts asked calls
     → TaskRun task t setup layouts asked calls noted answer → IsSuccess task.work answer
 
 -- Whatever its desk answered: a task whose requests were done, and which found what it should, is answered so, or by a call that was refused.
 abbrev pub WellUnlessRefused : Type 0
 WellUnlessRefused =
-    (task : Task) (t : ℕ) (setup : Setup) (layouts : List (ℕ × ℕ)) (asked : List Asking) (calls : List Call) (noted : List Noting) (answer : Answer) (key : Parts)
+    (task : Task) (t : TaskTurn) (setup : Setup) (layouts : List (ℕ × ℕ)) (asked : List Asking) (calls : List Call) (noted : List Noting) (answer : Answer) (key : Parts)
     → key_reading task.key ≡ Some key → list_all (is_asked_well task.work) asked ≡ true → IsFoundWell setup t task key layouts task.work asked calls
     → TaskRun task t setup layouts asked calls noted answer → IsSuccess task.work answer ⊎ (is_of_content answer ≡ false)

@@ -1,5 +1,5 @@
 // What a get leaves of what was stored before, where the remote is faithful. Each law is the contract of a function with nothing to do.
-ghost use Rattle.task_laws.specs.Retrieval.{KeepsStored, KeepsStoredContent, FileKeepsStored, FileKeepsContent, LastsToTheEnd};
+ghost use Rattle.task_laws.specs.Retrieval.{KeepsStored, KeepsStoredContent, FileKeepsStored, FileKeepsContent, LastsToTheEnd, AnsweredIsLast};
 ghost use Rattle.task_laws.specs.ToldDesks.{DeskHolds};
 
 /// With a faithful remote a get keeps, as its file, what the STOREs of its keys sent.
@@ -30,4 +30,9 @@ pub fn lasts_to_the_end()
 /// So it is of each task that a desk did, where it is told.
 pub fn desk_holds()
     ensures { DeskHolds }
+{}
+
+/// A run of a task whose child wasn't lost answers the task, and is its last one.
+pub fn answered_is_last()
+    ensures { AnsweredIsLast }
 {}

@@ -14,6 +14,7 @@ use Rattle.task_text.specs.declared.task.Task.{Task}
 use Rattle.task_text.specs.declared.task.Work.{Work}
 use Rattle.task_run.specs.Askers.{Asking, KeepsRequest, said_with}
 use Rattle.task_run.specs.declared.setup.Setup.{Setup}
+use Rattle.task_run.specs.declared.turn.TaskTurn.{TaskTurn}
 use Rattle.task_run.specs.Requests.{AsksFor, key_named}
 use Rattle.task_run.specs.Exports.{AsksOfName}
 use Rattle.task_run.specs.Runs.{RunOf, TaskRun}
@@ -24,7 +25,7 @@ abbrev pub with_work : Work → Task → Task
 with_work work task = record { work = work; key = task.key; file = task.file; name = task.name; onto = task.onto }
 
 -- a run of the task as one of its work is one of the task
-pub export_run : (work : Work) (task : Task) (t : ℕ) (setup : Setup) (layouts : List (ℕ × ℕ)) (asked : List Asking) (calls : List Call) (answer : Answer) → task.work ≡ work
+pub export_run : (work : Work) (task : Task) (t : TaskTurn) (setup : Setup) (layouts : List (ℕ × ℕ)) (asked : List Asking) (calls : List Call) (answer : Answer) → task.work ≡ work
     → ((key : Parts) → key_reading task.key ≡ Some key → RunOf setup t (with_work work task) key layouts asked calls [] answer) → TaskRun task t setup layouts asked calls [] answer
 export_run work task t setup layouts asked calls answer w h =
     let P : Work → Type 0 = λ x. TaskRun (with_work x task) t setup layouts asked calls [] answer in

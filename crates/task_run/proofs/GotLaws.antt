@@ -19,6 +19,7 @@ use Rattle.task_text.specs.declared.task.Work.{Work}
 use Rattle.task_text.specs.declared.task.Work.TheVariants as W
 use Rattle.task_run.specs.Askers.{Asking, Noting}
 use Rattle.task_run.specs.declared.setup.Setup.{Setup}
+use Rattle.task_run.specs.declared.turn.TaskTurn.{TaskTurn}
 use Rattle.task_run.specs.Stops.{verdict_stop, asking_stop, result_stop, call_stop, stops_of, AnsweredBy, is_done, failed_at, last_failed}
 use Rattle.task_run.specs.Names.{part_of}
 use Rattle.task_run.specs.Layouts.{sizes_tried, layouts_tried, parts_of_layout}
@@ -144,18 +145,18 @@ plain_store_other key file asked calls h = by_tests (fits_length key (lengths_fo
     by_tests true false e = never_failed asked e
     by_tests false c e = no_length (lengths_found file calls) e
 
-short_other : (setup : Setup) (t : ℕ) (file : List ℕ) (asked : List Asking) (calls : List Call) (parts : List Part) → IsShort setup t file asked calls parts A.Got → ⊥
+short_other : (setup : Setup) (t : TaskTurn) (file : List ℕ) (asked : List Asking) (calls : List Call) (parts : List Part) → IsShort setup t file asked calls parts A.Got → ⊥
 short_other setup t file asked calls [] h = h
 short_other setup t file asked calls (part ∷ more) h = let e : A.Got ≡ _ = h.2 in cc
 
-stored_short_other : (setup : Setup) (t : ℕ) (file : List ℕ) (asked : List Asking) (calls : List Call) (parts : List Part) → IsStoredShort setup t file asked calls parts A.Got → ⊥
+stored_short_other : (setup : Setup) (t : TaskTurn) (file : List ℕ) (asked : List Asking) (calls : List Call) (parts : List Part) → IsStoredShort setup t file asked calls parts A.Got → ⊥
 stored_short_other setup t file asked calls parts h = by_case (last_failed asked) (last_failed_other asked) h
   where
     by_case : (o : Option Answer) → other o ≡ true → MatchOption o (IsShort setup t file asked calls parts A.Got) (λ failed. A.Got ≡ failed) → ⊥
     by_case None k h = short_other setup t file asked calls parts h
     by_case (Some failed) k e = not_other failed e k
 
-chunk_store_other : (setup : Setup) (t : ℕ) (key : Parts) (file : List ℕ) (asked : List Asking) (calls : List Call) (noted : List Noting) → ChunkStoreAnswers setup t key file asked calls noted A.Got → ⊥
+chunk_store_other : (setup : Setup) (t : TaskTurn) (key : Parts) (file : List ℕ) (asked : List Asking) (calls : List Call) (noted : List Noting) → ChunkStoreAnswers setup t key file asked calls noted A.Got → ⊥
 chunk_store_other setup t key file asked calls noted h =
     by_tests (fits_length key (lengths_found file (take 1 calls))) (stored asked == length (parts_of_layout key setup.chunk)) (parts_left key setup.chunk asked) h.answered
   where
@@ -204,12 +205,12 @@ one_other success asked k h = by_test (nat_lt 0 (count_by is_done asked)) h
 
 -- ---- what a get that ends with it has checked
 
-said : (setup : Setup) (t : ℕ) (key : Parts) (sizes : List ℕ) (file : List ℕ) (asked : List Asking) (calls : List Call) (lengths : List ℕ) (Done : Type 0)
+said : (setup : Setup) (t : TaskTurn) (key : Parts) (sizes : List ℕ) (file : List ℕ) (asked : List Asking) (calls : List Call) (lengths : List ℕ) (Done : Type 0)
     → DecidesBy lengths Done (IsChecked setup t key sizes file asked calls A.Got) A.Got → FitsKey key (checked setup t file sizes asked calls)
 said setup t key sizes file asked calls [] Done h = h.1.said
 said setup t key sizes file asked calls (n ∷ more) Done h = absurd cc
 
-pub get_fits : (setup : Setup) (t : ℕ) (key : Parts) (sizes : List ℕ) (file : List ℕ) (asked : List Asking) (calls : List Call)
+pub get_fits : (setup : Setup) (t : TaskTurn) (key : Parts) (sizes : List ℕ) (file : List ℕ) (asked : List Asking) (calls : List Call)
     → GetAnswers setup t key sizes file asked calls A.Got → FitsKey key (checked setup t file sizes asked calls)
 get_fits setup t key sizes file asked calls h = by_test (failures asked == length sizes) h.answered
   where
@@ -217,12 +218,12 @@ get_fits setup t key sizes file asked calls h = by_test (failures asked == lengt
     by_test true e = absurd (never_failed asked e)
     by_test false d = said setup t key sizes file asked calls _ _ d.by_length
 
-store_other : (setup : Setup) (t : ℕ) (task : Task) (key : Parts) (asked : List Asking) (calls : List Call) (noted : List Noting) (b : Bool)
+store_other : (setup : Setup) (t : TaskTurn) (task : Task) (key : Parts) (asked : List Asking) (calls : List Call) (noted : List Noting) (b : Bool)
     → MatchBool b (ChunkStoreAnswers setup t key task.file asked calls noted A.Got) (PlainStoreAnswers key task.file asked calls A.Got) → ⊥
 store_other setup t task key asked calls noted true h = chunk_store_other setup t key task.file asked calls noted h
 store_other setup t task key asked calls noted false h = plain_store_other key task.file asked calls h
 
-work_is : (setup : Setup) (t : ℕ) (task : Task) (key : Parts) (layouts : List (ℕ × ℕ)) (asked : List Asking) (calls : List Call) (noted : List Noting) (work : Work)
+work_is : (setup : Setup) (t : TaskTurn) (task : Task) (key : Parts) (layouts : List (ℕ × ℕ)) (asked : List Asking) (calls : List Call) (noted : List Noting) (work : Work)
     → task.work ≡ work → WorkAnswers setup t task key layouts work asked calls noted A.Got → IsGot task t setup layouts asked calls key
 work_is setup t task key layouts asked calls noted W.Store e h = absurd (store_other setup t task key asked calls noted (is_chunked setup key) h)
 work_is setup t task key layouts asked calls noted W.Get e h = record { work = ap is_get e; fits = rw e (get_fits setup t key (sizes_tried key layouts) task.file asked calls h) }
@@ -234,7 +235,7 @@ work_is setup t task key layouts asked calls noted W.XCheck e h = absurd (check_
 work_is setup t task key layouts asked calls noted W.XDrop e h = absurd (one_other A.Dropped asked refl h)
 work_is setup t task key layouts asked calls noted W.XRename e h = absurd (one_other A.Renamed asked refl h)
 
-of_run : (setup : Setup) (t : ℕ) (task : Task) (key : Parts) (layouts : List (ℕ × ℕ)) (asked : List Asking) (calls : List Call) (noted : List Noting)
+of_run : (setup : Setup) (t : TaskTurn) (task : Task) (key : Parts) (layouts : List (ℕ × ℕ)) (asked : List Asking) (calls : List Call) (noted : List Noting)
     → RunOf setup t task key layouts asked calls noted A.Got → IsGot task t setup layouts asked calls key
 of_run setup t task key layouts asked calls noted r =
     work_is setup t task key layouts asked calls noted task.work refl (finished _ _ (stops_other task.work (part_of task.file) asked calls) r.answered)

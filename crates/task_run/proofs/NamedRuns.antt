@@ -10,13 +10,14 @@ use Rattle.ann_outside.specs.declared.file_desk.Call.{Call}
 use Rattle.journal_model.specs.declared.answer.Answer.{Answer}
 use Rattle.task_run.specs.Askers.{Asking, Noting}
 use Rattle.task_run.specs.declared.setup.Setup.{Setup}
+use Rattle.task_run.specs.declared.turn.TaskTurn.{TaskTurn}
 use Rattle.task_run.specs.Runs.{RunOf, TaskRun}
 
 -- the task without its names
 abbrev pub nameless : Task → Task
 nameless task = record { work = task.work; key = task.key; file = task.file; name = []; onto = [] }
 
-module _ (t : ℕ) (setup : Setup) (key : Parts) (layouts : List (ℕ × ℕ)) (asked : List Asking) (calls : List Call) (noted : List Noting) (answer : Answer) where
+module _ (t : TaskTurn) (setup : Setup) (key : Parts) (layouts : List (ℕ × ℕ)) (asked : List Asking) (calls : List Call) (noted : List Noting) (answer : Answer) where
   run_named : (work : Work) (text file name onto : List ℕ) → has_name work ≡ false
       → RunOf setup t (record { work = work; key = text; file = file; name = []; onto = [] }) key layouts asked calls noted answer
       → RunOf setup t (record { work = work; key = text; file = file; name = name; onto = onto }) key layouts asked calls noted answer
@@ -51,7 +52,7 @@ module _ (t : ℕ) (setup : Setup) (key : Parts) (layouts : List (ℕ × ℕ)) (
   run_named _ text file name onto h r = absurd cc
 
 -- a run of the task without its names is one of the task, where it has no name by its work
-pub with_names : (task : Task) (t : ℕ) (setup : Setup) (layouts : List (ℕ × ℕ)) (asked : List Asking) (calls : List Call) (noted : List Noting) (answer : Answer)
+pub with_names : (task : Task) (t : TaskTurn) (setup : Setup) (layouts : List (ℕ × ℕ)) (asked : List Asking) (calls : List Call) (noted : List Noting) (answer : Answer)
     → has_name task.work ≡ false → TaskRun (nameless task) t setup layouts asked calls noted answer → TaskRun task t setup layouts asked calls noted answer
 with_names task t setup layouts asked calls noted answer plain h = by_key (key_reading task.key) h
   where

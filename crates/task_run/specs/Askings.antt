@@ -1,5 +1,5 @@
--- What a journal has of one run of a task: what it asked, what it noted, and how it was answered.
-use Rattle.std.specs.Prelude.{ℕ, ◌≡◌, ◌+◌, ◌-◌, ◌==◌, ◌&&◌, nat_le, Bool, false, if◌then◌else◌, List, [], ◌∷◌, ◌++◌, length, Option, Some, None, option_and_then, option_map}
+-- What a journal has of one run of a task: what it asked, what it noted, and how it was closed.
+use Rattle.std.specs.Prelude.{ℕ, ◌≡◌, ◌+◌, ◌-◌, ◌==◌, ◌&&◌, not, nat_le, Bool, true, false, if◌then◌else◌, List, [], ◌∷◌, ◌++◌, length, Option, Some, None, option_and_then, option_map}
 use Rattle.std.specs.List.{cons_option, last_or}
 use Rattle.annex_model.specs.Messages.{HostMessage, Export, host_reading}
 use Rattle.journal_model.specs.declared.answer.Answer.{Answer}
@@ -7,9 +7,11 @@ use Rattle.journal_model.specs.declared.verdict.Why.{Why}
 use Rattle.journal_model.specs.declared.verdict.Verdict.{Verdict}
 use Rattle.journal_model.specs.declared.verdict.Verdict.TheVariants.{Ended, Unsent}
 use Rattle.journal_model.specs.declared.entry.What.{What}
-use Rattle.journal_model.specs.declared.entry.What.TheVariants.{Claim, Lead, Ask, Lost, Note, Answer as Answered}
+use Rattle.journal_model.specs.declared.entry.What.TheVariants.{Claim, Lead, Ask, Lost, Note, Answer as Answered, Again}
 use Rattle.journal_model.specs.declared.entry.Entry.{Entry}
 use Rattle.journal_model.specs.Journal.{any, verdict_of, why_of, addressed, is_tagged}
+use Rattle.journal_model.specs.Legality.{claims, turn_of_task}
+use Rattle.task_run.specs.declared.turn.TaskTurn.{TaskTurn}
 use Rattle.task_run.specs.Askers.{Asking, Noting}
 
 -- ---- what a task asked
@@ -69,23 +71,38 @@ notings_from journal t past behind (e ∷ rest) =
 
 -- ---- a run
 
--- the entry claims task t, or answers it
+-- the entry claims task t, answers it, or says that it is to be run again
 abbrev pub bounds_run : ℕ → What → Bool
 bounds_run t (Claim task child) = task == t
 bounds_run t (Answered task answer) = task == t
+bounds_run t (Again task answer) = task == t
 bounds_run t _ = false
 
--- One run of task t: the entries from one that claims it to the next that answers it. What stands between may be other tasks'.
+-- what closes a run of task t: where the task is renewed it is to be run again, and else it is answered
+abbrev pub closing : Bool → ℕ → Answer → What
+closing true t answer = Again t answer
+closing false t answer = Answered t answer
+
+-- One run of task t: the entries from one that claims it to the next that closes the run. What stands between may be other tasks'.
 pub record TaskStretch (journal : List Entry) (t : ℕ) : Type 0 where
   pub past : List Entry
   pub by : ℕ
   pub child : ℕ
   pub within : List Entry
-  pub answered_by : ℕ
+  pub closed_by : ℕ
+  pub renewed : Bool
   pub answer : Answer
   pub rest : List Entry
-  pub is : journal ≡ past ++ record { by = by; what = Claim t child } ∷ within ++ record { by = answered_by; what = Answered t answer } ∷ rest
+  pub is : journal ≡ past ++ record { by = by; what = Claim t child } ∷ within ++ record { by = closed_by; what = closing renewed t answer } ∷ rest
   pub one : any (bounds_run t) within ≡ false
+
+-- the turn of the run, by which its files are named
+abbrev pub run_turn : {journal : List Entry} → {t : ℕ} → TaskStretch journal t → TaskTurn
+run_turn {journal} {t} run = record { task = t; turn = turn_of_task run.past t }
+
+-- it is the task's last run: the task is claimed no more after it
+abbrev pub is_last_run : {journal : List Entry} → {t : ℕ} → TaskStretch journal t → Bool
+is_last_run {journal} {t} run = not (any (claims t) run.rest)
 
 -- what stands before its first entry after the claim
 abbrev pub past_claim : {journal : List Entry} → {t : ℕ} → TaskStretch journal t → List Entry

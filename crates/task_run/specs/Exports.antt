@@ -11,6 +11,7 @@ use Rattle.task_run.specs.Askers.{Asking, Noting, said_with}
 use Rattle.journal_model.specs.declared.answer.Answer.{Answer}
 use Rattle.journal_model.specs.declared.answer.Answer.TheVariants.{Dropped, Renamed}
 use Rattle.task_run.specs.declared.setup.Setup.{Setup}
+use Rattle.task_run.specs.declared.turn.TaskTurn.{TaskTurn}
 use Rattle.task_run.specs.Stops.{is_done, last_failed}
 use Rattle.task_run.specs.Names.{fetch_file}
 use Rattle.task_run.specs.Requests.{AskInOrder}
@@ -26,7 +27,7 @@ use Rattle.task_run.specs.TaskCalls.{GetCalls}
 abbrev pub store_export : List ℕ → ℕ → List ℕ → HostMessage
 store_export file n key = Transferexport true key file
 
-abbrev pub fetch_export : Setup → ℕ → ℕ → List ℕ → HostMessage
+abbrev pub fetch_export : Setup → TaskTurn → ℕ → List ℕ → HostMessage
 fetch_export setup t n key = Transferexport false key (fetch_file setup t n)
 
 abbrev pub check_export : ℕ → List ℕ → HostMessage
@@ -58,7 +59,7 @@ pub record ExportStoreAsks (key : Parts) (file name : List ℕ) (asked : List As
 -- ---- a get
 
 -- The remote is asked to send the content into a file of the folder of work, which is read from its begin on.
-pub record ExportGetAsks (setup : Setup) (t : ℕ) (key : Parts) (file name : List ℕ) (asked : List Asking) (calls : List Call) : Type 0 where
+pub record ExportGetAsks (setup : Setup) (t : TaskTurn) (key : Parts) (file name : List ℕ) (asked : List Asking) (calls : List Call) : Type 0 where
   pub calls_made : GetCalls setup t file asked calls
   pub asks : AsksOfName (fetch_export setup t) (key ∷ []) name asked
   pub fetched_read : are_read setup t calls (first_asked asked) (asked_last asked) ≡ true
@@ -66,7 +67,7 @@ pub record ExportGetAsks (setup : Setup) (t : ℕ) (key : Parts) (file name : Li
 -- ---- by the work
 
 -- What holds of any front of such a task's run. A task of another work is none of these.
-abbrev pub ExportAsks : Setup → ℕ → Task → Parts → Work → List Asking → List Call → List Noting → Type 0
+abbrev pub ExportAsks : Setup → TaskTurn → Task → Parts → Work → List Asking → List Call → List Noting → Type 0
 ExportAsks setup t task key XStore asked calls noted = ExportStoreAsks key task.file task.name asked calls × (noted ≡ [])
 ExportAsks setup t task key XGet asked calls noted = ExportGetAsks setup t key task.file task.name asked calls × (noted ≡ [])
 ExportAsks setup t task key XCheck asked calls noted = AsksOfName check_export (key ∷ []) task.name asked × (calls ≡ []) × (noted ≡ [])
@@ -76,7 +77,7 @@ ExportAsks setup t task key XRename asked calls noted =
 ExportAsks setup t task key _ asked calls noted = ⊥
 
 -- What holds where it finished. A store is answered as one of a whole file, and a get as one of the plain layout alone.
-abbrev pub ExportAnswers : Setup → ℕ → Task → Parts → Work → List Asking → List Call → Answer → Type 0
+abbrev pub ExportAnswers : Setup → TaskTurn → Task → Parts → Work → List Asking → List Call → Answer → Type 0
 ExportAnswers setup t task key XStore asked calls answer = PlainStoreAnswers key task.file asked calls answer
 ExportAnswers setup t task key XGet asked calls answer = GetAnswers setup t key (0 ∷ []) task.file asked calls answer
 ExportAnswers setup t task key XCheck asked calls answer = CheckAnswers ((key ∷ []) ∷ []) asked answer

@@ -16,13 +16,14 @@ use Rattle.task_run.specs.Askers.{Asking}
 use Rattle.journal_model.specs.declared.answer.Answer.{Answer}
 use Rattle.journal_model.specs.declared.answer.Answer.TheVariants.{Got, Size as SizeAnswer, Hash as HashAnswer}
 use Rattle.task_run.specs.declared.setup.Setup.{Setup}
+use Rattle.task_run.specs.declared.turn.TaskTurn.{TaskTurn}
 use Rattle.task_run.specs.Stops.{is_done, all_but_last, last_failed}
 use Rattle.task_run.specs.Names.{fetch_file, part_of}
 use Rattle.task_run.specs.Requests.{rounds, RoundsAsk}
 use Rattle.task_run.specs.Layouts.{parts_of_layout}
 use Rattle.task_run.specs.Reads.{length_or_none, lengths_found, reads_of, bytes_of, is_run, is_reading, appended, holds, are_found_so, is_removed, is_renaming, is_last}
 
-abbrev pub fetch_request : Setup → ℕ → ℕ → List ℕ → HostMessage
+abbrev pub fetch_request : Setup → TaskTurn → ℕ → List ℕ → HostMessage
 fetch_request setup t n key = Transfer false key (fetch_file setup t n)
 
 -- the lengths of part at the begin of the chunk layouts, 0 where it was missing
@@ -97,17 +98,17 @@ abbrev pub held_reads : List ℕ → List Call → List (ℕ × List ℕ)
 held_reads file calls = reads_of (part_of file) (since_begin file calls)
 
 -- the bytes read of the files that these requests fetched, the first of which is request n
-abbrev pub bytes_fetched : Setup → ℕ → List Call → ℕ → List Asking → List ℕ
+abbrev pub bytes_fetched : Setup → TaskTurn → List Call → ℕ → List Asking → List ℕ
 bytes_fetched setup t calls n [] = []
 bytes_fetched setup t calls n (a ∷ more) = bytes_of (reads_of (fetch_file setup t n) calls) ++ bytes_fetched setup t calls (n + 1) more
 
 -- The bytes that are checked: in a chunk layout all that part held, and what was fetched; in the plain layout what was fetched.
-abbrev pub checked : Setup → ℕ → List ℕ → List ℕ → List Asking → List Call → List ℕ
+abbrev pub checked : Setup → TaskTurn → List ℕ → List ℕ → List Asking → List Call → List ℕ
 checked setup t file sizes asked calls =
     (if is_plain_last sizes asked then [] else bytes_of (held_reads file calls)) ++ bytes_fetched setup t calls (first_asked asked) (asked_last asked)
 
 -- a fetched file was read from its begin to its end
-abbrev pub are_read : Setup → ℕ → List Call → ℕ → List Asking → Bool
+abbrev pub are_read : Setup → TaskTurn → List Call → ℕ → List Asking → Bool
 are_read setup t calls n [] = true
 are_read setup t calls n (a ∷ more) = is_run 0 (reads_of (fetch_file setup t n) calls) && are_read setup t calls (n + 1) more
 
@@ -116,7 +117,7 @@ abbrev pub is_wrong : Option ℕ → Part → ℕ → Bool
 is_wrong None part n = false
 is_wrong (Some size) part n = not (n == part.to - part.from)
 
-abbrev pub wrong_lengths : Setup → ℕ → Option ℕ → List Call → ℕ → List Part → List ℕ
+abbrev pub wrong_lengths : Setup → TaskTurn → Option ℕ → List Call → ℕ → List Part → List ℕ
 wrong_lengths setup t size calls n [] = []
 wrong_lengths setup t size calls n (part ∷ more) =
     filter (is_wrong size part) (lengths_found (fetch_file setup t n) calls) ++ wrong_lengths setup t size calls (n + 1) more
@@ -130,7 +131,7 @@ fit_in _ = None
 
 -- Layout after layout, the remote is asked to send what part doesn't hold whole, each part into a file of its own, until one failed.
 -- Each fetched file but the last has its part's length. A chunk layout begins with the length of part, and reads of part what it holds.
-pub record GetAsks (setup : Setup) (t : ℕ) (key : Parts) (sizes : List ℕ) (file : List ℕ) (asked : List Asking) (calls : List Call) : Type 0 where
+pub record GetAsks (setup : Setup) (t : TaskTurn) (key : Parts) (sizes : List ℕ) (file : List ℕ) (asked : List Asking) (calls : List Call) : Type 0 where
   pub in_order : RoundsAsk (fetch_request setup t) 1 (map (λ (parts : List Part). map (λ (p : Part). p.key) parts) (wanted key sizes (lengths_at_begin file calls))) (rounds asked)
   pub each_failed : list_all is_failed (filter (λ (a : Asking). not (is_done a)) (all_but_last asked)) ≡ true
   pub each_begun : nat_le (length (lengths_at_begin file calls)) (min (failures asked + 1) (length sizes - 1)) ≡ true
@@ -149,13 +150,13 @@ is_read_whole reads [] = false
 is_read_whole reads (k ∷ lengths) = list_all (λ n. is_reading 0 n reads) (k ∷ lengths)
 
 -- each fetched file, the first of which is that of request n, was looked at, and read from its begin to the length that was found
-abbrev pub are_read_whole : Setup → ℕ → List Call → ℕ → List Asking → Bool
+abbrev pub are_read_whole : Setup → TaskTurn → List Call → ℕ → List Asking → Bool
 are_read_whole setup t calls n [] = true
 are_read_whole setup t calls n (a ∷ more) =
     is_read_whole (reads_of (fetch_file setup t n) calls) (lengths_found (fetch_file setup t n) calls) && are_read_whole setup t calls (n + 1) more
 
 -- All that part held and all that was fetched was read, and this is said of it.
-pub record IsChecked (setup : Setup) (t : ℕ) (key : Parts) (sizes : List ℕ) (file : List ℕ) (asked : List Asking) (calls : List Call) (answer : Answer) : Type 0 where
+pub record IsChecked (setup : Setup) (t : TaskTurn) (key : Parts) (sizes : List ℕ) (file : List ℕ) (asked : List Asking) (calls : List Call) (answer : Answer) : Type 0 where
   pub said : IsSaid key (checked setup t file sizes asked calls) (fit_in answer)
   pub held_whole : (is_plain_last sizes asked || is_reading 0 (end_held key sizes (lengths_at_begin file calls) asked) (held_reads file calls)) ≡ true
   pub fetched_whole : are_read_whole setup t calls (first_asked asked) (asked_last asked) ≡ true
@@ -170,14 +171,14 @@ DecidesBy (n ∷ more) AllDone Said answer = answer ≡ SizeAnswer n
 
 -- The fetched bytes were appended to part. Where all that was found of part is so, whatever it held before, it holds the checked bytes
 -- and no others now. The last call of all renamed it to the file, which so holds them.
-pub record IsFetchKept (setup : Setup) (t : ℕ) (sizes : List ℕ) (file : List ℕ) (asked : List Asking) (calls : List Call) : Type 0 where
+pub record IsFetchKept (setup : Setup) (t : TaskTurn) (sizes : List ℕ) (file : List ℕ) (asked : List Asking) (calls : List Call) : Type 0 where
   pub moved : appended (part_of file) (since_begin file calls) ≡ bytes_fetched setup t calls (first_asked asked) (asked_last asked)
   pub held : (before : List ℕ) → are_found_so (part_of file) (Some before) calls ≡ true → holds (part_of file) (Some before) calls ≡ Some (checked setup t file sizes asked calls)
   pub renamed : is_last (is_renaming (part_of file) file) calls ≡ true
 
 -- Where a file that was fetched hasn't its part's length, the answer is Size with that length. Else all that was wanted is done, and the
 -- answer is what is to be said of the checked bytes. Got keeps them as the task's file, and otherwise part is removed.
-pub record Decides (setup : Setup) (t : ℕ) (key : Parts) (sizes : List ℕ) (file : List ℕ) (asked : List Asking) (calls : List Call) (answer : Answer) : Type 0 where
+pub record Decides (setup : Setup) (t : TaskTurn) (key : Parts) (sizes : List ℕ) (file : List ℕ) (asked : List Asking) (calls : List Call) (answer : Answer) : Type 0 where
   pub begun : (is_plain_last sizes asked || length (lengths_at_begin file calls) == failures asked + 1) ≡ true
   pub by_length : DecidesBy (wrong_lengths setup t key.size calls (first_asked asked) (parts_last key sizes (lengths_at_begin file calls) asked))
       (count_by is_done (asked_last asked) ≡ length (parts_last key sizes (lengths_at_begin file calls) asked))
@@ -185,5 +186,5 @@ pub record Decides (setup : Setup) (t : ℕ) (key : Parts) (sizes : List ℕ) (f
   pub part : MatchBool (is_got answer) (IsFetchKept setup t sizes file asked calls) (is_removed (part_of file) calls ≡ true)
 
 -- Failed with the last verdict exactly where every layout failed.
-pub record GetAnswers (setup : Setup) (t : ℕ) (key : Parts) (sizes : List ℕ) (file : List ℕ) (asked : List Asking) (calls : List Call) (answer : Answer) : Type 0 where
+pub record GetAnswers (setup : Setup) (t : TaskTurn) (key : Parts) (sizes : List ℕ) (file : List ℕ) (asked : List Asking) (calls : List Call) (answer : Answer) : Type 0 where
   pub answered : MatchBool (failures asked == length sizes) (last_failed asked ≡ Some answer) (Decides setup t key sizes file asked calls answer)

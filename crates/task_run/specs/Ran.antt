@@ -17,6 +17,7 @@ use Rattle.task_run.specs.Askers.{Asking, Noting}
 use Rattle.journal_model.specs.declared.answer.Answer.{Answer}
 use Rattle.journal_model.specs.declared.answer.Answer.TheVariants.{Size, Hash, Unsupported, Unsent as UnsentAnswer, Ended as EndedAnswer, Memory, Failed, FileFault, NoFile}
 use Rattle.task_run.specs.declared.setup.Setup.{Setup}
+use Rattle.task_run.specs.declared.turn.TaskTurn.{TaskTurn}
 use Rattle.ann_key.specs.Keys.{Parts, key_reading}
 use Rattle.task_run.specs.Runs.{TaskRun, is_chunked}
 
@@ -30,7 +31,7 @@ abbrev pub behind_more : ℕ → Noting → Noting
 behind_more n note = record { chunk = note.chunk; count = note.count; behind = n + note.behind }
 
 -- The pairs, the notes and, where it is kept, the log grew by those of one run of the task.
-pub record Ran (task : Task) (t : ℕ) (setup : Setup) (layouts : List (ℕ × ℕ)) (pairs_before pairs_after : List Asking)
+pub record Ran (task : Task) (t : TaskTurn) (setup : Setup) (layouts : List (ℕ × ℕ)) (pairs_before pairs_after : List Asking)
     (notes_before notes_after : List Noting) (log_before log_after : Option Log) (result : Result Answer NoMemory) : Type 0 where
   pub asked : List Asking
   pub calls : List Call
@@ -74,7 +75,7 @@ change_answer success (DoneAt at) = Some success
 change_answer success v = undone_answer v
 
 -- The pairs grew by those of one run of the task, which made no calls and no notes.
-pub record RanAsking (task : Task) (t : ℕ) (layouts : List (ℕ × ℕ)) (before after : List Asking) (result : Result Answer NoMemory) : Type 0 where
+pub record RanAsking (task : Task) (t : TaskTurn) (layouts : List (ℕ × ℕ)) (before after : List Asking) (result : Result Answer NoMemory) : Type 0 where
   pub asked : List Asking
   pub pairs_are : after ≡ before ++ asked
   pub run : (setup : Setup) → TaskRun task t setup layouts asked [] [] (answered result)
@@ -84,7 +85,7 @@ abbrev pub IsWhole : Setup → Task → Type 0
 IsWhole setup task = (key : Parts) → key_reading task.key ≡ Some key → is_chunked setup key ≡ false
 
 -- The pairs and, where it is kept, the log grew by those of one run of the task, which made no notes and stores no chunks.
-pub record RanPlain (task : Task) (t : ℕ) (layouts : List (ℕ × ℕ)) (before after : List Asking) (log_before log_after : Option Log) (result : Result Answer NoMemory) : Type 0 where
+pub record RanPlain (task : Task) (t : TaskTurn) (layouts : List (ℕ × ℕ)) (before after : List Asking) (log_before log_after : Option Log) (result : Result Answer NoMemory) : Type 0 where
   pub asked : List Asking
   pub calls : List Call
   pub pairs_are : after ≡ before ++ asked
@@ -96,7 +97,7 @@ abbrev pub IsInChunks : Setup → Task → Type 0
 IsInChunks setup task = (key : Parts) → key_reading task.key ≡ Some key → is_chunked setup key ≡ true
 
 -- The pairs, the notes and, where it is kept, the log grew by those of one run of the task, whatever layouts the remote has.
-pub record RanStore (task : Task) (t : ℕ) (setup : Setup) (pairs_before pairs_after : List Asking)
+pub record RanStore (task : Task) (t : TaskTurn) (setup : Setup) (pairs_before pairs_after : List Asking)
     (notes_before notes_after : List Noting) (log_before log_after : Option Log) (result : Result Answer NoMemory) : Type 0 where
   pub asked : List Asking
   pub calls : List Call
@@ -113,7 +114,7 @@ refusal E.Missing = Ok NoFile
 refusal E.NoMemory = Err record {}
 
 -- The pairs and, where it is kept, the log grew by those of one run of the task, which made no notes.
-pub record RanGet (task : Task) (t : ℕ) (setup : Setup) (layouts : List (ℕ × ℕ)) (before after : List Asking) (log_before log_after : Option Log) (result : Result Answer NoMemory) : Type 0 where
+pub record RanGet (task : Task) (t : TaskTurn) (setup : Setup) (layouts : List (ℕ × ℕ)) (before after : List Asking) (log_before log_after : Option Log) (result : Result Answer NoMemory) : Type 0 where
   pub asked : List Asking
   pub calls : List Call
   pub pairs_are : after ≡ before ++ asked

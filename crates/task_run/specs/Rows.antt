@@ -12,12 +12,19 @@ use Rattle.ann_outside.specs.declared.file_desk.Call.{Call}
 use Rattle.ann_outside.specs.declared.file_desk.Call.TheVariants.{Size, ReadAt, Create, Append, Cut, Rename, Remove}
 use Rattle.task_run.specs.Askers.{Asking, Noting}
 use Rattle.task_run.specs.declared.setup.Setup.{Setup}
+use Rattle.task_run.specs.declared.turn.TaskTurn.{TaskTurn}
 
 abbrev pub task_of : Work → List ℕ → List ℕ → Task
 task_of work key file = record { work = work; key = key; file = file; name = []; onto = [] }
 
 abbrev pub setup_of : ℕ → Setup
 setup_of chunk = record { work = codes "w"; stamp = 1700000000000000; chunk = chunk }
+
+abbrev pub first_turn : ℕ → TaskTurn
+first_turn t = record { task = t; turn = 1 }
+
+abbrev pub second_turn : ℕ → TaskTurn
+second_turn t = record { task = t; turn = 2 }
 
 abbrev pub asks : HostMessage → Verdict → Asking
 asks q v = record { request = Some q; name = None; verdict = v }
@@ -266,3 +273,13 @@ gets_hi = asks (Transfer false (codes "WORM-s2--a") fetched_2_1) (Done 18) ∷ [
 
 abbrev pub got_hi : List Call
 got_hi = sized fetched_2_1 2 ++ Create (codes "o.part") (Ok tt) ∷ moved fetched_2_1 (codes "o.part") (codes "hi") ++ renamed
+
+-- what the second turn of a task fetches has a name of its own
+abbrev pub fetched_again : List ℕ
+fetched_again = codes "w/1700000000000000-1-1-2.fetch"
+
+abbrev pub gets_again : List Asking
+gets_again = asks (Transfer false (codes "WORM-s3--a") fetched_again) (Done 27) ∷ []
+
+abbrev pub got_again : List Call
+got_again = sized fetched_again 3 ++ Create (codes "o.part") (Ok tt) ∷ moved fetched_again (codes "o.part") (codes "abc") ++ renamed

@@ -9,6 +9,7 @@ use Rattle.task_text.specs.declared.task.Work.{Work}
 use Rattle.task_text.specs.declared.task.Work.TheVariants.{Get, XGet}
 use Rattle.task_run.specs.Askers.{Asking, Noting}
 use Rattle.task_run.specs.declared.setup.Setup.{Setup}
+use Rattle.task_run.specs.declared.turn.TaskTurn.{TaskTurn}
 use Rattle.task_run.specs.Layouts.{sizes_tried}
 use Rattle.task_run.specs.Gets.{checked}
 use Rattle.task_run.specs.Runs.{TaskRun}
@@ -25,12 +26,12 @@ sizes_got XGet key layouts = 0 ∷ []
 sizes_got work key layouts = sizes_tried key layouts
 
 -- the task gets, and all that was read of part and of the fetched files, in their order, fits the key
-pub record IsGot (task : Task) (t : ℕ) (setup : Setup) (layouts : List (ℕ × ℕ)) (asked : List Asking) (calls : List Call) (key : Parts) : Type 0 where
+pub record IsGot (task : Task) (t : TaskTurn) (setup : Setup) (layouts : List (ℕ × ℕ)) (asked : List Asking) (calls : List Call) (key : Parts) : Type 0 where
   pub work : is_get task.work ≡ true
   pub fits : FitsKey key (checked setup t task.file (sizes_got task.work key layouts) asked calls)
 
 -- Got is answered by a get alone, in a layout or under a name, and only where what was read fits the key.
 abbrev pub GotNeedsFit : Type 0
 GotNeedsFit =
-    (task : Task) (t : ℕ) (setup : Setup) (layouts : List (ℕ × ℕ)) (asked : List Asking) (calls : List Call) (noted : List Noting) (key : Parts)
+    (task : Task) (t : TaskTurn) (setup : Setup) (layouts : List (ℕ × ℕ)) (asked : List Asking) (calls : List Call) (noted : List Noting) (key : Parts)
     → key_reading task.key ≡ Some key → TaskRun task t setup layouts asked calls noted Got → IsGot task t setup layouts asked calls key

@@ -9,6 +9,7 @@ use Rattle.ann_outside.specs.declared.file_desk.Call.{Call}
 use Rattle.task_run.specs.Askers.{Asking, Noting}
 use Rattle.journal_model.specs.declared.answer.Answer.{Answer}
 use Rattle.task_run.specs.declared.setup.Setup.{Setup}
+use Rattle.task_run.specs.declared.turn.TaskTurn.{TaskTurn}
 use Rattle.task_run.specs.Stops.{asking_stop, call_stop, is_stop_last, stops_of, AnsweredBy}
 use Rattle.task_run.specs.Names.{part_of}
 use Rattle.task_run.specs.Layouts.{sizes_tried, layouts_tried}
@@ -26,7 +27,7 @@ use Rattle.task_run.specs.Exports.{ExportAsks, ExportAnswers}
 abbrev pub is_chunked : Setup → Parts → Bool
 is_chunked setup key = not (setup.chunk == 0) && is_some key.size
 
-abbrev pub WorkAsks : Setup → ℕ → Task → Parts → List (ℕ × ℕ) → Work → List Asking → List Call → List Noting → Type 0
+abbrev pub WorkAsks : Setup → TaskTurn → Task → Parts → List (ℕ × ℕ) → Work → List Asking → List Call → List Noting → Type 0
 WorkAsks setup t task key layouts Store asked calls noted =
     StoreCalls setup t task.file asked calls
     × MatchBool (is_chunked setup key) (ChunkStoreAsks setup t key task.file asked calls noted)
@@ -37,7 +38,7 @@ WorkAsks setup t task key layouts Check asked calls noted = CheckAsks (layouts_t
 WorkAsks setup t task key layouts Drop asked calls noted = DropAsks key (sizes_tried key layouts) asked noted × (calls ≡ [])
 WorkAsks setup t task key layouts work asked calls noted = ExportAsks setup t task key work asked calls noted
 
-abbrev pub WorkAnswers : Setup → ℕ → Task → Parts → List (ℕ × ℕ) → Work → List Asking → List Call → List Noting → Answer → Type 0
+abbrev pub WorkAnswers : Setup → TaskTurn → Task → Parts → List (ℕ × ℕ) → Work → List Asking → List Call → List Noting → Answer → Type 0
 WorkAnswers setup t task key layouts Store asked calls noted answer =
     MatchBool (is_chunked setup key) (ChunkStoreAnswers setup t key task.file asked calls noted answer) (PlainStoreAnswers key task.file asked calls answer)
 WorkAnswers setup t task key layouts Get asked calls noted answer = GetAnswers setup t key (sizes_tried key layouts) task.file asked calls answer
@@ -47,7 +48,7 @@ WorkAnswers setup t task key layouts work asked calls noted answer = ExportAnswe
 
 -- ---- any task
 
-pub record RunOf (setup : Setup) (t : ℕ) (task : Task) (key : Parts) (layouts : List (ℕ × ℕ)) (asked : List Asking) (calls : List Call) (noted : List Noting) (answer : Answer) : Type 0 where
+pub record RunOf (setup : Setup) (t : TaskTurn) (task : Task) (key : Parts) (layouts : List (ℕ × ℕ)) (asked : List Asking) (calls : List Call) (noted : List Noting) (answer : Answer) : Type 0 where
   -- nothing is asked after a verdict that ends the task, and no call follows one that does
   pub asked_till_stop : is_stop_last (asking_stop task.work) asked ≡ true
   pub calls_till_stop : is_stop_last (call_stop (part_of task.file)) calls ≡ true
@@ -57,6 +58,6 @@ pub record RunOf (setup : Setup) (t : ℕ) (task : Task) (key : Parts) (layouts 
   pub answered : AnsweredBy (stops_of task.work (part_of task.file) asked calls) answer (WorkAnswers setup t task key layouts task.work asked calls noted answer)
 
 -- The run of task number t: its settled requests, its desk's calls, its notes, and its answer. Running out of memory may end it early.
-abbrev pub TaskRun : Task → ℕ → Setup → List (ℕ × ℕ) → List Asking → List Call → List Noting → Answer → Type 0
+abbrev pub TaskRun : Task → TaskTurn → Setup → List (ℕ × ℕ) → List Asking → List Call → List Noting → Answer → Type 0
 TaskRun task t setup layouts asked calls noted answer =
     IfSome (key_reading task.key) (λ key. RunOf setup t task key layouts asked calls noted answer)

@@ -11,6 +11,7 @@ use Rattle.task_run.specs.Askers.{Asking, Noting}
 use Rattle.journal_model.specs.declared.answer.Answer.{Answer}
 use Rattle.journal_model.specs.declared.answer.Answer.TheVariants.{Stored, Size as SizeAnswer}
 use Rattle.task_run.specs.declared.setup.Setup.{Setup}
+use Rattle.task_run.specs.declared.turn.TaskTurn.{TaskTurn}
 use Rattle.task_run.specs.Stops.{is_done, is_question, all_but_last, last_failed}
 use Rattle.task_run.specs.Names.{chunk_file}
 use Rattle.task_run.specs.Requests.{AskInOrder}
@@ -55,7 +56,7 @@ pub record PlainStoreAnswers (key : Parts) (file : List ℕ) (asked : List Askin
 
 -- ---- a chunk layout
 
-abbrev pub chunk_request : Setup → ℕ → ℕ → List ℕ → HostMessage
+abbrev pub chunk_request : Setup → TaskTurn → ℕ → List ℕ → HostMessage
 chunk_request setup t n key = Transfer true key (chunk_file setup t n)
 
 -- how many questions were asked, and how many of them found their chunk there
@@ -78,31 +79,31 @@ abbrev pub is_front : List ℕ → List ℕ → Bool
 is_front front whole = bytes_eq front (take (length front) whole)
 
 -- The file of request n got bytes that were read of the task's file in the part's range, from its begin on.
-abbrev pub is_copied : Setup → ℕ → List ℕ → List Call → ℕ → Part → Bool
+abbrev pub is_copied : Setup → TaskTurn → List ℕ → List Call → ℕ → Part → Bool
 is_copied setup t file calls n part =
     is_run part.from (reads_between file part.from part.to calls)
     && is_front (appended (chunk_file setup t n) calls) (bytes_of (reads_between file part.from part.to calls))
 
 -- how many it got, and how many the part has
-abbrev pub copied_length : Setup → ℕ → List Call → ℕ → ℕ
+abbrev pub copied_length : Setup → TaskTurn → List Call → ℕ → ℕ
 copied_length setup t calls n = length (appended (chunk_file setup t n) calls)
 
 abbrev pub part_length : Part → ℕ
 part_length part = part.to - part.from
 
 -- the file of request n was made, and holds what it got
-abbrev pub is_filled : Setup → ℕ → List Call → ℕ → Bool
+abbrev pub is_filled : Setup → TaskTurn → List Call → ℕ → Bool
 is_filled setup t calls n = unwrap_or (option_map (bytes_eq (appended (chunk_file setup t n) calls)) (holds (chunk_file setup t n) None calls)) false
 
 -- each transfer, the first of which is request n, is of a file that holds all bytes of its part and no others
-abbrev pub are_whole : Setup → ℕ → List ℕ → List Call → ℕ → List Part → List Asking → Bool
+abbrev pub are_whole : Setup → TaskTurn → List ℕ → List Call → ℕ → List Part → List Asking → Bool
 are_whole setup t file calls n parts [] = true
 are_whole setup t file calls n [] (a ∷ more) = false
 are_whole setup t file calls n (part ∷ parts) (a ∷ more) =
     is_copied setup t file calls n part && copied_length setup t calls n == part_length part && is_filled setup t calls n && are_whole setup t file calls (n + 1) parts more
 
 -- the files of these transfers, the first of which is request n, are removed
-abbrev pub are_removed : Setup → ℕ → List Call → ℕ → List Asking → Bool
+abbrev pub are_removed : Setup → TaskTurn → List Call → ℕ → List Asking → Bool
 are_removed setup t calls n [] = true
 are_removed setup t calls n (a ∷ more) = is_removed (chunk_file setup t n) calls && are_removed setup t calls (n + 1) more
 
@@ -111,14 +112,14 @@ abbrev pub parts_left : Parts → ℕ → List Asking → List Part
 parts_left key chunk asked = drop (length (transfers asked)) (missing_parts key chunk asked)
 
 -- of a part that is to be stored next, the file holds bytes of its begin alone
-abbrev pub is_next_copied : Setup → ℕ → List ℕ → List Call → ℕ → List Part → Bool
+abbrev pub is_next_copied : Setup → TaskTurn → List ℕ → List Call → ℕ → List Part → Bool
 is_next_copied setup t file calls n [] = true
 is_next_copied setup t file calls n (part ∷ more) = is_copied setup t file calls n part
 
 -- The remote is asked which chunks it has, in their order, until it hasn't one. From that one on it is asked to store them, each from a
 -- file of its own. That file holds the bytes which were read of the task's file in the chunk's range, and is removed after the verdict.
 -- That the chunks are there is noted once, after the last verdict.
-pub record ChunkStoreAsks (setup : Setup) (t : ℕ) (key : Parts) (file : List ℕ) (asked : List Asking) (calls : List Call) (noted : List Noting) : Type 0 where
+pub record ChunkStoreAsks (setup : Setup) (t : TaskTurn) (key : Parts) (file : List ℕ) (asked : List Asking) (calls : List Call) (noted : List Noting) : Type 0 where
   pub size_first : begins_with_size calls ≡ true
   pub fits : asked ≢ [] → fits_length key (lengths_found file (take 1 calls)) ≡ true
   pub questions_in_order : AskInOrder present_request 1 (keys_of_layout key setup.chunk) (take (questions asked) asked)
@@ -138,25 +139,25 @@ abbrev pub stored : List Asking → ℕ
 stored asked = found asked + count_by is_done (transfers asked)
 
 -- of this part the file of request n got all that was to be had, which is less than the part: the last read came to the file's end
-abbrev pub is_cut_short : Setup → ℕ → List ℕ → List Call → ℕ → Part → Bool
+abbrev pub is_cut_short : Setup → TaskTurn → List ℕ → List Call → ℕ → Part → Bool
 is_cut_short setup t file calls n part =
     is_at_end (reads_between file part.from part.to calls)
     && bytes_eq (appended (chunk_file setup t n) calls) (bytes_of (reads_between file part.from part.to calls))
     && nat_lt (copied_length setup t calls n) (part_length part)
 
 -- a chunk that isn't there was to be stored, and was cut short
-abbrev pub IsShort : Setup → ℕ → List ℕ → List Asking → List Call → List Part → Answer → Type 0
+abbrev pub IsShort : Setup → TaskTurn → List ℕ → List Asking → List Call → List Part → Answer → Type 0
 IsShort setup t file asked calls [] answer = ⊥
 IsShort setup t file asked calls (part ∷ more) answer =
     (nat_lt (found asked) (questions asked) ≡ true) × (is_cut_short setup t file calls (length asked + 1) part ≡ true)
     × (answer ≡ SizeAnswer (copied_length setup t calls (length asked + 1)))
 
 -- the answer where not all are there: the last transfer failed, or fewer bytes than the next part's were to be had
-abbrev pub IsStoredShort : Setup → ℕ → List ℕ → List Asking → List Call → List Part → Answer → Type 0
+abbrev pub IsStoredShort : Setup → TaskTurn → List ℕ → List Asking → List Call → List Part → Answer → Type 0
 IsStoredShort setup t file asked calls parts answer = MatchOption (last_failed asked) (IsShort setup t file asked calls parts answer) (λ failed. answer ≡ failed)
 
 -- Size with the file's length exactly where the key has another. Else Stored exactly where all chunks are there, which is noted then.
-pub record ChunkStoreAnswers (setup : Setup) (t : ℕ) (key : Parts) (file : List ℕ) (asked : List Asking) (calls : List Call) (noted : List Noting) (answer : Answer) : Type 0 where
+pub record ChunkStoreAnswers (setup : Setup) (t : TaskTurn) (key : Parts) (file : List ℕ) (asked : List Asking) (calls : List Call) (noted : List Noting) (answer : Answer) : Type 0 where
   pub last_removed : are_removed setup t calls (questions asked + 1) (transfers asked) ≡ true
   pub answered : MatchBool (fits_length key (lengths_found file (take 1 calls)))
       (MatchBool (stored asked == length (parts_of_layout key setup.chunk))

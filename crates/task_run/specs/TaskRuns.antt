@@ -1,4 +1,4 @@
--- How a check is answered, over a child and without one.
+-- How a check that is not run again is answered, over a child and without one.
 use Rattle.std.specs.Prelude.{ℕ, zero, suc, ◌≡◌, ◌==◌, ◌⊎◌, if◌then◌else◌, List, [], ◌∷◌, ◌++◌, Option, Some, None, option_and_then}
 use Rattle.std.specs.List.{last_or}
 use Rattle.journal_model.specs.declared.verdict.Why.{Why}

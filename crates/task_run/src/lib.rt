@@ -10,7 +10,9 @@ pub mod laws;
 pub mod names;
 pub mod run_laws;
 mod setup;
+mod turn;
 
 pub use asker::Asker;
 pub use check::check_answer;
 pub use setup::Setup;
+pub use turn::TaskTurn;

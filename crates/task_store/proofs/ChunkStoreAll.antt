@@ -13,6 +13,7 @@ use Rattle.task_text.specs.declared.task.Work.TheVariants as W
 use Rattle.ann_outside.specs.declared.file_desk.Call.{Call}
 use Rattle.task_run.specs.Askers.{Asking, Noting, is_gone}
 use Rattle.task_run.specs.declared.setup.Setup.{Setup}
+use Rattle.task_run.specs.declared.turn.TaskTurn.{TaskTurn}
 use Rattle.task_run.specs.Stops.{asking_stop, verdict_stop, all_but_last, is_done, is_done_at, is_question}
 use Rattle.task_run.specs.Requests.{AsksFor, AskInOrder}
 use Rattle.task_run.specs.Layouts.{parts_of_layout}
@@ -39,7 +40,7 @@ note_is : (setup : Setup) (count : ℕ) (qs ts : List Asking) → map (behind_mo
 note_is setup count qs ts = ap (λ n. the_note setup count n ∷ []) (sym (length-append qs ts))
 
 -- all chunks are there, and noted
-pub all_stored : (setup : Setup) (t : ℕ) (key : Parts) (text file : List ℕ) (layouts : List (ℕ × ℕ)) (size f : ℕ) (qs ts : List Asking) (calls : List Call) → Missing setup key size f qs
+pub all_stored : (setup : Setup) (t : TaskTurn) (key : Parts) (text file : List ℕ) (layouts : List (ℕ × ℕ)) (size f : ℕ) (qs ts : List Asking) (calls : List Call) → Missing setup key size f qs
     → Going setup t key file size f ts calls (count_of size setup.chunk + 1)
     → RunOf setup t (store_task text file) key layouts (qs ++ ts) (with_size file size calls) (map (behind_more (length qs)) (the_note setup (count_of size setup.chunk) (length ts) ∷ [])) A.Stored
 all_stored setup t key text file layouts size f qs ts calls m g =
@@ -60,7 +61,7 @@ all_stored setup t key text file layouts size f qs ts calls m g =
     all = omega (arith, all_counted ts g.all_stored, g.so_many)
 
 -- they aren't noted for lack of memory
-pub all_unnoted : (setup : Setup) (t : ℕ) (key : Parts) (text file : List ℕ) (layouts : List (ℕ × ℕ)) (size f : ℕ) (qs ts : List Asking) (calls : List Call) → Missing setup key size f qs
+pub all_unnoted : (setup : Setup) (t : TaskTurn) (key : Parts) (text file : List ℕ) (layouts : List (ℕ × ℕ)) (size f : ℕ) (qs ts : List Asking) (calls : List Call) → Missing setup key size f qs
     → Going setup t key file size f ts calls (count_of size setup.chunk + 1)
     → RunOf setup t (store_task text file) key layouts (qs ++ ts) (with_size file size calls) [] A.Memory
 all_unnoted setup t key text file layouts size f qs ts calls m g =
@@ -90,7 +91,7 @@ all_but_done : (xs : List Asking) → list_all is_done xs ≡ true → list_all 
 all_but_done xs h = all_taken is_done _ xs h
 
 -- after the chunks that are there, and nothing else
-there_pieces : (setup : Setup) (t : ℕ) (key : Parts) (file : List ℕ) (size : ℕ) (there : List Asking) → Asked setup key size there → Pieces setup t key file size (length there) there [] []
+there_pieces : (setup : Setup) (t : TaskTurn) (key : Parts) (file : List ℕ) (size : ℕ) (there : List Asking) → Asked setup key size there → Pieces setup t key file size (length there) there [] []
 there_pieces setup t key file size there a = record {
   split = there_split setup key size there [] a refl;
   no_size = refl;
@@ -104,16 +105,16 @@ there_pieces setup t key file size there a = record {
   each_removed = refl;
 }
 
-sized_calls : (setup : Setup) (t : ℕ) (file : List ℕ) (size : ℕ) (asked : List Asking) → StoreCalls setup t file asked (with_size file size [])
+sized_calls : (setup : Setup) (t : TaskTurn) (file : List ℕ) (size : ℕ) (asked : List Asking) → StoreCalls setup t file asked (with_size file size [])
 sized_calls setup t file size asked = record { names = rw (same_name file) refl; changes = refl; lengths = rw (same_name file) refl }
 
-no_more : (setup : Setup) (t : ℕ) (key : Parts) (text file : List ℕ) (layouts : List (ℕ × ℕ)) (size : ℕ) (there : List Asking) (noted : List Noting) (answer : Answer)
+no_more : (setup : Setup) (t : TaskTurn) (key : Parts) (text file : List ℕ) (layouts : List (ℕ × ℕ)) (size : ℕ) (there : List Asking) (noted : List Noting) (answer : Answer)
     → RunOf setup t (store_task text file) key layouts (there ++ []) (with_size file size []) noted answer → RunOf setup t (store_task text file) key layouts there (with_size file size []) noted answer
 no_more setup t key text file layouts size there noted answer h =
     let P : List Asking → Type 0 = λ l. RunOf setup t (store_task text file) key layouts l (with_size file size []) noted answer in subst P (append-nil there) h
 
 -- running out of memory at a question
-pub asked_memory : (setup : Setup) (t : ℕ) (key : Parts) (text file : List ℕ) (layouts : List (ℕ × ℕ)) (size : ℕ) (there : List Asking) → Asked setup key size there
+pub asked_memory : (setup : Setup) (t : TaskTurn) (key : Parts) (text file : List ℕ) (layouts : List (ℕ × ℕ)) (size : ℕ) (there : List Asking) → Asked setup key size there
     → RunOf setup t (store_task text file) key layouts there (with_size file size []) [] A.Memory
 asked_memory setup t key text file layouts size there a =
     no_more setup t key text file layouts size there [] A.Memory (run_memory setup t key text file layouts (there ++ []) (with_size file size []) [] (chunked_is setup key size a.chunked) (sized_calls setup t file size (there ++ []))
@@ -121,7 +122,7 @@ asked_memory setup t key text file layouts size there a =
     (all_more (λ q. is_none (asking_stop W.Store q)) there [] (all_done_free there a.each_there) refl) refl)
 
 -- all are there
-pub asked_all : (setup : Setup) (t : ℕ) (key : Parts) (text file : List ℕ) (layouts : List (ℕ × ℕ)) (size : ℕ) (there : List Asking) → Asked setup key size there → length there ≡ count_of size setup.chunk
+pub asked_all : (setup : Setup) (t : TaskTurn) (key : Parts) (text file : List ℕ) (layouts : List (ℕ × ℕ)) (size : ℕ) (there : List Asking) → Asked setup key size there → length there ≡ count_of size setup.chunk
     → RunOf setup t (store_task text file) key layouts there (with_size file size []) (the_note setup (count_of size setup.chunk) (length there) ∷ []) A.Stored
 asked_all setup t key text file layouts size there a n =
     let Q : List Asking → Type 0 = λ l. RunOf setup t (store_task text file) key layouts l (with_size file size []) (the_note setup (count_of size setup.chunk) (length l) ∷ []) A.Stored in
@@ -183,7 +184,7 @@ last_asks ask key chunk n m (suc count) (x ∷ xs) a o =
     let Q : ℕ → Type 0 = λ k. AsksFor ask (n + 1 + length xs) (with_chunk chunk k key) a in
     (subst P d (subst Q e r.0), omega (arith, r.1))
 
-gone_kept : (setup : Setup) (t : ℕ) (key : Parts) (text file : List ℕ) (layouts : List (ℕ × ℕ)) (size : ℕ) (there : List Asking) (a : Asking) (answer : Answer) → Asked setup key size there
+gone_kept : (setup : Setup) (t : TaskTurn) (key : Parts) (text file : List ℕ) (layouts : List (ℕ × ℕ)) (size : ℕ) (there : List Asking) (a : Asking) (answer : Answer) → Asked setup key size there
     → AskInOrder present_request 1 (chunk_keys key setup.chunk 1 (count_of size setup.chunk)) (there ++ a ∷ []) → verdict_stop true a.verdict ≡ Some answer → is_question a ≡ true
     → RunOf setup t (store_task text file) key layouts (there ++ a ∷ []) (with_size file size []) [] answer
 gone_kept setup t key text file layouts size there a answer k o s q =
@@ -223,7 +224,7 @@ gone_kept setup t key text file layouts size there a answer k o s q =
       each_removed = refl;
     }
 
-gone_lost : (setup : Setup) (t : ℕ) (key : Parts) (text file : List ℕ) (layouts : List (ℕ × ℕ)) (size : ℕ) (there : List Asking) (name : Option (List ℕ)) (v : Verdict) (answer : Answer) → Asked setup key size there
+gone_lost : (setup : Setup) (t : TaskTurn) (key : Parts) (text file : List ℕ) (layouts : List (ℕ × ℕ)) (size : ℕ) (there : List Asking) (name : Option (List ℕ)) (v : Verdict) (answer : Answer) → Asked setup key size there
     → is_gone v ≡ true → length there < count_of size setup.chunk → verdict_stop true v ≡ Some answer
     → RunOf setup t (store_task text file) key layouts (there ++ record { request = None; name = name; verdict = v } ∷ []) (with_size file size []) [] answer
 gone_lost setup t key text file layouts size there name v answer k gone few s =
@@ -258,7 +259,7 @@ gone_lost setup t key text file layouts size there name v answer k gone few s =
       each_removed = refl;
     }
 
-pub asked_gone : (setup : Setup) (t : ℕ) (key : Parts) (text file : List ℕ) (layouts : List (ℕ × ℕ)) (size : ℕ) (there : List Asking) (a : Asking) (answer : Answer) → Asked setup key size there
+pub asked_gone : (setup : Setup) (t : TaskTurn) (key : Parts) (text file : List ℕ) (layouts : List (ℕ × ℕ)) (size : ℕ) (there : List Asking) (a : Asking) (answer : Answer) → Asked setup key size there
     → AskInOrder present_request 1 (chunk_keys key setup.chunk 1 (count_of size setup.chunk)) (there ++ a ∷ []) → verdict_stop true a.verdict ≡ Some answer
     → RunOf setup t (store_task text file) key layouts (there ++ a ∷ []) (with_size file size []) [] answer
 asked_gone setup t key text file layouts size there a answer k o s =

@@ -14,6 +14,7 @@ use Rattle.ann_outside.specs.declared.file_desk.Call.TheVariants.{Size, ReadAt, 
 use Rattle.fetch_copy.specs.Copies.{copy_calls}
 use Rattle.fetch_copy.specs.CopiesOut.{reads_before}
 use Rattle.task_run.specs.declared.setup.Setup.{Setup}
+use Rattle.task_run.specs.declared.turn.TaskTurn.{TaskTurn}
 use Rattle.task_run.specs.Stops.{call_stop}
 use Rattle.task_run.specs.Names.{chunk_file, chunk_files, is_among}
 use Rattle.task_run.specs.Reads.{reads_of, read_of, bytes_of, is_run, piece_of, appended, held_after, holds, is_call_of, is_known}
@@ -383,5 +384,5 @@ in_range f m (suc k) n low high = by_test (n == m) refl (λ differ. in_range f (
     by_test true e rest = let same : n ≡ m = grind (arith, nat_tests) in rw same (rw (same_name (f m)) refl)
     by_test false e rest = or_right (bytes_eq (f n) (f m)) (is_among (map f (range_with_len (m + 1) k)) (f n)) (rest (λ same. grind (arith, nat_tests)))
 
-pub chunk_among : (setup : Setup) (t count n : ℕ) → 1 ≤ n → n ≤ count → is_among (chunk_files setup t count) (chunk_file setup t n) ≡ true
+pub chunk_among : (setup : Setup) (t : TaskTurn) (count n : ℕ) → 1 ≤ n → n ≤ count → is_among (chunk_files setup t count) (chunk_file setup t n) ≡ true
 chunk_among setup t count n low high = in_range (chunk_file setup t) 1 count n low (omega arith)

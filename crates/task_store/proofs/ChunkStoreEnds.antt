@@ -15,6 +15,7 @@ use Rattle.task_text.specs.declared.task.Work.TheVariants as W
 use Rattle.ann_outside.specs.declared.file_desk.Call.{Call}
 use Rattle.task_run.specs.Askers.{Asking, Noting, is_gone}
 use Rattle.task_run.specs.declared.setup.Setup.{Setup}
+use Rattle.task_run.specs.declared.turn.TaskTurn.{TaskTurn}
 use Rattle.task_run.specs.Stops.{asking_stop, call_stop, verdict_stop, AnsweredBy, all_but_last, is_done, is_done_at, is_question}
 use Rattle.task_run.specs.Names.{part_of}
 use Rattle.task_run.specs.Requests.{AskInOrder}
@@ -34,7 +35,7 @@ use Rattle.task_store.proofs.ChunkStoreParts.{Chunked, chunk_parts, keys_are, mi
 
 -- ---- what is asked, for any questions and what follows them
 
-pub record Pieces (setup : Setup) (t : ℕ) (key : Parts) (file : List ℕ) (size f : ℕ) (qs ts : List Asking) (calls : List Call) : Type 0 where
+pub record Pieces (setup : Setup) (t : TaskTurn) (key : Parts) (file : List ℕ) (size f : ℕ) (qs ts : List Asking) (calls : List Call) : Type 0 where
   pub split : Split (qs ++ ts) qs ts f
   pub no_size : list_any is_size_call calls ≡ false
   pub in_order : AskInOrder present_request 1 (chunk_keys key setup.chunk 1 (count_of size setup.chunk)) qs
@@ -56,7 +57,7 @@ missing_keys setup key size m k = go (range_with_len m k)
     go [] = refl
     go (n ∷ ns) = ap (λ l. with_chunk setup.chunk n key ∷ l) (go ns)
 
-pub asks_of : (setup : Setup) (t : ℕ) (key : Parts) (file : List ℕ) (size f : ℕ) (qs ts : List Asking) (calls : List Call) (noted : List Noting) → Chunked setup key size
+pub asks_of : (setup : Setup) (t : TaskTurn) (key : Parts) (file : List ℕ) (size f : ℕ) (qs ts : List Asking) (calls : List Call) (noted : List Noting) → Chunked setup key size
     → Pieces setup t key file size f qs ts calls
     → noted ≡ take (length noted) (the_note setup (count_of size setup.chunk) (length (qs ++ ts)) ∷ []) → (noted ≢ [] → f + count_by is_done ts ≡ count_of size setup.chunk)
     → ChunkStoreAsks setup t key file (qs ++ ts) (with_size file size calls) noted
@@ -162,7 +163,7 @@ sought_split key chunk count f qs ts s h = split_of qs ts f all h (found_is ∙ 
         let split : qs ++ ts ≡ s.there ++ (s.one ∷ ts) = ap (λ l. l ++ ts) s.asked_is ∙ append_assoc s.there (s.one ∷ []) ts in
         subst P (sym split) (found_there s.there (s.one ∷ ts) there s.each_there none)
 
-pub pieces_of : (setup : Setup) (t : ℕ) (key : Parts) (file : List ℕ) (size f : ℕ) (qs ts : List Asking) (calls : List Call) → f < count_of size setup.chunk
+pub pieces_of : (setup : Setup) (t : TaskTurn) (key : Parts) (file : List ℕ) (size f : ℕ) (qs ts : List Asking) (calls : List Call) → f < count_of size setup.chunk
     → f + length ts ≤ count_of size setup.chunk
     → IsSought key setup.chunk (count_of size setup.chunk) f qs → Front setup t key file size f ts calls → Pieces setup t key file size f qs ts calls
 pieces_of setup t key file size f qs ts calls low most s g = record {
@@ -213,7 +214,7 @@ store_task text file = record { work = W.Store; key = text; file = file; name = 
 abbrev pub are_free : List Asking → Bool
 are_free asked = list_all (λ a. is_none (asking_stop W.Store a)) asked
 
-pub run_memory : (setup : Setup) (t : ℕ) (key : Parts) (text file : List ℕ) (layouts : List (ℕ × ℕ)) (asked : List Asking) (calls : List Call) (noted : List Noting)
+pub run_memory : (setup : Setup) (t : TaskTurn) (key : Parts) (text file : List ℕ) (layouts : List (ℕ × ℕ)) (asked : List Asking) (calls : List Call) (noted : List Noting)
     → is_chunked setup key ≡ true → StoreCalls setup t file asked calls → ChunkStoreAsks setup t key file asked calls noted → are_found (part_of file) [] calls ≡ true
     → are_free asked ≡ true → is_free file calls ≡ true → RunOf setup t (store_task text file) key layouts asked calls noted A.Memory
 run_memory setup t key text file layouts asked calls noted k sc ca found fa fc = record {
@@ -224,7 +225,7 @@ run_memory setup t key text file layouts asked calls noted k sc ca found fa fc =
   answered = rw (none_stop (asking_stop W.Store) asked fa, none_stop (call_stop (part_of file)) calls fc) tt;
 }
 
-pub run_finished : (setup : Setup) (t : ℕ) (key : Parts) (text file : List ℕ) (layouts : List (ℕ × ℕ)) (asked : List Asking) (calls : List Call) (noted : List Noting) (answer : Answer)
+pub run_finished : (setup : Setup) (t : TaskTurn) (key : Parts) (text file : List ℕ) (layouts : List (ℕ × ℕ)) (asked : List Asking) (calls : List Call) (noted : List Noting) (answer : Answer)
     → is_chunked setup key ≡ true → StoreCalls setup t file asked calls → ChunkStoreAsks setup t key file asked calls noted → are_found (part_of file) [] calls ≡ true
     → are_free asked ≡ true → is_free file calls ≡ true → AnsweredBy [] answer (WorkAnswers setup t (store_task text file) key layouts W.Store asked calls noted answer)
     → RunOf setup t (store_task text file) key layouts asked calls noted answer
@@ -236,7 +237,7 @@ run_finished setup t key text file layouts asked calls noted answer k sc ca foun
   answered = rw (none_stop (asking_stop W.Store) asked fa, none_stop (call_stop (part_of file)) calls fc) h;
 }
 
-pub run_call_stop : (setup : Setup) (t : ℕ) (key : Parts) (text file : List ℕ) (layouts : List (ℕ × ℕ)) (asked : List Asking) (front : List Call) (x : Call) (answer : Answer)
+pub run_call_stop : (setup : Setup) (t : TaskTurn) (key : Parts) (text file : List ℕ) (layouts : List (ℕ × ℕ)) (asked : List Asking) (front : List Call) (x : Call) (answer : Answer)
     → is_chunked setup key ≡ true → StoreCalls setup t file asked (front ++ x ∷ []) → ChunkStoreAsks setup t key file asked (front ++ x ∷ []) []
     → are_found (part_of file) [] (front ++ x ∷ []) ≡ true → are_free asked ≡ true → is_free file front ≡ true → call_stop (part_of file) x ≡ Some answer
     → RunOf setup t (store_task text file) key layouts asked (front ++ x ∷ []) [] answer
@@ -249,7 +250,7 @@ run_call_stop setup t key text file layouts asked front x answer k sc ca found f
       (rw (filter_map-append (call_stop (part_of file)) front (x ∷ [])) (rw (none_stop (call_stop (part_of file)) front fc) (rw s refl)));
 }
 
-pub run_asking_stop : (setup : Setup) (t : ℕ) (key : Parts) (text file : List ℕ) (layouts : List (ℕ × ℕ)) (front : List Asking) (a : Asking) (calls : List Call) (answer : Answer)
+pub run_asking_stop : (setup : Setup) (t : TaskTurn) (key : Parts) (text file : List ℕ) (layouts : List (ℕ × ℕ)) (front : List Asking) (a : Asking) (calls : List Call) (answer : Answer)
     → is_chunked setup key ≡ true → StoreCalls setup t file (front ++ a ∷ []) calls → ChunkStoreAsks setup t key file (front ++ a ∷ []) calls []
     → are_found (part_of file) [] calls ≡ true → are_free front ≡ true → asking_stop W.Store a ≡ Some answer → is_free file calls ≡ true
     → RunOf setup t (store_task text file) key layouts (front ++ a ∷ []) calls [] answer
@@ -326,7 +327,7 @@ pub record Missing (setup : Setup) (key : Parts) (size f : ℕ) (qs : List Askin
 pub chunked_is : (setup : Setup) (key : Parts) (size : ℕ) → Chunked setup key size → is_chunked setup key ≡ true
 chunked_is setup key size h = rw (h.some, h.sized) refl
 
-pub calls_of : (setup : Setup) (t : ℕ) (key : Parts) (file : List ℕ) (size f : ℕ) (qs ts : List Asking) (calls : List Call) → Missing setup key size f qs
+pub calls_of : (setup : Setup) (t : TaskTurn) (key : Parts) (file : List ℕ) (size f : ℕ) (qs ts : List Asking) (calls : List Call) → Missing setup key size f qs
     → Front setup t key file size f ts calls → StoreCalls setup t file (qs ++ ts) (with_size file size calls)
 calls_of setup t key file size f qs ts calls m g = record {
   names = rw (same_name file) (g.names (length (qs ++ ts) + 1) (omega (arith, length-append qs ts, many)));
@@ -337,13 +338,13 @@ calls_of setup t key file size f qs ts calls m g = record {
     many : length qs ≡ f + 1
     many = sought_length key setup.chunk (count_of size setup.chunk) f qs m.sought
 
-pub front_asks : (setup : Setup) (t : ℕ) (key : Parts) (file : List ℕ) (size f : ℕ) (qs ts : List Asking) (calls : List Call) → Missing setup key size f qs
+pub front_asks : (setup : Setup) (t : TaskTurn) (key : Parts) (file : List ℕ) (size f : ℕ) (qs ts : List Asking) (calls : List Call) → Missing setup key size f qs
     → f + length ts ≤ count_of size setup.chunk → Front setup t key file size f ts calls → ChunkStoreAsks setup t key file (qs ++ ts) (with_size file size calls) []
 front_asks setup t key file size f qs ts calls m most g =
     asks_of setup t key file size f qs ts calls [] m.chunked (pieces_of setup t key file size f qs ts calls m.least most m.sought g) refl (λ some. absurd (some refl))
 
 -- running out of memory after a front
-pub end_memory : (setup : Setup) (t : ℕ) (key : Parts) (text file : List ℕ) (layouts : List (ℕ × ℕ)) (size f : ℕ) (qs ts : List Asking) (calls : List Call) → Missing setup key size f qs
+pub end_memory : (setup : Setup) (t : TaskTurn) (key : Parts) (text file : List ℕ) (layouts : List (ℕ × ℕ)) (size f : ℕ) (qs ts : List Asking) (calls : List Call) → Missing setup key size f qs
     → f + length ts ≤ count_of size setup.chunk → Front setup t key file size f ts calls → are_free ts ≡ true → is_free file calls ≡ true
     → RunOf setup t (store_task text file) key layouts (qs ++ ts) (with_size file size calls) [] A.Memory
 end_memory setup t key text file layouts size f qs ts calls m most g fa fc =
@@ -352,7 +353,7 @@ end_memory setup t key text file layouts size f qs ts calls m most g fa fc =
     (all_more (λ a. is_none (asking_stop W.Store a)) qs ts (sought_free key setup.chunk (count_of size setup.chunk) f qs m.sought) fa) fc
 
 -- a call that stops the task
-pub end_call : (setup : Setup) (t : ℕ) (key : Parts) (text file : List ℕ) (layouts : List (ℕ × ℕ)) (size f : ℕ) (qs ts : List Asking) (calls : List Call) (x : Call) (answer : Answer) → Missing setup key size f qs
+pub end_call : (setup : Setup) (t : TaskTurn) (key : Parts) (text file : List ℕ) (layouts : List (ℕ × ℕ)) (size f : ℕ) (qs ts : List Asking) (calls : List Call) (x : Call) (answer : Answer) → Missing setup key size f qs
     → f + length ts ≤ count_of size setup.chunk → Front setup t key file size f ts (calls ++ x ∷ []) → are_free ts ≡ true → is_free file calls ≡ true → call_stop (part_of file) x ≡ Some answer
     → RunOf setup t (store_task text file) key layouts (qs ++ ts) (with_size file size (calls ++ x ∷ [])) [] answer
 end_call setup t key text file layouts size f qs ts calls x answer m most g fa fc s =
@@ -361,7 +362,7 @@ end_call setup t key text file layouts size f qs ts calls x answer m most g fa f
     (all_more (λ a. is_none (asking_stop W.Store a)) qs ts (sought_free key setup.chunk (count_of size setup.chunk) f qs m.sought) fa) fc s
 
 -- a request that stops it
-pub end_asking : (setup : Setup) (t : ℕ) (key : Parts) (text file : List ℕ) (layouts : List (ℕ × ℕ)) (size f : ℕ) (qs ts : List Asking) (a : Asking) (calls : List Call) (answer : Answer) → Missing setup key size f qs
+pub end_asking : (setup : Setup) (t : TaskTurn) (key : Parts) (text file : List ℕ) (layouts : List (ℕ × ℕ)) (size f : ℕ) (qs ts : List Asking) (a : Asking) (calls : List Call) (answer : Answer) → Missing setup key size f qs
     → f + length (ts ++ a ∷ []) ≤ count_of size setup.chunk → Front setup t key file size f (ts ++ a ∷ []) calls → are_free ts ≡ true → asking_stop W.Store a ≡ Some answer → is_free file calls ≡ true
     → RunOf setup t (store_task text file) key layouts (qs ++ (ts ++ a ∷ [])) (with_size file size calls) [] answer
 end_asking setup t key text file layouts size f qs ts a calls answer m most g fa s fc =

@@ -23,6 +23,7 @@ use Rattle.ann_outside.specs.declared.file_desk.Call.{Call}
 use Rattle.chunk_plan.specs.Layouts.{count_of, from_of, to_of}
 use Rattle.fetch_copy.proofs.CopyLaws.{gained_nothing, gained_more}
 use Rattle.task_run.specs.declared.setup.Setup.{Setup}
+use Rattle.task_run.specs.declared.turn.TaskTurn.{TaskTurn}
 use Rattle.task_run.specs.Names.{chunk_file}
 use Rattle.task_run.specs.Ran.{undone_answer, behind_more, answered}
 use Rattle.task_run.specs.Runs.{RunOf}
@@ -102,14 +103,14 @@ seeks_over key chunk count n before between after v answer s low o d = record {
 -- ---- chunks
 
 -- the chunks up to number n are there, of which those after f were stored
-pub record Storing (setup : Setup) (t : ℕ) (key : Parts) (file : List ℕ) (size f : ℕ) (pairs_before pairs_after : List Asking) (old new : Option Log) (n : ℕ) : Type 0 where
+pub record Storing (setup : Setup) (t : TaskTurn) (key : Parts) (file : List ℕ) (size f : ℕ) (pairs_before pairs_after : List Asking) (old new : Option Log) (n : ℕ) : Type 0 where
   pub asked : List Asking
   pub calls : List Call
   pub pairs_are : pairs_after ≡ pairs_before ++ asked
   pub log_is : Gained old new calls
   pub going : Going setup t key file size f asked calls (n + 1)
 
-pub storing_none : (setup : Setup) (t : ℕ) (key : Parts) (file : List ℕ) (size f : ℕ) (pairs : List Asking) (log : Option Log) → Storing setup t key file size f pairs pairs log log f
+pub storing_none : (setup : Setup) (t : TaskTurn) (key : Parts) (file : List ℕ) (size f : ℕ) (pairs : List Asking) (log : Option Log) → Storing setup t key file size f pairs pairs log log f
 storing_none setup t key file size f pairs log = record { asked = []; calls = []; pairs_are = sym (append-nil pairs); log_is = gained_nothing log; going = going_none setup t key file size f }
 
 -- what is known of the store at the first chunk that isn't there
@@ -121,7 +122,7 @@ pub record Known (setup : Setup) (key : Parts) (size f : ℕ) : Type 0 where
 missing_of : (setup : Setup) (key : Parts) (size f : ℕ) (qs : List Asking) → Known setup key size f → IsSought key setup.chunk (count_of size setup.chunk) f qs → Missed setup key size f qs
 missing_of setup key size f qs k s = record { chunked = k.chunked; sought = s; least = k.least; small = k.small }
 
-pub storing_more : (setup : Setup) (t : ℕ) (key : Parts) (file : List ℕ) (size f n : ℕ) (before between after : List Asking) (a b d : Option Log) → Known setup key size f
+pub storing_more : (setup : Setup) (t : TaskTurn) (key : Parts) (file : List ℕ) (size f n : ℕ) (before between after : List Asking) (a b d : Option Log) → Known setup key size f
     → Storing setup t key file size f before between a b n → n < count_of size setup.chunk
     → StoresChunk file (chunk_file setup t (n + 1 + 1)) (from_of setup.chunk (n + 1)) (to_of size setup.chunk (n + 1)) (with_chunk setup.chunk (n + 1) key) between after b d (Ok None)
     → Storing setup t key file size f before after a d (n + 1)
@@ -173,7 +174,7 @@ storing_more setup t key file size f n before between after a b d k s low h = re
     by_how (Settled pieces ending x (Err E.Missing)) e so = absurd cc
     by_how (Settled pieces ending x (Ok done)) e so = chunk_goes setup t key file size f s.asked s.calls (n + 1) pieces ending x k.chunked k.small s.going (omega arith) so (stored_done x.verdict so.3 e)
 
-pub storing_ends : (setup : Setup) (t : ℕ) (key : Parts) (file : List ℕ) (size f n : ℕ) (before between after : List Asking) (notes notes' : List Noting) (a b d : Option Log)
+pub storing_ends : (setup : Setup) (t : TaskTurn) (key : Parts) (file : List ℕ) (size f n : ℕ) (before between after : List Asking) (notes notes' : List Noting) (a b d : Option Log)
     (result : Result (Option Answer) NoMemory) → Known setup key size f
     → Storing setup t key file size f before between a b n → n < count_of size setup.chunk
     → StoresChunk file (chunk_file setup t (n + 1 + 1)) (from_of setup.chunk (n + 1)) (to_of size setup.chunk (n + 1)) (with_chunk setup.chunk (n + 1) key) between after b d result
@@ -192,7 +193,7 @@ storing_ends setup t key file size f n before between after notes notes' a b d r
       (λ e. ne (h.result_is ∙ e)));
 }
 
-pub storing_done : (setup : Setup) (t : ℕ) (key : Parts) (file : List ℕ) (size f n count : ℕ) (before after : List Asking) (notes notes' : List Noting) (a b : Option Log)
+pub storing_done : (setup : Setup) (t : TaskTurn) (key : Parts) (file : List ℕ) (size f n count : ℕ) (before after : List Asking) (notes notes' : List Noting) (a b : Option Log)
     (result : Result Answer NoMemory) → Known setup key size f → count ≡ count_of size setup.chunk
     → Storing setup t key file size f before after a b n → n ≤ count → count ≤ n → NotesChunks setup.chunk count (length after) notes notes' result
     → StoresFrom setup t key file size f before after notes notes' a b result
@@ -251,7 +252,7 @@ abbrev the_noting : ℕ → ℕ → ℕ → Noting
 the_noting chunk count behind = record { chunk = chunk; count = count; behind = behind }
 
 -- for lack of memory nothing was done
-pub sized_nothing : (setup : Setup) (t : ℕ) (key : Parts) (file : List ℕ) (size : ℕ) (pairs : List Asking) (notes : List Noting) (log : Option Log) (e : NoMemory) → Chunked setup key size
+pub sized_nothing : (setup : Setup) (t : TaskTurn) (key : Parts) (file : List ℕ) (size : ℕ) (pairs : List Asking) (notes : List Noting) (log : Option Log) (e : NoMemory) → Chunked setup key size
     → StoresSized setup t key file size pairs pairs notes notes log log (Err e)
 sized_nothing setup t key file size pairs notes log e k = record {
   asked = [];
@@ -263,7 +264,7 @@ sized_nothing setup t key file size pairs notes log e k = record {
   run = λ text layouts. asked_memory setup t key text file layouts size [] (record { chunked = k; in_order = tt; each_there = refl; most = omega arith });
 }
 
-pub sized_without : (setup : Setup) (t : ℕ) (key : Parts) (file : List ℕ) (size count : ℕ) (before after : List Asking) (notes notes' : List Noting) (log : Option Log) (e : NoMemory)
+pub sized_without : (setup : Setup) (t : TaskTurn) (key : Parts) (file : List ℕ) (size count : ℕ) (before after : List Asking) (notes notes' : List Noting) (log : Option Log) (e : NoMemory)
     → Chunked setup key size → count ≡ count_of size setup.chunk → Seeks key setup.chunk count before after (Err e) → notes' ≡ notes
     → StoresSized setup t key file size before after notes notes' log log (Err e)
 sized_without setup t key file size count before after notes notes' log e k c s same = record {
@@ -279,7 +280,7 @@ sized_without setup t key file size count before after notes notes' log e k c s 
     in_order : AskInOrder present_request 1 (chunk_keys key setup.chunk 1 (count_of size setup.chunk)) (s.there ++ s.last)
     in_order = let P : ℕ → Type 0 = λ n. AskInOrder present_request 1 (chunk_keys key setup.chunk 1 n) (s.there ++ s.last) in subst P c s.in_order
 
-pub sized_over : (setup : Setup) (t : ℕ) (key : Parts) (file : List ℕ) (size count : ℕ) (before after : List Asking) (notes notes' : List Noting) (log : Option Log) (answer : Answer)
+pub sized_over : (setup : Setup) (t : TaskTurn) (key : Parts) (file : List ℕ) (size count : ℕ) (before after : List Asking) (notes notes' : List Noting) (log : Option Log) (answer : Answer)
     → Chunked setup key size → count ≡ count_of size setup.chunk → Seeks key setup.chunk count before after (Ok (Over answer)) → notes' ≡ notes
     → StoresSized setup t key file size before after notes notes' log log (Ok answer)
 sized_over setup t key file size count before after notes notes' log answer k c s same = record {
@@ -296,7 +297,7 @@ sized_over setup t key file size count before after notes notes' log answer k c 
     in_order : AskInOrder present_request 1 (chunk_keys key setup.chunk 1 (count_of size setup.chunk)) (s.there ++ s.last)
     in_order = let P : ℕ → Type 0 = λ n. AskInOrder present_request 1 (chunk_keys key setup.chunk 1 n) (s.there ++ s.last) in subst P c s.in_order
 
-pub sized_all : (setup : Setup) (t : ℕ) (key : Parts) (file : List ℕ) (size count : ℕ) (before between after : List Asking) (notes notes' notes'' : List Noting) (log : Option Log) (result : Result Answer NoMemory)
+pub sized_all : (setup : Setup) (t : TaskTurn) (key : Parts) (file : List ℕ) (size count : ℕ) (before between after : List Asking) (notes notes' notes'' : List Noting) (log : Option Log) (result : Result Answer NoMemory)
     → Chunked setup key size → count ≡ count_of size setup.chunk → Seeks key setup.chunk count before between (Ok All) → notes' ≡ notes → after ≡ between
     → NotesChunks setup.chunk count (length between) notes' notes'' result
     → StoresSized setup t key file size before after notes notes'' log log result
@@ -337,7 +338,7 @@ sized_all setup t key file size count before between after notes notes' notes'' 
           subst P (sym h.0) (asked_all setup t key text file layouts size s.there (asked_of setup key size s.there s.last k in_order s.each_there) (s.ends.1 ∙ c));
     }
 
-pub sized_missing : (setup : Setup) (t : ℕ) (key : Parts) (file : List ℕ) (size count n : ℕ) (before between after : List Asking) (notes notes' notes'' : List Noting) (old new : Option Log) (result : Result Answer NoMemory)
+pub sized_missing : (setup : Setup) (t : TaskTurn) (key : Parts) (file : List ℕ) (size count n : ℕ) (before between after : List Asking) (notes notes' notes'' : List Noting) (old new : Option Log) (result : Result Answer NoMemory)
     → Chunked setup key size → count ≡ count_of size setup.chunk → Seeks key setup.chunk count before between (Ok (Missing n)) → notes' ≡ notes
     → StoresFrom setup t key file size n between after notes' notes'' old new result → StoresSized setup t key file size before after notes notes'' old new result
 sized_missing setup t key file size count n before between after notes notes' notes'' old new result k c s same h = record {

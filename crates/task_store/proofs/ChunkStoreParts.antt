@@ -14,6 +14,7 @@ use Rattle.journal_model.specs.declared.verdict.Verdict.TheVariants.{Done, Faile
 use Rattle.ann_outside.specs.declared.file_desk.Call.{Call}
 use Rattle.task_run.specs.Askers.{Asking, is_gone}
 use Rattle.task_run.specs.declared.setup.Setup.{Setup}
+use Rattle.task_run.specs.declared.turn.TaskTurn.{TaskTurn}
 use Rattle.task_run.specs.Stops.{is_done, is_done_at, is_question}
 use Rattle.task_run.specs.Names.{chunk_file}
 use Rattle.task_run.specs.Requests.{AsksFor, AskInOrder}
@@ -184,7 +185,7 @@ found_there there rest q d n = count_front (λ a. is_question a && is_done a) th
 
 -- ---- what was asked, as a whole
 
-pub are_whole_from : (setup : Setup) (t : ℕ) (key : Parts) (file : List ℕ) (size m k : ℕ) (calls : List Call) (ts : List Asking) → length ts ≤ k
+pub are_whole_from : (setup : Setup) (t : TaskTurn) (key : Parts) (file : List ℕ) (size m k : ℕ) (calls : List Call) (ts : List Asking) → length ts ≤ k
     → ((c : ℕ) → m ≤ c → c < m + length ts → WholeAt setup t key file size c calls)
     → are_whole setup t file (with_size file size calls) (m + 1) (chunk_parts setup key size m k) ts ≡ true
 are_whole_from setup t key file size m k calls [] low w = refl
@@ -195,7 +196,7 @@ are_whole_from setup t key file size m (suc k) calls (a ∷ ts) low w =
     are_whole_from setup t key file size (m + 1) k calls ts (omega arith) (λ c least most. w c (omega arith) (omega arith)) in
     rw (first.copied, first.long, first.filled, rest) refl
 
-pub are_removed_from : (setup : Setup) (t m : ℕ) (calls : List Call) (ts : List Asking) → ((c : ℕ) → m ≤ c → c < m + length ts → is_removed (chunk_file setup t (c + 1)) calls ≡ true)
+pub are_removed_from : (setup : Setup) (t : TaskTurn) (m : ℕ) (calls : List Call) (ts : List Asking) → ((c : ℕ) → m ≤ c → c < m + length ts → is_removed (chunk_file setup t (c + 1)) calls ≡ true)
     → are_removed setup t calls (m + 1) ts ≡ true
 are_removed_from setup t m calls [] r = refl
 are_removed_from setup t m calls (a ∷ ts) r =
@@ -203,7 +204,7 @@ are_removed_from setup t m calls (a ∷ ts) r =
     let rest : are_removed setup t calls (m + 1 + 1) ts ≡ true = are_removed_from setup t (m + 1) calls ts (λ c least most. r c (omega arith) (omega arith)) in
     rw (first, rest) refl
 
-pub next_of : (setup : Setup) (t : ℕ) (key : Parts) (file : List ℕ) (size n m k : ℕ) (calls : List Call) → (0 < k → is_copied setup t file calls n (chunk_part key size setup.chunk m) ≡ true)
+pub next_of : (setup : Setup) (t : TaskTurn) (key : Parts) (file : List ℕ) (size n m k : ℕ) (calls : List Call) → (0 < k → is_copied setup t file calls n (chunk_part key size setup.chunk m) ≡ true)
     → is_next_copied setup t file calls n (chunk_parts setup key size m k) ≡ true
 next_of setup t key file size n m zero calls h = refl
 next_of setup t key file size n m (suc k) calls h = h (omega arith)

@@ -18,6 +18,7 @@ use Rattle.ann_outside.specs.declared.file_desk.Call.TheVariants.{Size}
 use Rattle.fetch_copy.proofs.CopyLaws.{gained_call, gained_without, gained_more}
 use Rattle.task_run.specs.Askers.{Asking, Noting}
 use Rattle.task_run.specs.declared.setup.Setup.{Setup}
+use Rattle.task_run.specs.declared.turn.TaskTurn.{TaskTurn}
 use Rattle.task_run.specs.Names.{part_of}
 use Rattle.task_run.specs.Layouts.{parts_of_layout}
 use Rattle.task_run.specs.Stores.{is_size, is_copied, is_next_copied, begins_with_size, ChunkStoreAsks}
@@ -35,7 +36,7 @@ as_store : (task : Task) → task.work ≡ W.Store → nameless task ≡ store_t
 as_store task e = ap (λ w. record { work = w; key = task.key; file = task.file; name = []; onto = [] }) e
 
 -- a run by the key that the task's text spells is one of the task
-store_run : (task : Task) (t : ℕ) (setup : Setup) (key : Parts) (layouts : List (ℕ × ℕ)) (asked : List Asking) (calls : List Call) (noted : List Noting) (answer : Answer) → task.work ≡ W.Store
+store_run : (task : Task) (t : TaskTurn) (setup : Setup) (key : Parts) (layouts : List (ℕ × ℕ)) (asked : List Asking) (calls : List Call) (noted : List Noting) (answer : Answer) → task.work ≡ W.Store
     → key_reading task.key ≡ Some key → RunOf setup t (store_task task.key task.file) key layouts asked calls noted answer → TaskRun task t setup layouts asked calls noted answer
 store_run task t setup key layouts asked calls noted answer w r h =
     let P : Task → Type 0 = λ j. TaskRun j t setup layouts asked calls noted answer in
@@ -49,11 +50,11 @@ store_run task t setup key layouts asked calls noted answer w r h =
 
 -- ---- nothing asked
 
-next_any : (setup : Setup) (t : ℕ) (file : List ℕ) (calls : List Call) (n : ℕ) (ps : List Part) → ((p : Part) → is_copied setup t file calls n p ≡ true) → is_next_copied setup t file calls n ps ≡ true
+next_any : (setup : Setup) (t : TaskTurn) (file : List ℕ) (calls : List Call) (n : ℕ) (ps : List Part) → ((p : Part) → is_copied setup t file calls n p ≡ true) → is_next_copied setup t file calls n ps ≡ true
 next_any setup t file calls n [] h = refl
 next_any setup t file calls n (p ∷ ps) h = h p
 
-asks_nothing : (setup : Setup) (t : ℕ) (key : Parts) (file : List ℕ) (calls : List Call) → begins_with_size calls ≡ true → ((p : Part) → is_copied setup t file calls 1 p ≡ true)
+asks_nothing : (setup : Setup) (t : TaskTurn) (key : Parts) (file : List ℕ) (calls : List Call) → begins_with_size calls ≡ true → ((p : Part) → is_copied setup t file calls 1 p ≡ true)
     → ChunkStoreAsks setup t key file [] calls []
 asks_nothing setup t key file calls b h = record {
   size_first = b;
@@ -70,10 +71,10 @@ asks_nothing setup t key file calls b h = record {
   noted_last = λ some. absurd (some refl);
 }
 
-size_calls : (setup : Setup) (t : ℕ) (file : List ℕ) (r : Result ℕ DeskError) → StoreCalls setup t file [] (Size file r ∷ [])
+size_calls : (setup : Setup) (t : TaskTurn) (file : List ℕ) (r : Result ℕ DeskError) → StoreCalls setup t file [] (Size file r ∷ [])
 size_calls setup t file r = record { names = rw (same_name file) refl; changes = refl; lengths = rw (same_name file) refl }
 
-nothing_run : (setup : Setup) (t : ℕ) (key : Parts) (text file : List ℕ) (layouts : List (ℕ × ℕ)) → is_chunked setup key ≡ true → RunOf setup t (store_task text file) key layouts [] [] [] A.Memory
+nothing_run : (setup : Setup) (t : TaskTurn) (key : Parts) (text file : List ℕ) (layouts : List (ℕ × ℕ)) → is_chunked setup key ≡ true → RunOf setup t (store_task text file) key layouts [] [] [] A.Memory
 nothing_run setup t key text file layouts k = record {
   asked_till_stop = refl;
   calls_till_stop = refl;
@@ -82,7 +83,7 @@ nothing_run setup t key text file layouts k = record {
   answered = tt;
 }
 
-failed_run : (setup : Setup) (t : ℕ) (key : Parts) (text file : List ℕ) (layouts : List (ℕ × ℕ)) → is_chunked setup key ≡ true
+failed_run : (setup : Setup) (t : TaskTurn) (key : Parts) (text file : List ℕ) (layouts : List (ℕ × ℕ)) → is_chunked setup key ≡ true
     → RunOf setup t (store_task text file) key layouts [] (Size file (Err E.Failed) ∷ []) [] A.FileFault
 failed_run setup t key text file layouts k = record {
   asked_till_stop = refl;
@@ -92,7 +93,7 @@ failed_run setup t key text file layouts k = record {
   answered = refl;
 }
 
-missing_run : (setup : Setup) (t : ℕ) (key : Parts) (text file : List ℕ) (layouts : List (ℕ × ℕ)) → is_chunked setup key ≡ true
+missing_run : (setup : Setup) (t : TaskTurn) (key : Parts) (text file : List ℕ) (layouts : List (ℕ × ℕ)) → is_chunked setup key ≡ true
     → RunOf setup t (store_task text file) key layouts [] (Size file (Err E.Missing) ∷ []) [] A.NoFile
 missing_run setup t key text file layouts k = record {
   asked_till_stop = refl;
@@ -102,7 +103,7 @@ missing_run setup t key text file layouts k = record {
   answered = rw (other_name file (part_of file) (longer_differs file _ _)) refl;
 }
 
-other_run : (setup : Setup) (t : ℕ) (key : Parts) (text file : List ℕ) (layouts : List (ℕ × ℕ)) (n : ℕ) → is_chunked setup key ≡ true → is_size key.size n ≡ false
+other_run : (setup : Setup) (t : TaskTurn) (key : Parts) (text file : List ℕ) (layouts : List (ℕ × ℕ)) (n : ℕ) → is_chunked setup key ≡ true → is_size key.size n ≡ false
     → RunOf setup t (store_task text file) key layouts [] (Size file (Ok n) ∷ []) [] (A.Size n)
 other_run setup t key text file layouts n k s = record {
   asked_till_stop = refl;
@@ -114,7 +115,7 @@ other_run setup t key text file layouts n k s = record {
 
 -- ---- what was done
 
-pub refused_ran : (task : Task) (t : ℕ) (setup : Setup) (key : Parts) (pairs : List Asking) (notes : List Noting) (old new : Option Log) (e : DeskError) → task.work ≡ W.Store
+pub refused_ran : (task : Task) (t : TaskTurn) (setup : Setup) (key : Parts) (pairs : List Asking) (notes : List Noting) (old new : Option Log) (e : DeskError) → task.work ≡ W.Store
     → key_reading task.key ≡ Some key → IsInChunks setup task → new ≡ logged old (Size task.file (Err e)) → RanStore task t setup pairs pairs notes notes old new (refusal e)
 refused_ran task t setup key pairs notes old new E.NoMemory w r k l = record {
   asked = [];
@@ -144,7 +145,7 @@ refused_ran task t setup key pairs notes old new E.Missing w r k l = record {
   run = λ layouts. store_run task t setup key layouts [] (Size task.file (Err E.Missing) ∷ []) [] A.NoFile w r (missing_run setup t key task.key task.file layouts (k key r));
 }
 
-pub other_size_ran : (task : Task) (t : ℕ) (setup : Setup) (key : Parts) (pairs : List Asking) (notes : List Noting) (old new : Option Log) (size n : ℕ) → task.work ≡ W.Store
+pub other_size_ran : (task : Task) (t : TaskTurn) (setup : Setup) (key : Parts) (pairs : List Asking) (notes : List Noting) (old new : Option Log) (size n : ℕ) → task.work ≡ W.Store
     → key_reading task.key ≡ Some key → IsInChunks setup task → key.size ≡ Some size → (n ≡ size → ⊥) → new ≡ logged old (Size task.file (Ok n))
     → RanStore task t setup pairs pairs notes notes old new (Ok (A.Size n))
 other_size_ran task t setup key pairs notes old new size n w r k s d l = record {
@@ -157,7 +158,7 @@ other_size_ran task t setup key pairs notes old new size n w r k s d l = record 
   run = λ layouts. store_run task t setup key layouts [] (Size task.file (Ok n) ∷ []) [] (A.Size n) w r (other_run setup t key task.key task.file layouts n (k key r) (rw s (ne_eqb n size d)));
 }
 
-pub sized_ran : (task : Task) (t : ℕ) (setup : Setup) (key : Parts) (size : ℕ) (before after : List Asking) (notes notes' : List Noting) (a b d : Option Log) (result : Result Answer NoMemory)
+pub sized_ran : (task : Task) (t : TaskTurn) (setup : Setup) (key : Parts) (size : ℕ) (before after : List Asking) (notes notes' : List Noting) (a b d : Option Log) (result : Result Answer NoMemory)
     → task.work ≡ W.Store → key_reading task.key ≡ Some key → b ≡ logged a (Size task.file (Ok size)) → StoresSized setup t key task.file size before after notes notes' b d result
     → RanStore task t setup before after notes notes' a d result
 sized_ran task t setup key size before after notes notes' a b d result w r l h = record {

@@ -14,6 +14,7 @@ use Rattle.ann_outside.specs.declared.file_desk.Call.{Call}
 use Rattle.ann_outside.specs.declared.file_desk.Call.TheVariants.{Size, Remove}
 use Rattle.task_run.specs.Askers.{Asking}
 use Rattle.task_run.specs.declared.setup.Setup.{Setup}
+use Rattle.task_run.specs.declared.turn.TaskTurn.{TaskTurn}
 use Rattle.task_run.specs.Stops.{call_stop, all_but_last, is_done, is_question}
 use Rattle.task_run.specs.Names.{chunk_file, chunk_files, part_of}
 use Rattle.task_run.specs.Requests.{AsksFor, AskInOrder}
@@ -114,13 +115,13 @@ removed_still name xs ys h k =
 abbrev pub with_size : List ℕ → ℕ → List Call → List Call
 with_size file size calls = Size file (Ok size) ∷ calls
 
-pub record WholeAt (setup : Setup) (t : ℕ) (key : Parts) (file : List ℕ) (size c : ℕ) (calls : List Call) : Type 0 where
+pub record WholeAt (setup : Setup) (t : TaskTurn) (key : Parts) (file : List ℕ) (size c : ℕ) (calls : List Call) : Type 0 where
   pub copied : is_copied setup t file (with_size file size calls) (c + 1) (chunk_part key size setup.chunk c) ≡ true
   pub long : (copied_length setup t (with_size file size calls) (c + 1) == part_length (chunk_part key size setup.chunk c)) ≡ true
   pub filled : is_filled setup t (with_size file size calls) (c + 1) ≡ true
 
 -- after the question that found chunk f + 1 missing, which is request f + 1; chunk c is stored by request c + 1
-pub record Front (setup : Setup) (t : ℕ) (key : Parts) (file : List ℕ) (size f : ℕ) (asked : List Asking) (calls : List Call) : Type 0 where
+pub record Front (setup : Setup) (t : TaskTurn) (key : Parts) (file : List ℕ) (size f : ℕ) (asked : List Asking) (calls : List Call) : Type 0 where
   pub in_order : AskInOrder (chunk_request setup t) (f + 2) (chunk_keys key setup.chunk (f + 1) (count_of size setup.chunk - f)) asked
   pub no_questions : list_all (λ a. not (is_question a)) asked ≡ true
   pub each_stored : list_all is_done (all_but_last asked) ≡ true
@@ -138,7 +139,7 @@ abbrev pub is_free : List ℕ → List Call → Bool
 is_free file calls = list_all (λ call. is_none (call_stop (part_of file) call)) calls
 
 -- all chunks before c are there
-pub record Going (setup : Setup) (t : ℕ) (key : Parts) (file : List ℕ) (size f : ℕ) (asked : List Asking) (calls : List Call) (c : ℕ) : Type 0 where
+pub record Going (setup : Setup) (t : TaskTurn) (key : Parts) (file : List ℕ) (size f : ℕ) (asked : List Asking) (calls : List Call) (c : ℕ) : Type 0 where
   pub front : Front setup t key file size f asked calls
   pub all_stored : list_all is_done asked ≡ true
   pub so_many : f + 1 + length asked ≡ c
@@ -149,7 +150,7 @@ pub record Going (setup : Setup) (t : ℕ) (key : Parts) (file : List ℕ) (size
   pub fresh : (k : ℕ) → c ≤ k → k + 1 < 2 ^ 64 → filter_map (piece_of (chunk_file setup t (k + 1))) calls ≡ []
   pub before : list_all (λ (r : ℕ × List ℕ). nat_lt r.0 (from_of setup.chunk c)) (reads_of file calls) ≡ true
 
-pub going_none : (setup : Setup) (t : ℕ) (key : Parts) (file : List ℕ) (size f : ℕ) → Going setup t key file size f [] [] (f + 1)
+pub going_none : (setup : Setup) (t : TaskTurn) (key : Parts) (file : List ℕ) (size f : ℕ) → Going setup t key file size f [] [] (f + 1)
 going_none setup t key file size f = record {
   front = record {
     in_order = tt;
@@ -177,7 +178,7 @@ going_none setup t key file size f = record {
 -- ---- calls of chunk c after it
 
 -- what is so of a chunk that was stored before stays so
-pub whole_still : (setup : Setup) (t : ℕ) (key : Parts) (file : List ℕ) (size k c : ℕ) (calls more : List Call) → k < c → c + 1 < 2 ^ 64
+pub whole_still : (setup : Setup) (t : TaskTurn) (key : Parts) (file : List ℕ) (size k c : ℕ) (calls more : List Call) → k < c → c + 1 < 2 ^ 64
     → list_all (own file (chunk_file setup t (c + 1)) (from_of setup.chunk c)) more ≡ true → WholeAt setup t key file size k calls → WholeAt setup t key file size k (calls ++ more)
 whole_still setup t key file size k c calls more low small o w = record {
   copied = rw (reads, wrote) w.copied;
@@ -201,7 +202,7 @@ whole_still setup t key file size k c calls more low small o w = record {
     wrote = appended_both (chunk_file setup t (k + 1)) calls more
         (own_pieces file (chunk_file setup t (c + 1)) (chunk_file setup t (k + 1)) (from_of setup.chunk c) differ more o)
 
-pub still_removed : (setup : Setup) (t : ℕ) (file : List ℕ) (size k c from : ℕ) (calls more : List Call) → k < c → c + 1 < 2 ^ 64
+pub still_removed : (setup : Setup) (t : TaskTurn) (file : List ℕ) (size k c from : ℕ) (calls more : List Call) → k < c → c + 1 < 2 ^ 64
     → list_all (own file (chunk_file setup t (c + 1)) from) more ≡ true → bytes_eq file (chunk_file setup t (k + 1)) ≡ false
     → is_removed (chunk_file setup t (k + 1)) (with_size file size calls) ≡ true → is_removed (chunk_file setup t (k + 1)) (with_size file size (calls ++ more)) ≡ true
 still_removed setup t file size k c from calls more low small o d h =
@@ -209,7 +210,7 @@ still_removed setup t file size k c from calls more low small o d h =
     (own_calls file (chunk_file setup t (c + 1)) (chunk_file setup t (k + 1)) from (chunk_files_differ setup t (c + 1) (k + 1) small (omega arith) (λ e. omega arith)) d more o) h
 
 -- the chunk's own file holds what was read for it
-pub chunk_copied : (setup : Setup) (t : ℕ) (key : Parts) (file : List ℕ) (size c : ℕ) (calls more : List Call)
+pub chunk_copied : (setup : Setup) (t : TaskTurn) (key : Parts) (file : List ℕ) (size c : ℕ) (calls more : List Call)
     → list_all (λ (r : ℕ × List ℕ). nat_lt r.0 (from_of setup.chunk c)) (reads_of file calls) ≡ true → filter_map (piece_of (chunk_file setup t (c + 1))) calls ≡ []
     → Cutting file (chunk_file setup t (c + 1)) (from_of setup.chunk c) (to_of size setup.chunk c) more
     → is_copied setup t file (with_size file size (calls ++ more)) (c + 1) (chunk_part key size setup.chunk c) ≡ true
@@ -222,7 +223,7 @@ chunk_copied setup t key file size c calls more b n x = rw (reads, wrote) (rw (x
     wrote = appended_only (chunk_file setup t (c + 1)) calls more n
 
 -- the front with calls of the next chunk
-pub front_same : (setup : Setup) (t : ℕ) (key : Parts) (file : List ℕ) (size f : ℕ) (asked : List Asking) (calls more : List Call) (c : ℕ)
+pub front_same : (setup : Setup) (t : TaskTurn) (key : Parts) (file : List ℕ) (size f : ℕ) (asked : List Asking) (calls more : List Call) (c : ℕ)
     → Going setup t key file size f asked calls c → c ≤ count_of size setup.chunk → c + 1 < 2 ^ 64
     → Cutting file (chunk_file setup t (c + 1)) (from_of setup.chunk c) (to_of size setup.chunk c) more → are_found (part_of file) (with_size file size calls) more ≡ true
     → Front setup t key file size f asked (calls ++ more)
@@ -296,7 +297,7 @@ reads_later setup file name size c calls more b x =
         let below : to ≤ next = ranges_apart size setup.chunk c (c + 1) (omega arith) in
         lt_true r.0 next (omega arith)
 
-pub fresh_later : (setup : Setup) (t : ℕ) (file : List ℕ) (c k from : ℕ) (calls more : List Call) → c < k → k + 1 < 2 ^ 64
+pub fresh_later : (setup : Setup) (t : TaskTurn) (file : List ℕ) (c k from : ℕ) (calls more : List Call) → c < k → k + 1 < 2 ^ 64
     → filter_map (piece_of (chunk_file setup t (k + 1))) calls ≡ [] → list_all (own file (chunk_file setup t (c + 1)) from) more ≡ true
     → filter_map (piece_of (chunk_file setup t (k + 1))) (calls ++ more) ≡ []
 fresh_later setup t file c k from calls more low small n o =
@@ -304,7 +305,7 @@ fresh_later setup t file c k from calls more low small n o =
     (rw (n, own_pieces file (chunk_file setup t (c + 1)) (chunk_file setup t (k + 1)) from (chunk_files_differ setup t (c + 1) (k + 1) (omega arith) small (λ e. omega arith)) more o) refl)
 
 -- of a chunk that was not begun nothing was read and nothing written
-chunk_uncopied : (setup : Setup) (t : ℕ) (key : Parts) (file : List ℕ) (size c : ℕ) (calls : List Call)
+chunk_uncopied : (setup : Setup) (t : TaskTurn) (key : Parts) (file : List ℕ) (size c : ℕ) (calls : List Call)
     → list_all (λ (r : ℕ × List ℕ). nat_lt r.0 (from_of setup.chunk c)) (reads_of file calls) ≡ true → filter_map (piece_of (chunk_file setup t (c + 1))) calls ≡ []
     → is_copied setup t file (with_size file size calls) (c + 1) (chunk_part key size setup.chunk c) ≡ true
 chunk_uncopied setup t key file size c calls b n = rw (reads, wrote) refl
@@ -315,7 +316,7 @@ chunk_uncopied setup t key file size c calls b n = rw (reads, wrote) refl
     wrote : appended (chunk_file setup t (c + 1)) calls ≡ []
     wrote = ap concat n
 
-chunk_whole : (setup : Setup) (t : ℕ) (key : Parts) (file : List ℕ) (size c : ℕ) (calls more : List Call)
+chunk_whole : (setup : Setup) (t : TaskTurn) (key : Parts) (file : List ℕ) (size c : ℕ) (calls more : List Call)
     → list_all (λ (r : ℕ × List ℕ). nat_lt r.0 (from_of setup.chunk c)) (reads_of file calls) ≡ true → filter_map (piece_of (chunk_file setup t (c + 1))) calls ≡ []
     → Cutting file (chunk_file setup t (c + 1)) (from_of setup.chunk c) (to_of size setup.chunk c) more
     → length (appended (chunk_file setup t (c + 1)) more) ≡ to_of size setup.chunk c - from_of setup.chunk c → Fills (chunk_file setup t (c + 1)) more
@@ -333,7 +334,7 @@ chunk_whole setup t key file size c calls more b n x l fills = record {
     held = holds_both (chunk_file setup t (c + 1)) None calls more ∙ fills (holds (chunk_file setup t (c + 1)) None calls)
 
 -- the front with the next chunk asked for
-pub front_asked : (setup : Setup) (t : ℕ) (key : Parts) (file : List ℕ) (size f : ℕ) (asked : List Asking) (calls more : List Call) (c : ℕ) (a : Asking)
+pub front_asked : (setup : Setup) (t : TaskTurn) (key : Parts) (file : List ℕ) (size f : ℕ) (asked : List Asking) (calls more : List Call) (c : ℕ) (a : Asking)
     → Going setup t key file size f asked calls c → c ≤ count_of size setup.chunk → count_of size setup.chunk + 1 < 2 ^ 64
     → Cutting file (chunk_file setup t (c + 1)) (from_of setup.chunk c) (to_of size setup.chunk c) more → are_found (part_of file) (with_size file size calls) more ≡ true
     → AsksFor (chunk_request setup t) (c + 1) (with_chunk setup.chunk c key) a → is_question a ≡ false

@@ -10,6 +10,7 @@ use Rattle.ann_outside.specs.declared.file_desk.Call.{Call}
 use Rattle.ann_outside.specs.declared.file_desk.Call.TheVariants.{ReadAt, Create, Remove}
 use Rattle.task_run.specs.Askers.{Asking}
 use Rattle.task_run.specs.declared.setup.Setup.{Setup}
+use Rattle.task_run.specs.declared.turn.TaskTurn.{TaskTurn}
 use Rattle.task_run.specs.Stops.{call_stop, is_done, is_question}
 use Rattle.task_run.specs.Names.{chunk_file, part_of}
 use Rattle.task_run.specs.Requests.{AsksFor}
@@ -95,7 +96,7 @@ read_fills file name from pieces at o held =
 
 -- ---- a range that was copied
 
-pub record Copied (setup : Setup) (t : ℕ) (file : List ℕ) (size c : ℕ) (calls more : List Call) : Type 0 where
+pub record Copied (setup : Setup) (t : TaskTurn) (file : List ℕ) (size c : ℕ) (calls more : List Call) : Type 0 where
   pub cutting : Cutting file (chunk_file setup t (c + 1)) (from_of setup.chunk c) (to_of size setup.chunk c) more
   pub found : are_found (part_of file) (with_size file size calls) more ≡ true
   pub free : is_free file more ≡ true
@@ -103,7 +104,7 @@ pub record Copied (setup : Setup) (t : ℕ) (file : List ℕ) (size c : ℕ) (ca
   pub filed : is_known file (with_size file size (calls ++ more)) ≡ true
   pub fills : Fills (chunk_file setup t (c + 1)) more
 
-pub copied_of : (setup : Setup) (t : ℕ) (key : Parts) (file : List ℕ) (size f : ℕ) (ts : List Asking) (calls : List Call) (c : ℕ) (pieces : List (List ℕ)) (o : Option (List ℕ))
+pub copied_of : (setup : Setup) (t : TaskTurn) (key : Parts) (file : List ℕ) (size f : ℕ) (ts : List Asking) (calls : List Call) (c : ℕ) (pieces : List (List ℕ)) (o : Option (List ℕ))
     → Going setup t key file size f ts calls c → c ≤ count_of size setup.chunk
     → list_all (reads_before (to_of size setup.chunk c))
     (copy_calls file (chunk_file setup t (c + 1)) (from_of setup.chunk c) pieces ++ last_read file (from_of setup.chunk c + length (concat pieces)) o) ≡ true
@@ -176,12 +177,12 @@ full_range size chunk c some first h = by_test (size == 0) refl h
         omega arith
 
 -- a chunk that was asked for, and its file removed
-pub record Removal (setup : Setup) (t : ℕ) (key : Parts) (file : List ℕ) (size f : ℕ) (ts : List Asking) (calls : List Call) (c : ℕ) : Type 0 where
+pub record Removal (setup : Setup) (t : TaskTurn) (key : Parts) (file : List ℕ) (size f : ℕ) (ts : List Asking) (calls : List Call) (c : ℕ) : Type 0 where
   pub front : Front setup t key file size f ts calls
   pub free : is_free file calls ≡ true
   pub removed : (k : ℕ) → f < k → k < c → is_removed (chunk_file setup t (k + 1)) (with_size file size calls) ≡ true
 
-pub removal_of : (setup : Setup) (t : ℕ) (key : Parts) (file : List ℕ) (size f : ℕ) (ts : List Asking) (calls more : List Call) (c : ℕ) (a : Asking)
+pub removal_of : (setup : Setup) (t : TaskTurn) (key : Parts) (file : List ℕ) (size f : ℕ) (ts : List Asking) (calls more : List Call) (c : ℕ) (a : Asking)
     → Going setup t key file size f ts calls c → c ≤ count_of size setup.chunk → count_of size setup.chunk + 1 < 2 ^ 64 → Copied setup t file size c calls more
     → AsksFor (chunk_request setup t) (c + 1) (with_chunk setup.chunk c key) a → is_question a ≡ false
     → length (appended (chunk_file setup t (c + 1)) more) ≡ to_of size setup.chunk c - from_of setup.chunk c
@@ -226,7 +227,7 @@ removal_of setup t key file size f ts calls more c a g last small x h differs l 
         let Q : List Call → Type 0 = λ l. is_removed (chunk_file setup t (c + 1)) l ≡ true in
         subst P (sym same) (subst Q (append_assoc (with_size file size calls) more gone) (removed_last name (with_size file size (calls ++ more))))
 
-pub going_stored : (setup : Setup) (t : ℕ) (key : Parts) (file : List ℕ) (size f : ℕ) (ts : List Asking) (calls more : List Call) (c : ℕ) (a : Asking)
+pub going_stored : (setup : Setup) (t : TaskTurn) (key : Parts) (file : List ℕ) (size f : ℕ) (ts : List Asking) (calls more : List Call) (c : ℕ) (a : Asking)
     → Going setup t key file size f ts calls c → c ≤ count_of size setup.chunk → count_of size setup.chunk + 1 < 2 ^ 64 → Copied setup t file size c calls more
     → AsksFor (chunk_request setup t) (c + 1) (with_chunk setup.chunk c key) a → is_question a ≡ false → is_done a ≡ true
     → length (appended (chunk_file setup t (c + 1)) more) ≡ to_of size setup.chunk c - from_of setup.chunk c

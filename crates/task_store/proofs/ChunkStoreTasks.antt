@@ -17,6 +17,7 @@ use Rattle.ann_outside.specs.declared.file_desk.Call.{Call}
 use Rattle.ann_outside.specs.declared.file_desk.Call.TheVariants.{ReadAt, Create, Append, Remove}
 use Rattle.task_run.specs.Askers.{Asking, Noting}
 use Rattle.task_run.specs.declared.setup.Setup.{Setup}
+use Rattle.task_run.specs.declared.turn.TaskTurn.{TaskTurn}
 use Rattle.task_run.specs.Stops.{asking_stop, call_stop, verdict_stop, is_done, is_done_at, is_question, last_failed, failed_at}
 use Rattle.task_run.specs.Names.{chunk_file, part_of}
 use Rattle.task_run.specs.Requests.{AsksFor}
@@ -58,7 +59,7 @@ use Rattle.task_store.proofs.ChunkStoreSteps.{Copied, copied_of, last_read, whol
 
 -- ---- answers
 
-abbrev Answers : Setup → ℕ → Parts → List ℕ → List Asking → List Call → List Noting → Answer → Type 0
+abbrev Answers : Setup → TaskTurn → Parts → List ℕ → List Asking → List Call → List Noting → Answer → Type 0
 Answers setup t key file asked calls noted answer = ChunkStoreAnswers setup t key file asked calls noted answer
 
 pub fits_is : (key : Parts) (file : List ℕ) (size : ℕ) (calls : List Call) → key.size ≡ Some size → fits_length key (lengths_found file (take 1 (with_size file size calls))) ≡ true
@@ -69,7 +70,7 @@ stored_is asked qs ts f s =
     let P : List Asking → Type 0 = λ l. found asked + count_by is_done (transfers asked) ≡ f + count_by is_done l in
     subst P s.behind (ap (λ n. n + count_by is_done (transfers asked)) s.there)
 
-all_removed : (setup : Setup) (t : ℕ) (asked qs ts : List Asking) (f : ℕ) (calls : List Call) → Split asked qs ts f → length qs ≡ f + 1
+all_removed : (setup : Setup) (t : TaskTurn) (asked qs ts : List Asking) (f : ℕ) (calls : List Call) → Split asked qs ts f → length qs ≡ f + 1
     → ((c : ℕ) → f < c → c < f + 1 + length ts → is_removed (chunk_file setup t (c + 1)) calls ≡ true) → are_removed setup t calls (questions asked + 1) (transfers asked) ≡ true
 all_removed setup t asked qs ts f calls s many r =
     let P : ℕ → Type 0 = λ n. are_removed setup t calls (n + 1) (transfers asked) ≡ true in
@@ -80,7 +81,7 @@ nat_differ : (a b : ℕ) → a < b → (a == b) ≡ false
 nat_differ a b h = grind (arith, nat_tests)
 
 -- of a request that failed
-answers_failed : (setup : Setup) (t : ℕ) (key : Parts) (file : List ℕ) (size f : ℕ) (asked qs ts : List Asking) (calls : List Call) (answer : Answer) → Chunked setup key size
+answers_failed : (setup : Setup) (t : TaskTurn) (key : Parts) (file : List ℕ) (size f : ℕ) (asked qs ts : List Asking) (calls : List Call) (answer : Answer) → Chunked setup key size
     → Split asked qs ts f → length qs ≡ f + 1 → ((c : ℕ) → f < c → c < f + 1 + length ts → is_removed (chunk_file setup t (c + 1)) (with_size file size calls) ≡ true)
     → f + count_by is_done ts < count_of size setup.chunk → last_failed asked ≡ Some answer → Answers setup t key file asked (with_size file size calls) [] answer
 answers_failed setup t key file size f asked qs ts calls answer k s many r few last = record {
@@ -95,7 +96,7 @@ answers_failed setup t key file size f asked qs ts calls answer k s many r few l
         nat_differ (stored asked) (length (parts_of_layout key setup.chunk)) (omega (arith, n, m, few))
 
 -- of all chunks
-pub answers_stored : (setup : Setup) (t : ℕ) (key : Parts) (file : List ℕ) (size f : ℕ) (asked qs ts : List Asking) (calls : List Call) (note : Noting) → Chunked setup key size
+pub answers_stored : (setup : Setup) (t : TaskTurn) (key : Parts) (file : List ℕ) (size f : ℕ) (asked qs ts : List Asking) (calls : List Call) (note : Noting) → Chunked setup key size
     → Split asked qs ts f → length qs ≡ f + 1 → ((c : ℕ) → f < c → c < f + 1 + length ts → is_removed (chunk_file setup t (c + 1)) (with_size file size calls) ≡ true)
     → f + count_by is_done ts ≡ count_of size setup.chunk → Answers setup t key file asked (with_size file size calls) (note ∷ []) A.Stored
 answers_stored setup t key file size f asked qs ts calls note k s many r all = record {
@@ -109,7 +110,7 @@ answers_stored setup t key file size f asked qs ts calls note k s many r all = r
         eq-eqb (stored asked) (length (parts_of_layout key setup.chunk)) (stored_is asked qs ts f s ∙ all ∙ sym m)
 
 -- of a chunk that was cut short
-answers_short : (setup : Setup) (t : ℕ) (key : Parts) (file : List ℕ) (size f c : ℕ) (asked qs ts : List Asking) (calls : List Call) → Chunked setup key size
+answers_short : (setup : Setup) (t : TaskTurn) (key : Parts) (file : List ℕ) (size f c : ℕ) (asked qs ts : List Asking) (calls : List Call) → Chunked setup key size
     → Split asked qs ts f → length qs ≡ f + 1 → ((c : ℕ) → f < c → c < f + 1 + length ts → is_removed (chunk_file setup t (c + 1)) (with_size file size calls) ≡ true)
     → f + count_by is_done ts < count_of size setup.chunk → last_failed asked ≡ None → c ≡ f + 1 + length ts → c ≤ count_of size setup.chunk → length asked + 1 ≡ c + 1
     → is_cut_short setup t file (with_size file size calls) (c + 1) (chunk_part key size setup.chunk c) ≡ true
@@ -210,7 +211,7 @@ within_front to xs ys zs h =
     let s : list_all (reads_before to) ((xs ++ ys) ++ zs) ≡ (list_all (reads_before to) (xs ++ ys) && list_all (reads_before to) zs) = list_all-append (reads_before to) (xs ++ ys) zs in
     (and_parts (list_all (reads_before to) (xs ++ ys)) (list_all (reads_before to) zs) (sym s ∙ k)).0
 
-pub asks_as : (setup : Setup) (t n : ℕ) (key : Parts) (request : Option HostMessage) (v : Verdict) → AsksFor (from_file (chunk_file setup t n)) 1 key (record { request = request; name = None; verdict = v })
+pub asks_as : (setup : Setup) (t : TaskTurn) (n : ℕ) (key : Parts) (request : Option HostMessage) (v : Verdict) → AsksFor (from_file (chunk_file setup t n)) 1 key (record { request = request; name = None; verdict = v })
     → AsksFor (chunk_request setup t) n key (record { request = request; name = None; verdict = v })
 asks_as setup t n key None v h = h
 asks_as setup t n key (Some q) v h = h
@@ -221,7 +222,7 @@ no_question name key None v h = refl
 no_question name key (Some q) v h = rw h.0 refl
 
 -- what a chunk that was stored makes of the store
-pub chunk_goes : (setup : Setup) (t : ℕ) (key : Parts) (file : List ℕ) (size f : ℕ) (ts : List Asking) (calls : List Call) (c : ℕ) (pieces : List (List ℕ)) (ending : List Call) (a : Asking)
+pub chunk_goes : (setup : Setup) (t : TaskTurn) (key : Parts) (file : List ℕ) (size f : ℕ) (ts : List Asking) (calls : List Call) (c : ℕ) (pieces : List (List ℕ)) (ending : List Call) (a : Asking)
     → Chunked setup key size → count_of size setup.chunk + 1 < 2 ^ 64 → Going setup t key file size f ts calls c → c ≤ count_of size setup.chunk
     → ChunkIs file (chunk_file setup t (c + 1)) (from_of setup.chunk c) (to_of size setup.chunk c) (with_chunk setup.chunk c key) (Settled pieces ending a (Ok tt)) → is_done a ≡ true
     → Going setup t key file size f (ts ++ a ∷ []) (calls ++ chunk_calls file (chunk_file setup t (c + 1)) (from_of setup.chunk c) (Settled pieces ending a (Ok tt))) (c + 1)
@@ -294,7 +295,7 @@ at_end_snoc (r ∷ []) at = refl
 at_end_snoc (r ∷ s ∷ rs) at = at_end_snoc (s ∷ rs) at
 
 -- how a chunk that was not stored ends the store
-pub chunk_ends : (setup : Setup) (t : ℕ) (key : Parts) (text file : List ℕ) (layouts : List (ℕ × ℕ)) (size f : ℕ) (qs ts : List Asking) (calls : List Call) (c : ℕ) (how : Chunk)
+pub chunk_ends : (setup : Setup) (t : TaskTurn) (key : Parts) (text file : List ℕ) (layouts : List (ℕ × ℕ)) (size f : ℕ) (qs ts : List Asking) (calls : List Call) (c : ℕ) (how : Chunk)
     → Missing setup key size f qs → Going setup t key file size f ts calls c → c ≤ count_of size setup.chunk
     → ChunkIs file (chunk_file setup t (c + 1)) (from_of setup.chunk c) (to_of size setup.chunk c) (with_chunk setup.chunk c key) how → (chunk_result how ≡ Ok None → ⊥)
     → RunOf setup t (store_task text file) key layouts (qs ++ (ts ++ chunk_asked how)) (with_size file size (calls ++ chunk_calls file (chunk_file setup t (c + 1)) (from_of setup.chunk c) how)) []

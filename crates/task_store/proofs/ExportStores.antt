@@ -18,6 +18,7 @@ use Rattle.task_run.specs.Askers.{Asking, KeepsRequest, AsksOne}
 use Rattle.journal_model.specs.declared.answer.Answer.{Answer}
 use Rattle.journal_model.specs.declared.answer.Answer.TheVariants.{Memory, Stored, Size as SizeAnswer}
 use Rattle.task_run.specs.declared.setup.Setup.{Setup}
+use Rattle.task_run.specs.declared.turn.TaskTurn.{TaskTurn}
 use Rattle.task_run.specs.Names.{part_of}
 use Rattle.task_run.specs.Stores.{is_size}
 use Rattle.task_run.specs.Exports.{AsksOfName, ExportStoreAsks, store_export}
@@ -26,7 +27,7 @@ use Rattle.task_run.specs.Ran.{RanGet, answered, is_verdict_of, change_answer, r
 use Rattle.task_run.proofs.Texts.{same_name, other_name, longer_differs, apart}
 use Rattle.task_run.proofs.ExportRuns.{with_work, export_run, named, asks_of_name, asks_nothing}
 
-abbrev StoreRun : Setup → ℕ → Task → Parts → List (ℕ × ℕ) → List Asking → List Call → Answer → Type 0
+abbrev StoreRun : Setup → TaskTurn → Task → Parts → List (ℕ × ℕ) → List Asking → List Call → Answer → Type 0
 StoreRun setup t task key layouts asked calls answer = RunOf setup t (with_work W.XStore task) key layouts asked calls [] answer
 
 -- ---- nothing is asked
@@ -34,7 +35,7 @@ StoreRun setup t task key layouts asked calls answer = RunOf setup t (with_work 
 unasked : (key : Parts) (file name : List ℕ) (r : Result ℕ DeskError) → ExportStoreAsks key file name [] (Size file r ∷ [])
 unasked key file name r = record { one_call = refl; of_file = rw (same_name file) refl; asks = asks_nothing _ _ name }
 
-store_nothing : (setup : Setup) (t : ℕ) (task : Task) (key : Parts) (layouts : List (ℕ × ℕ)) → StoreRun setup t task key layouts [] [] Memory
+store_nothing : (setup : Setup) (t : TaskTurn) (task : Task) (key : Parts) (layouts : List (ℕ × ℕ)) → StoreRun setup t task key layouts [] [] Memory
 store_nothing setup t task key layouts = record {
   asked_till_stop = refl;
   calls_till_stop = refl;
@@ -43,7 +44,7 @@ store_nothing setup t task key layouts = record {
   answered = tt;
 }
 
-store_refused : (setup : Setup) (t : ℕ) (task : Task) (key : Parts) (layouts : List (ℕ × ℕ)) (e : DeskError) → (e ≡ E.NoMemory → ⊥)
+store_refused : (setup : Setup) (t : TaskTurn) (task : Task) (key : Parts) (layouts : List (ℕ × ℕ)) (e : DeskError) → (e ≡ E.NoMemory → ⊥)
     → StoreRun setup t task key layouts [] (Size task.file (Err e) ∷ []) (answered (refusal e))
 store_refused setup t task key layouts E.NoMemory ne = absurd (ne refl)
 store_refused setup t task key layouts E.Failed ne = record {
@@ -61,7 +62,7 @@ store_refused setup t task key layouts E.Missing ne = record {
   answered = rw (other_name task.file (part_of task.file) (longer_differs task.file _ _)) refl;
 }
 
-store_unasked : (setup : Setup) (t : ℕ) (task : Task) (key : Parts) (layouts : List (ℕ × ℕ)) (n : ℕ) → StoreRun setup t task key layouts [] (Size task.file (Ok n) ∷ []) Memory
+store_unasked : (setup : Setup) (t : TaskTurn) (task : Task) (key : Parts) (layouts : List (ℕ × ℕ)) (n : ℕ) → StoreRun setup t task key layouts [] (Size task.file (Ok n) ∷ []) Memory
 store_unasked setup t task key layouts n = record {
   asked_till_stop = refl;
   calls_till_stop = refl;
@@ -70,7 +71,7 @@ store_unasked setup t task key layouts n = record {
   answered = tt;
 }
 
-store_other_size : (setup : Setup) (t : ℕ) (task : Task) (key : Parts) (layouts : List (ℕ × ℕ)) (n : ℕ) → is_size key.size n ≡ false
+store_other_size : (setup : Setup) (t : TaskTurn) (task : Task) (key : Parts) (layouts : List (ℕ × ℕ)) (n : ℕ) → is_size key.size n ≡ false
     → StoreRun setup t task key layouts [] (Size task.file (Ok n) ∷ []) (SizeAnswer n)
 store_other_size setup t task key layouts n s = record {
   asked_till_stop = refl;
@@ -86,7 +87,7 @@ asks_once : (key : Parts) (file name : List ℕ) (n : ℕ) (a : Asking) → is_s
     → ExportStoreAsks key file name (a ∷ []) (Size file (Ok n) ∷ [])
 asks_once key file name n a s h = record { one_call = refl; of_file = rw (same_name file) refl; asks = rw (same_name file) (rw s h) }
 
-store_once : (setup : Setup) (t : ℕ) (task : Task) (key : Parts) (layouts : List (ℕ × ℕ)) (n : ℕ) (request : Option HostMessage) (v : Verdict) → is_size key.size n ≡ true
+store_once : (setup : Setup) (t : TaskTurn) (task : Task) (key : Parts) (layouts : List (ℕ × ℕ)) (n : ℕ) (request : Option HostMessage) (v : Verdict) → is_size key.size n ≡ true
     → AsksOfName (store_export task.file) (key ∷ []) task.name (named task.name request v ∷ []) → is_verdict_of (Transferexport true task.key task.file) v ≡ true
     → StoreRun setup t task key layouts (named task.name request v ∷ []) (Size task.file (Ok n) ∷ []) (unwrap_or (change_answer Stored v) Memory)
 store_once setup t task key layouts n request (Done at) s h k = record {
@@ -129,7 +130,7 @@ store_once setup t task key layouts n request (Unknown at) s h k = apart k
 
 -- ---- what the code promises
 
-pub store_refused_ran : (task : Task) (t : ℕ) (setup : Setup) (layouts : List (ℕ × ℕ)) (pairs : List Asking) (old new : Option Log) (e : DeskError) → task.work ≡ W.XStore
+pub store_refused_ran : (task : Task) (t : TaskTurn) (setup : Setup) (layouts : List (ℕ × ℕ)) (pairs : List Asking) (old new : Option Log) (e : DeskError) → task.work ≡ W.XStore
     → new ≡ logged old (Size task.file (Err e)) → RanGet task t setup layouts pairs pairs old new (refusal e)
 store_refused_ran task t setup layouts pairs old new E.NoMemory w l = record {
   asked = [];
@@ -153,7 +154,7 @@ store_refused_ran task t setup layouts pairs old new E.Missing w l = record {
   run = export_run W.XStore task t setup layouts [] (Size task.file (Err E.Missing) ∷ []) (answered (refusal E.Missing)) w (λ key r. store_refused setup t task key layouts E.Missing (λ e. cc));
 }
 
-pub store_unasked_ran : (task : Task) (t : ℕ) (setup : Setup) (layouts : List (ℕ × ℕ)) (pairs : List Asking) (old new : Option Log) (n : ℕ) (e : NoMemory) → task.work ≡ W.XStore
+pub store_unasked_ran : (task : Task) (t : TaskTurn) (setup : Setup) (layouts : List (ℕ × ℕ)) (pairs : List Asking) (old new : Option Log) (n : ℕ) (e : NoMemory) → task.work ≡ W.XStore
     → new ≡ logged old (Size task.file (Ok n)) → RanGet task t setup layouts pairs pairs old new (Err e)
 store_unasked_ran task t setup layouts pairs old new n e w l = record {
   asked = [];
@@ -163,7 +164,7 @@ store_unasked_ran task t setup layouts pairs old new n e w l = record {
   run = export_run W.XStore task t setup layouts [] (Size task.file (Ok n) ∷ []) Memory w (λ key r. store_unasked setup t task key layouts n);
 }
 
-pub store_other_size_ran : (task : Task) (t : ℕ) (setup : Setup) (layouts : List (ℕ × ℕ)) (pairs : List Asking) (old new : Option Log) (n : ℕ) (size : Option ℕ) → task.work ≡ W.XStore
+pub store_other_size_ran : (task : Task) (t : TaskTurn) (setup : Setup) (layouts : List (ℕ × ℕ)) (pairs : List Asking) (old new : Option Log) (n : ℕ) (size : Option ℕ) → task.work ≡ W.XStore
     → ((key : Parts) → key_reading task.key ≡ Some key → key.size ≡ size) → is_size size n ≡ false
     → new ≡ logged old (Size task.file (Ok n)) → RanGet task t setup layouts pairs pairs old new (Ok (SizeAnswer n))
 store_other_size_ran task t setup layouts pairs old new n size w sized s l = record {
@@ -174,7 +175,7 @@ store_other_size_ran task t setup layouts pairs old new n size w sized s l = rec
   run = export_run W.XStore task t setup layouts [] (Size task.file (Ok n) ∷ []) (SizeAnswer n) w (λ key r. store_other_size setup t task key layouts n (rw (sized key r) s));
 }
 
-pub store_once_ran : (task : Task) (t : ℕ) (setup : Setup) (layouts : List (ℕ × ℕ)) (before after : List Asking) (old new : Option Log) (n : ℕ) (size : Option ℕ) (v : Verdict) (answer : Answer) → task.work ≡ W.XStore
+pub store_once_ran : (task : Task) (t : TaskTurn) (setup : Setup) (layouts : List (ℕ × ℕ)) (before after : List Asking) (old new : Option Log) (n : ℕ) (size : Option ℕ) (v : Verdict) (answer : Answer) → task.work ≡ W.XStore
     → ((key : Parts) → key_reading task.key ≡ Some key → key.size ≡ size) → is_size size n ≡ true
     → new ≡ logged old (Size task.file (Ok n)) → AsksOne before after (Some task.name) (Transferexport true task.key task.file) v
     → is_verdict_of (Transferexport true task.key task.file) v ≡ true → Some answer ≡ change_answer Stored v → RanGet task t setup layouts before after old new (Ok answer)

@@ -20,6 +20,7 @@ use Rattle.task_run.specs.Askers.{Asking, KeepsRequest, AsksOne}
 use Rattle.journal_model.specs.declared.answer.Answer.{Answer}
 use Rattle.journal_model.specs.declared.answer.Answer.TheVariants.{Memory, Stored, Size as SizeAnswer}
 use Rattle.task_run.specs.declared.setup.Setup.{Setup}
+use Rattle.task_run.specs.declared.turn.TaskTurn.{TaskTurn}
 use Rattle.task_run.specs.Names.{part_of}
 use Rattle.task_run.specs.Requests.{AsksFor, key_named}
 use Rattle.task_run.specs.Stops.{is_question}
@@ -39,13 +40,13 @@ asks_for_store text file key None v n e k = k
 asks_for_store text file key (Some q) v n e k = rw k (refl, e)
 
 -- the length is asked of the file alone
-store_calls : (setup : Setup) (t : ℕ) (file : List ℕ) (asked : List Asking) (r : Result ℕ DeskError) → StoreCalls setup t file asked (Size file r ∷ [])
+store_calls : (setup : Setup) (t : TaskTurn) (file : List ℕ) (asked : List Asking) (r : Result ℕ DeskError) → StoreCalls setup t file asked (Size file r ∷ [])
 store_calls setup t file asked r = record { names = rw (same_name file) refl; changes = refl; lengths = rw (same_name file) refl }
 
 abbrev store_task : List ℕ → List ℕ → Task
 store_task text file = record { work = W.Store; key = text; file = file; name = []; onto = [] }
 
-store_refused : (setup : Setup) (t : ℕ) (key : Parts) (text file : List ℕ) (e : DeskError) → is_chunked setup key ≡ false → (e ≡ E.NoMemory → ⊥)
+store_refused : (setup : Setup) (t : TaskTurn) (key : Parts) (text file : List ℕ) (e : DeskError) → is_chunked setup key ≡ false → (e ≡ E.NoMemory → ⊥)
     → RunOf setup t (store_task text file) key [] [] (Size file (Err e) ∷ []) [] (answered (refusal e))
 store_refused setup t key text file E.NoMemory w ne = absurd (ne refl)
 store_refused setup t key text file E.Failed w ne = record {
@@ -63,7 +64,7 @@ store_refused setup t key text file E.Missing w ne = record {
   answered = rw (other_name file (part_of file) (longer_differs file _ _)) refl;
 }
 
-store_nothing : (setup : Setup) (t : ℕ) (key : Parts) (text file : List ℕ) → is_chunked setup key ≡ false → RunOf setup t (store_task text file) key [] [] [] [] Memory
+store_nothing : (setup : Setup) (t : TaskTurn) (key : Parts) (text file : List ℕ) → is_chunked setup key ≡ false → RunOf setup t (store_task text file) key [] [] [] [] Memory
 store_nothing setup t key text file w = record {
   asked_till_stop = refl;
   calls_till_stop = refl;
@@ -72,7 +73,7 @@ store_nothing setup t key text file w = record {
   answered = tt;
 }
 
-store_unasked : (setup : Setup) (t : ℕ) (key : Parts) (text file : List ℕ) (n : ℕ) → is_chunked setup key ≡ false
+store_unasked : (setup : Setup) (t : TaskTurn) (key : Parts) (text file : List ℕ) (n : ℕ) → is_chunked setup key ≡ false
     → RunOf setup t (store_task text file) key [] [] (Size file (Ok n) ∷ []) [] Memory
 store_unasked setup t key text file n w = record {
   asked_till_stop = refl;
@@ -82,7 +83,7 @@ store_unasked setup t key text file n w = record {
   answered = tt;
 }
 
-store_other_size : (setup : Setup) (t : ℕ) (key : Parts) (text file : List ℕ) (n : ℕ) → is_chunked setup key ≡ false → is_size key.size n ≡ false
+store_other_size : (setup : Setup) (t : TaskTurn) (key : Parts) (text file : List ℕ) (n : ℕ) → is_chunked setup key ≡ false → is_size key.size n ≡ false
     → RunOf setup t (store_task text file) key [] [] (Size file (Ok n) ∷ []) [] (SizeAnswer n)
 store_other_size setup t key text file n w s = record {
   asked_till_stop = refl;
@@ -99,7 +100,7 @@ store_asks key file n a s h = record { one_call = refl; in_order = rw (same_name
 no_question : (file : List ℕ) (q : HostMessage) (v : Verdict) (n : ℕ) → q ≡ store_request file n (key_named q) → is_question (record { request = Some q; name = None; verdict = v }) ≡ false
 no_question file q v n e = rw e refl
 
-store_once : (setup : Setup) (t : ℕ) (key : Parts) (text file : List ℕ) (n : ℕ) (request : Option HostMessage) (v : Verdict)
+store_once : (setup : Setup) (t : TaskTurn) (key : Parts) (text file : List ℕ) (n : ℕ) (request : Option HostMessage) (v : Verdict)
     → is_chunked setup key ≡ false → is_size key.size n ≡ true
     → AsksFor (store_request file) 1 key (record { request = request; name = None; verdict = v }) → is_verdict_of (Transfer true text file) v ≡ true
     → RunOf setup t (store_task text file) key [] (record { request = request; name = None; verdict = v } ∷ []) (Size file (Ok n) ∷ []) [] (unwrap_or (change_answer Stored v) Memory)
@@ -146,7 +147,7 @@ as_store : (task : Task) → task.work ≡ W.Store → nameless task ≡ store_t
 as_store task e = ap (λ w. record { work = w; key = task.key; file = task.file; name = []; onto = [] }) e
 
 -- a run of the task as a store is one of the task
-store_run : (task : Task) (t : ℕ) (setup : Setup) (asked : List Asking) (calls : List Call) (answer : Answer) → task.work ≡ W.Store
+store_run : (task : Task) (t : TaskTurn) (setup : Setup) (asked : List Asking) (calls : List Call) (answer : Answer) → task.work ≡ W.Store
     → ((key : Parts) → key_reading task.key ≡ Some key → RunOf setup t (store_task task.key task.file) key [] asked calls [] answer)
     → TaskRun task t setup [] asked calls [] answer
 store_run task t setup asked calls answer w h =
@@ -154,7 +155,7 @@ store_run task t setup asked calls answer w h =
     with_names task t setup [] asked calls [] answer (ap has_name w)
     (subst P (sym (as_store task w)) (of_reading task.key (λ key. RunOf setup t (store_task task.key task.file) key [] asked calls [] answer) h))
 
-pub store_refused_ran : (task : Task) (t : ℕ) (pairs : List Asking) (old new : Option Log) (e : DeskError) → task.work ≡ W.Store
+pub store_refused_ran : (task : Task) (t : TaskTurn) (pairs : List Asking) (old new : Option Log) (e : DeskError) → task.work ≡ W.Store
     → new ≡ logged old (Size task.file (Err e)) → RanPlain task t [] pairs pairs old new (refusal e)
 store_refused_ran task t pairs old new E.NoMemory w l = record {
   asked = [];
@@ -178,7 +179,7 @@ store_refused_ran task t pairs old new E.Missing w l = record {
   run = λ setup whole. store_run task t setup [] (Size task.file (Err E.Missing) ∷ []) (answered (refusal E.Missing)) w (λ key r. store_refused setup t key task.key task.file E.Missing (whole key r) (λ e. cc));
 }
 
-pub store_unasked_ran : (task : Task) (t : ℕ) (pairs : List Asking) (old new : Option Log) (n : ℕ) (e : NoMemory) → task.work ≡ W.Store
+pub store_unasked_ran : (task : Task) (t : TaskTurn) (pairs : List Asking) (old new : Option Log) (n : ℕ) (e : NoMemory) → task.work ≡ W.Store
     → new ≡ logged old (Size task.file (Ok n)) → RanPlain task t [] pairs pairs old new (Err e)
 store_unasked_ran task t pairs old new n e w l = record {
   asked = [];
@@ -188,7 +189,7 @@ store_unasked_ran task t pairs old new n e w l = record {
   run = λ setup whole. store_run task t setup [] (Size task.file (Ok n) ∷ []) Memory w (λ key r. store_unasked setup t key task.key task.file n (whole key r));
 }
 
-pub store_other_size_ran : (task : Task) (t : ℕ) (pairs : List Asking) (old new : Option Log) (n : ℕ) (size : Option ℕ) → task.work ≡ W.Store
+pub store_other_size_ran : (task : Task) (t : TaskTurn) (pairs : List Asking) (old new : Option Log) (n : ℕ) (size : Option ℕ) → task.work ≡ W.Store
     → ((key : Parts) → key_reading task.key ≡ Some key → key.size ≡ size) → is_size size n ≡ false
     → new ≡ logged old (Size task.file (Ok n)) → RanPlain task t [] pairs pairs old new (Ok (SizeAnswer n))
 store_other_size_ran task t pairs old new n size w sized s l = record {
@@ -199,7 +200,7 @@ store_other_size_ran task t pairs old new n size w sized s l = record {
   run = λ setup whole. store_run task t setup [] (Size task.file (Ok n) ∷ []) (SizeAnswer n) w (λ key r. store_other_size setup t key task.key task.file n (whole key r) (rw (sized key r) s));
 }
 
-pub store_once_ran : (task : Task) (t : ℕ) (before after : List Asking) (old new : Option Log) (n : ℕ) (size : Option ℕ) (v : Verdict) → task.work ≡ W.Store
+pub store_once_ran : (task : Task) (t : TaskTurn) (before after : List Asking) (old new : Option Log) (n : ℕ) (size : Option ℕ) (v : Verdict) → task.work ≡ W.Store
     → ((key : Parts) → key_reading task.key ≡ Some key → key.size ≡ size) → is_size size n ≡ true
     → new ≡ logged old (Size task.file (Ok n)) → AsksOne before after None (Transfer true task.key task.file) v
     → is_verdict_of (Transfer true task.key task.file) v ≡ true → RanPlain task t [] before after old new (Ok (unwrap_or (change_answer Stored v) Memory))
@@ -223,7 +224,7 @@ named_in_line file is_long is_text h = by_parts is_long is_text (has_newline fil
     by_parts false b c h = apart h
 
 -- the answer that there is
-pub or_memory : (task : Task) (t : ℕ) (before after : List Asking) (old new : Option Log) (answer : Answer) (o : Option Answer) → Some answer ≡ o
+pub or_memory : (task : Task) (t : TaskTurn) (before after : List Asking) (old new : Option Log) (answer : Answer) (o : Option Answer) → Some answer ≡ o
     → RanPlain task t [] before after old new (Ok (unwrap_or o Memory)) → RanPlain task t [] before after old new (Ok answer)
 or_memory task t before after old new answer o e r = let P : Option Answer → Type 0 = λ o. RanPlain task t [] before after old new (Ok (unwrap_or o Memory)) in subst P (sym e) r
 

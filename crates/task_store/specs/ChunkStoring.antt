@@ -17,6 +17,7 @@ use Rattle.task_run.specs.Askers.{Asking, Noting}
 use Rattle.journal_model.specs.declared.answer.Answer.{Answer}
 use Rattle.journal_model.specs.declared.answer.Answer.TheVariants.{Size as SizeAnswer, Stored}
 use Rattle.task_run.specs.declared.setup.Setup.{Setup}
+use Rattle.task_run.specs.declared.turn.TaskTurn.{TaskTurn}
 use Rattle.task_store.specs.declared.chunk_store.Sought.{Sought}
 use Rattle.task_store.specs.declared.chunk_store.Sought.TheVariants.{All, Missing, Over}
 use Rattle.task_store.specs.declared.chunk_store.Standing.{Standing}
@@ -199,7 +200,7 @@ pub record IsSought (key : Parts) (chunk count n : ℕ) (asked : List Asking) : 
   pub missing : is_missing_at one.verdict ≡ true
 
 -- After the questions, and the length of the file, this makes a run of the task.
-pub record StoresFrom (setup : Setup) (t : ℕ) (key : Parts) (file : List ℕ) (size n : ℕ) (pairs_before pairs_after : List Asking)
+pub record StoresFrom (setup : Setup) (t : TaskTurn) (key : Parts) (file : List ℕ) (size n : ℕ) (pairs_before pairs_after : List Asking)
     (notes_before notes_after : List Noting) (old new : Option Log) (result : Result Answer NoMemory) : Type 0 where
   pub asked : List Asking
   pub calls : List Call
@@ -217,7 +218,7 @@ NotesChunks chunk count behind old new (Ok answer) = (answer ≡ Stored) × (new
 NotesChunks chunk count behind old new (Err e) = new ≡ old
 
 -- After the length of the file, which is the key's size, this makes a run of the task.
-pub record StoresSized (setup : Setup) (t : ℕ) (key : Parts) (file : List ℕ) (size : ℕ) (pairs_before pairs_after : List Asking)
+pub record StoresSized (setup : Setup) (t : TaskTurn) (key : Parts) (file : List ℕ) (size : ℕ) (pairs_before pairs_after : List Asking)
     (notes_before notes_after : List Noting) (old new : Option Log) (result : Result Answer NoMemory) : Type 0 where
   pub asked : List Asking
   pub calls : List Call

@@ -25,7 +25,7 @@ use journal_model::{Answer, Verdict};
 use std::alloc::Global;
 use task_run::answers::refused;
 use task_run::names::chunk_name;
-use task_run::{Asker, Setup, ask};
+use task_run::{Asker, Setup, TaskTurn, ask};
 use task_text::Task;
 
 // What a remote has of a key's chunks, or how asking for them ended the task.
@@ -258,13 +258,13 @@ fn store_chunk<A: Asker, D: Desk>(
     n: u64,
     file: &str,
     size: u64,
-    number: u32,
+    turn: TaskTurn,
     setup: &Setup,
     asker: &mut A,
     desk: &mut D,
 ) -> Result<Option<Answer>, NoMemory>
     requires folder { has_newline setup.now.work ≡ false }
-    requires task { number ≡ A.task asker.old }
+    requires task { turn.task ≡ A.task asker.old }
     requires ready { A.ready asker.old }
     requires sent { is_sent_key (text_of key) ≡ true }
     requires whole { (parts_of key).chunk ≡ None }
@@ -272,14 +272,14 @@ fn store_chunk<A: Asker, D: Desk>(
     requires first { 0 < n }
     requires last { n ≤ count_of size setup.now.chunk }
     requires small { n + 1 < 2 ^ 64 }
-    ensures stored { StoresChunk file.now (chunk_file setup.now number (n + 1)) (from_of setup.now.chunk n) (to_of size setup.now.chunk n)
+    ensures stored { StoresChunk file.now (chunk_file setup.now turn (n + 1)) (from_of setup.now.chunk n) (to_of size setup.now.chunk n)
         (with_chunk setup.now.chunk n (parts_of key.entry)) (A.pairs asker.old) (A.pairs asker.new) (D.log desk.old) (D.log desk.new) result }
     ensures notes { A.notes asker.new ≡ A.notes asker.old }
     ensures same { IsSameTask (A.task asker.old) (A.task asker.new) (A.may_note asker.old) (A.may_note asker.new) (A.loans asker.old) (A.loans asker.new) }
     ensures on { A.goes_on asker.old asker.new }
     ensures causes { HasQuietCauses (D.counts desk.old) (D.counts desk.new) (so_far result) }
 {
-    let Ok(name) = chunk_name(alloc, setup, number, n + 1) else {
+    let Ok(name) = chunk_name(alloc, setup, turn, n + 1) else {
         return Err(NoMemory);
     };
     let (from, to) = range(size, setup.chunk, n);
@@ -293,7 +293,7 @@ fn store_chunk<A: Asker, D: Desk>(
         from,
         to,
         name,
-        number,
+        turn.task,
         asker,
         desk,
     )
@@ -328,13 +328,13 @@ fn store_from<A: Asker, D: Desk>(
     n: u64,
     file: &str,
     size: u64,
-    number: u32,
+    turn: TaskTurn,
     setup: &Setup,
     asker: &mut A,
     desk: &mut D,
 ) -> Result<Answer, NoMemory>
     requires folder { has_newline setup.now.work ≡ false }
-    requires task { number ≡ A.task asker.old }
+    requires task { turn.task ≡ A.task asker.old }
     requires ready { A.ready asker.old }
     requires may { A.may_note asker.old ≡ true }
     requires sent { is_sent_key (text_of key) ≡ true }
@@ -343,7 +343,7 @@ fn store_from<A: Asker, D: Desk>(
     requires chunk { 0 < setup.now.chunk }
     requires missing { n < count_of size setup.now.chunk }
     requires small { count_of size setup.now.chunk + 1 < 2 ^ 64 }
-    ensures stored { StoresFrom setup.now number (parts_of key.entry) file.now size n (A.pairs asker.old) (A.pairs asker.new)
+    ensures stored { StoresFrom setup.now turn (parts_of key.entry) file.now size n (A.pairs asker.old) (A.pairs asker.new)
         (A.notes asker.old) (A.notes asker.new) (D.log desk.old) (D.log desk.new) result }
     ensures same { IsSameTask (A.task asker.old) (A.task asker.new) (A.may_note asker.old) (A.may_note asker.new) (A.loans asker.old) (A.loans asker.new) }
     ensures on { A.goes_on asker.old asker.new }
@@ -352,23 +352,13 @@ fn store_from<A: Asker, D: Desk>(
     let all = count(size, setup.chunk);
     let mut stored = n;
     while stored < all {
-        match store_chunk(
-            alloc,
-            key,
-            stored + 1,
-            file,
-            size,
-            number,
-            setup,
-            asker,
-            desk,
-        ) {
+        match store_chunk(alloc, key, stored + 1, file, size, turn, setup, asker, desk) {
             Ok(None) => stored += 1,
             Ok(Some(answer)) => return Ok(answer),
             Err(error) => return Err(error),
         }
     }
-    note_chunks(asker, number, setup.chunk, all)
+    note_chunks(asker, turn.task, setup.chunk, all)
 }
 
 // Stores what is missing of the content, which has the key's size.
@@ -377,20 +367,20 @@ fn store_missing<A: Asker, D: Desk>(
     key: KeyRef<'_>,
     file: &str,
     size: u64,
-    number: u32,
+    turn: TaskTurn,
     setup: &Setup,
     asker: &mut A,
     desk: &mut D,
 ) -> Result<Answer, NoMemory>
     requires folder { has_newline setup.now.work ≡ false }
-    requires task { number ≡ A.task asker.old }
+    requires task { turn.task ≡ A.task asker.old }
     requires ready { A.ready asker.old }
     requires may { A.may_note asker.old ≡ true }
     requires sent { is_sent_key (text_of key) ≡ true }
     requires whole { (parts_of key).chunk ≡ None }
     requires size { (parts_of key).size ≡ Some size }
     requires chunk { 0 < setup.now.chunk }
-    ensures stored { StoresSized setup.now number (parts_of key.entry) file.now size (A.pairs asker.old) (A.pairs asker.new)
+    ensures stored { StoresSized setup.now turn (parts_of key.entry) file.now size (A.pairs asker.old) (A.pairs asker.new)
         (A.notes asker.old) (A.notes asker.new) (D.log desk.old) (D.log desk.new) result }
     ensures same { IsSameTask (A.task asker.old) (A.task asker.new) (A.may_note asker.old) (A.may_note asker.new) (A.loans asker.old) (A.loans asker.new) }
     ensures on { A.goes_on asker.old asker.new }
@@ -401,9 +391,9 @@ fn store_missing<A: Asker, D: Desk>(
     if all > u64::MAX - 2 {
         return Err(NoMemory);
     }
-    match seek(alloc, asker, number, key, setup.chunk, all) {
-        Ok(Sought::All) => note_chunks(asker, number, setup.chunk, all),
-        Ok(Sought::Missing(n)) => store_from(alloc, key, n, file, size, number, setup, asker, desk),
+    match seek(alloc, asker, turn.task, key, setup.chunk, all) {
+        Ok(Sought::All) => note_chunks(asker, turn.task, setup.chunk, all),
+        Ok(Sought::Missing(n)) => store_from(alloc, key, n, file, size, turn, setup, asker, desk),
         Ok(Sought::Over(answer)) => Ok(answer),
         Err(error) => Err(error),
     }
@@ -413,7 +403,7 @@ fn store_missing<A: Asker, D: Desk>(
 pub fn store_chunks<A: Asker, D: Desk>(
     alloc: Global,
     task: &Task,
-    number: u32,
+    turn: TaskTurn,
     setup: &Setup,
     asker: &mut A,
     desk: &mut D,
@@ -422,10 +412,10 @@ pub fn store_chunks<A: Asker, D: Desk>(
     requires work { task.now.work ≡ W.Store }
     requires folder { has_newline setup.now.work ≡ false }
     requires chunked { IsInChunks setup.now task.now }
-    requires number { number ≡ A.task asker.old }
+    requires number { turn.task ≡ A.task asker.old }
     requires ready { A.ready asker.old }
     requires may { A.may_note asker.old ≡ true }
-    ensures ran { RanStore task.now number setup.now (A.pairs asker.old) (A.pairs asker.new) (A.notes asker.old) (A.notes asker.new) (D.log desk.old) (D.log desk.new) result }
+    ensures ran { RanStore task.now turn setup.now (A.pairs asker.old) (A.pairs asker.new) (A.notes asker.old) (A.notes asker.new) (D.log desk.old) (D.log desk.new) result }
     ensures same { IsSameTask (A.task asker.old) (A.task asker.new) (A.may_note asker.old) (A.may_note asker.new) (A.loans asker.old) (A.loans asker.new) }
     ensures on { A.goes_on asker.old asker.new }
     ensures causes { HasQuietCauses (D.counts desk.old) (D.counts desk.new) result }
@@ -438,7 +428,7 @@ pub fn store_chunks<A: Asker, D: Desk>(
     match desk.size(file) {
         Ok(n) => {
             if n == size {
-                store_missing(alloc, key, file, size, number, setup, asker, desk)
+                store_missing(alloc, key, file, size, turn, setup, asker, desk)
             } else {
                 Ok(Answer::Size { bytes: n })
             }

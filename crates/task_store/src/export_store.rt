@@ -11,22 +11,22 @@ use ann_outside::Desk;
 use journal_model::Answer;
 use std::alloc::Global;
 use task_run::answers::{change_answer, is_size, refused};
-use task_run::{Asker, ask};
+use task_run::{Asker, TaskTurn, ask};
 use task_text::Task;
 
 /// Has the file stored as the key under the task's name, if it has the key's size.
 pub fn store_export<A: Asker, D: Desk>(
     alloc: Global,
     task: &Task,
-    number: u32,
+    turn: TaskTurn,
     asker: &mut A,
     desk: &mut D,
 ) -> Result<Answer, NoMemory>
     requires task { IsTask task.now }
     requires work { task.now.work ≡ W.XStore }
-    requires number { number ≡ A.task asker.old }
+    requires number { turn.task ≡ A.task asker.old }
     requires ready { A.ready asker.old }
-    ensures ran { (setup : Setup) (layouts : List (ℕ × ℕ)) → RanGet task.now number setup layouts (A.pairs asker.old) (A.pairs asker.new) (D.log desk.old) (D.log desk.new) result }
+    ensures ran { (setup : Setup) (layouts : List (ℕ × ℕ)) → RanGet task.now turn setup layouts (A.pairs asker.old) (A.pairs asker.new) (D.log desk.old) (D.log desk.new) result }
     ensures notes { A.notes asker.new ≡ A.notes asker.old }
     ensures same { IsSameTask (A.task asker.old) (A.task asker.new) (A.may_note asker.old) (A.may_note asker.new) (A.loans asker.old) (A.loans asker.new) }
     ensures on { A.goes_on asker.old asker.new }
@@ -38,7 +38,7 @@ pub fn store_export<A: Asker, D: Desk>(
         Ok(n) => {
             if is_size(key.size(), n) {
                 let name = task.name.view();
-                match ask::transfer_named(alloc, asker, number, true, key, file, name) {
+                match ask::transfer_named(alloc, asker, turn.task, true, key, file, name) {
                     Ok(verdict) => Ok(change_answer(Answer::Stored, verdict)),
                     Err(error) => Err(error),
                 }

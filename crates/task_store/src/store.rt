@@ -10,22 +10,22 @@ use ann_outside::Desk;
 use journal_model::Answer;
 use std::alloc::Global;
 use task_run::answers::{change_answer, is_size, refused};
-use task_run::{Asker, ask};
+use task_run::{Asker, TaskTurn, ask};
 use task_text::Task;
 
 /// Has the file stored as the key, if it has the key's size.
 pub fn store_whole<A: Asker, D: Desk>(
     alloc: Global,
     task: &Task,
-    number: u32,
+    turn: TaskTurn,
     asker: &mut A,
     desk: &mut D,
 ) -> Result<Answer, NoMemory>
     requires task { IsTask task.now }
     requires work { task.now.work ≡ W.Store }
-    requires number { number ≡ A.task asker.old }
+    requires number { turn.task ≡ A.task asker.old }
     requires ready { A.ready asker.old }
-    ensures ran { RanPlain task.now number [] (A.pairs asker.old) (A.pairs asker.new) (D.log desk.old) (D.log desk.new) result }
+    ensures ran { RanPlain task.now turn [] (A.pairs asker.old) (A.pairs asker.new) (D.log desk.old) (D.log desk.new) result }
     ensures notes { A.notes asker.new ≡ A.notes asker.old }
     ensures same { IsSameTask (A.task asker.old) (A.task asker.new) (A.may_note asker.old) (A.may_note asker.new) (A.loans asker.old) (A.loans asker.new) }
     ensures on { A.goes_on asker.old asker.new }
@@ -36,7 +36,7 @@ pub fn store_whole<A: Asker, D: Desk>(
     match desk.size(file) {
         Ok(n) => {
             if is_size(key.size(), n) {
-                match ask::transfer(alloc, asker, number, true, key, file) {
+                match ask::transfer(alloc, asker, turn.task, true, key, file) {
                     Ok(verdict) => Ok(change_answer(Answer::Stored, verdict)),
                     Err(error) => Err(error),
                 }

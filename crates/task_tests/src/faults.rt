@@ -1,5 +1,5 @@
 // Each call of the desk failing in turn.
-use crate::trial::{Case, Files, tried};
+use crate::trial::{Case, Files, tried, tried_in};
 use std::alloc::Global;
 use std::process::Abort;
 use std::test::Fail;
@@ -9,6 +9,10 @@ const FETCH_1: &str = "w/5-1-1.fetch";
 const FETCH_2: &str = "w/5-1-2.fetch";
 
 const CHUNK: &str = "w/5-1-2.chunk";
+
+const FETCH_AGAIN: &str = "w/5-1-1-2.fetch";
+
+const CHUNK_AGAIN: &str = "w/5-1-2-2.chunk";
 
 // The calls of a task, in order: each one's word, the name of its file, and what files hold where it fails, a dash for no file. A call that
 // fails does nothing on a desk in memory. Then what the answer is where none fails.
@@ -222,35 +226,81 @@ static STORES: [Row; 4] = [
     },
 ];
 
-fn expect_row(rt: &impl Abort, alloc: Global, row: &Row) -> Result<(), Fail> {
+fn expect_row(rt: &impl Abort, alloc: Global, turn: u32, row: &Row) -> Result<(), Fail> {
     let line = row.case.line;
     for (at, (word, name, left)) in row.calls.iter().enumerate() {
         let number = at as u64 + 1;
-        let came = tried(alloc, &row.case, number)?;
+        let came = tried_in(alloc, &row.case, turn, number)?;
         assert_eq!(rt; came.answer, "filefault", "{line}: call {number}");
         assert!(rt; came.ends_with(number, word, name), "{line}: call {number}");
         assert_eq!(rt; came.other(left), "", "{line}: call {number}");
     }
     // no more calls are made
-    let came = tried(alloc, &row.case, row.calls.len() as u64 + 1)?;
+    let came = tried_in(alloc, &row.case, turn, row.calls.len() as u64 + 1)?;
     assert_eq!(rt; came.answer, row.answer, "{line}");
     Ok(())
 }
 
-fn expect_rows(rt: &impl Abort, alloc: Global, rows: &[Row]) -> Result<(), Fail> {
+fn expect_rows(rt: &impl Abort, alloc: Global, turn: u32, rows: &[Row]) -> Result<(), Fail> {
     for row in rows {
-        expect_row(rt, alloc, row)?;
+        expect_row(rt, alloc, turn, row)?;
     }
     Ok(())
 }
 
 #[test]
 fn each_call_of_a_task_fails(rt: HostRuntime) -> Result<(), Fail> {
-    expect_rows(&rt, rt.alloc(), &GETS)?;
-    expect_rows(&rt, rt.alloc(), &EXPORTS_GOT)?;
-    expect_rows(&rt, rt.alloc(), &CHUNKS_GOT)?;
-    expect_rows(&rt, rt.alloc(), &STORES)
+    expect_rows(&rt, rt.alloc(), 1, &GETS)?;
+    expect_rows(&rt, rt.alloc(), 1, &EXPORTS_GOT)?;
+    expect_rows(&rt, rt.alloc(), 1, &CHUNKS_GOT)?;
+    expect_rows(&rt, rt.alloc(), 1, &STORES)
 }
+
+#[test]
+fn each_call_of_a_second_turn_fails(rt: HostRuntime) -> Result<(), Fail> {
+    expect_rows(&rt, rt.alloc(), 2, &SECOND_TURNS)
+}
+
+// The files of another turn are left alone.
+static SECOND_TURNS: [Row; 2] = [
+    Row {
+        case: Case {
+            line: "get WORM-s3--a o",
+            layouts: &[],
+            chunk: 0,
+            files: &[(FETCH_1, "old"), (FETCH_AGAIN, "abc")],
+        },
+        calls: &[
+            ("size", FETCH_AGAIN, &[(FETCH_1, "old")]),
+            ("create", "o.part", &[(FETCH_1, "old")]),
+            ("read", FETCH_AGAIN, &[("o.part", "")]),
+            ("append", "o.part", &[("o.part", "")]),
+            ("remove", FETCH_AGAIN, &[("o.part", "abc")]),
+            ("rename", "o.part", &[(FETCH_1, "old"), (FETCH_AGAIN, "-")]),
+        ],
+        answer: "got",
+    },
+    Row {
+        case: Case {
+            line: "store WORM-s2--a f",
+            layouts: &[],
+            chunk: 4,
+            files: &[("f", "hi"), (CHUNK, "old")],
+        },
+        calls: &[
+            ("size", "f", &[(CHUNK_AGAIN, "-")]),
+            ("create", CHUNK_AGAIN, &[(CHUNK, "old")]),
+            ("read", "f", &[(CHUNK_AGAIN, "")]),
+            ("append", CHUNK_AGAIN, &[(CHUNK_AGAIN, "")]),
+            (
+                "remove",
+                CHUNK_AGAIN,
+                &[(CHUNK, "old"), (CHUNK_AGAIN, "hi")],
+            ),
+        ],
+        answer: "stored",
+    },
+];
 
 // The tasks that make no call, and their answers by an asker to which all is done and that is told that nothing is there.
 static NAMED: [(&str, &str); 3] = [

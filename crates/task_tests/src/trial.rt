@@ -84,13 +84,19 @@ fn setup_of(alloc: Global, chunk: u64) -> Result<Setup, NoMemory>
     })
 }
 
-fn run(alloc: Global, task: &Task, case: &Case, mut desk: MemDesk) -> Result<Outcome, NoMemory>
+fn run(
+    alloc: Global,
+    task: &Task,
+    case: &Case,
+    turn: u32,
+    mut desk: MemDesk,
+) -> Result<Outcome, NoMemory>
     requires { IsTask task.now }
 {
     let layouts = layouts_of(alloc, case.layouts)?;
     let setup = setup_of(alloc, case.chunk)?;
     let mut asker = DoneAsker::new(alloc, 1, may_note(task.work), layouts);
-    let answer = run_task(alloc, task, 1, &setup, &mut asker, &mut desk)?;
+    let answer = run_task(alloc, task, 1, turn, &setup, &mut asker, &mut desk)?;
     Ok(Outcome {
         answer: word_of(&answer),
         desk,
@@ -99,9 +105,14 @@ fn run(alloc: Global, task: &Task, case: &Case, mut desk: MemDesk) -> Result<Out
 
 /// The case as task 1, where the desk's call of that number fails.
 pub fn tried(alloc: Global, case: &Case, fails: u64) -> Result<Outcome, TaskError> {
+    tried_in(alloc, case, 1, fails)
+}
+
+/// The same in this turn of the task.
+pub fn tried_in(alloc: Global, case: &Case, turn: u32, fails: u64) -> Result<Outcome, TaskError> {
     let task = read_task(alloc, case.line.as_bytes())?;
     let desk = desk_of(alloc, case.files, fails)?;
-    Ok(run(alloc, &task, case, desk)?)
+    Ok(run(alloc, &task, case, turn, desk)?)
 }
 
 fn word_of(answer: &Answer) -> &'static str {

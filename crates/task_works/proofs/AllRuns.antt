@@ -12,13 +12,14 @@ use Rattle.fetch_copy.proofs.CopyLaws.{gained_nothing}
 use Rattle.task_run.specs.Askers.{Asking, Noting}
 use Rattle.journal_model.specs.declared.answer.Answer.{Answer}
 use Rattle.task_run.specs.declared.setup.Setup.{Setup}
+use Rattle.task_run.specs.declared.turn.TaskTurn.{TaskTurn}
 use Rattle.task_run.specs.Runs.{RunOf, TaskRun, WorkAsks, WorkAnswers, is_chunked}
 use Rattle.task_run.specs.Stops.{AnsweredBy, stops_of}
 use Rattle.task_run.specs.Names.{part_of}
 use Rattle.task_run.specs.Ran.{Ran, RanAsking, RanPlain, RanStore, RanGet, IsInChunks, IsWhole, answered}
 use Rattle.task_works.specs.Rounds.{RanNoting}
 
-pub from_asking : (task : Task) (t : ℕ) (setup : Setup) (layouts : List (ℕ × ℕ)) (before after : List Asking) (notes later : List Noting) (log : Option Log) (result : Result Answer NoMemory)
+pub from_asking : (task : Task) (t : TaskTurn) (setup : Setup) (layouts : List (ℕ × ℕ)) (before after : List Asking) (notes later : List Noting) (log : Option Log) (result : Result Answer NoMemory)
     → RanAsking task t layouts before after result → later ≡ notes → Ran task t setup layouts before after notes later log log result
 from_asking task t setup layouts before after notes later log result r n = record {
   asked = r.asked;
@@ -30,7 +31,7 @@ from_asking task t setup layouts before after notes later log result r n = recor
   run = r.run setup;
 }
 
-pub from_noting : (task : Task) (t : ℕ) (setup : Setup) (layouts : List (ℕ × ℕ)) (before after : List Asking) (notes later : List Noting) (log : Option Log) (result : Result Answer NoMemory)
+pub from_noting : (task : Task) (t : TaskTurn) (setup : Setup) (layouts : List (ℕ × ℕ)) (before after : List Asking) (notes later : List Noting) (log : Option Log) (result : Result Answer NoMemory)
     → RanNoting task t layouts before after notes later result → Ran task t setup layouts before after notes later log log result
 from_noting task t setup layouts before after notes later log result r = record {
   asked = r.asked;
@@ -42,7 +43,7 @@ from_noting task t setup layouts before after notes later log result r = record 
   run = r.run setup;
 }
 
-pub from_get : (task : Task) (t : ℕ) (setup : Setup) (layouts : List (ℕ × ℕ)) (before after : List Asking) (notes later : List Noting) (old new : Option Log) (result : Result Answer NoMemory)
+pub from_get : (task : Task) (t : TaskTurn) (setup : Setup) (layouts : List (ℕ × ℕ)) (before after : List Asking) (notes later : List Noting) (old new : Option Log) (result : Result Answer NoMemory)
     → RanGet task t setup layouts before after old new result → later ≡ notes → Ran task t setup layouts before after notes later old new result
 from_get task t setup layouts before after notes later old new result r n = record {
   asked = r.asked;
@@ -54,7 +55,7 @@ from_get task t setup layouts before after notes later old new result r n = reco
   run = r.run;
 }
 
-pub from_store : (task : Task) (t : ℕ) (setup : Setup) (layouts : List (ℕ × ℕ)) (before after : List Asking) (notes later : List Noting) (old new : Option Log) (result : Result Answer NoMemory)
+pub from_store : (task : Task) (t : TaskTurn) (setup : Setup) (layouts : List (ℕ × ℕ)) (before after : List Asking) (notes later : List Noting) (old new : Option Log) (result : Result Answer NoMemory)
     → RanStore task t setup before after notes later old new result → Ran task t setup layouts before after notes later old new result
 from_store task t setup layouts before after notes later old new result r = record {
   asked = r.asked;
@@ -69,7 +70,7 @@ from_store task t setup layouts before after notes later old new result r = reco
 -- ---- stores
 
 -- of a task that stores, the layouts that the remote has say nothing
-other_layouts : (setup : Setup) (t : ℕ) (task : Task) (key : Parts) (layouts others : List (ℕ × ℕ)) (asked : List Asking) (calls : List Call) (noted : List Noting) (answer : Answer)
+other_layouts : (setup : Setup) (t : TaskTurn) (task : Task) (key : Parts) (layouts others : List (ℕ × ℕ)) (asked : List Asking) (calls : List Call) (noted : List Noting) (answer : Answer)
     → task.work ≡ W.Store → RunOf setup t task key layouts asked calls noted answer → RunOf setup t task key others asked calls noted answer
 other_layouts setup t task key layouts others asked calls noted answer w r = record {
   asked_till_stop = r.asked_till_stop;
@@ -83,7 +84,7 @@ other_layouts setup t task key layouts others asked calls noted answer w r = rec
       subst P (sym w) (subst Q w r.answered);
 }
 
-any_layouts : (setup : Setup) (t : ℕ) (task : Task) (layouts others : List (ℕ × ℕ)) (asked : List Asking) (calls : List Call) (noted : List Noting) (answer : Answer)
+any_layouts : (setup : Setup) (t : TaskTurn) (task : Task) (layouts others : List (ℕ × ℕ)) (asked : List Asking) (calls : List Call) (noted : List Noting) (answer : Answer)
     → task.work ≡ W.Store → TaskRun task t setup layouts asked calls noted answer → TaskRun task t setup others asked calls noted answer
 any_layouts setup t task layouts others asked calls noted answer w r = by_case (key_reading task.key) r
   where
@@ -91,7 +92,7 @@ any_layouts setup t task layouts others asked calls noted answer w r = by_case (
     by_case None h = tt
     by_case (Some key) h = other_layouts setup t task key layouts others asked calls noted answer w h
 
-pub from_plain : (task : Task) (t : ℕ) (setup : Setup) (before after : List Asking) (notes later : List Noting) (old new : Option Log) (result : Result Answer NoMemory)
+pub from_plain : (task : Task) (t : TaskTurn) (setup : Setup) (before after : List Asking) (notes later : List Noting) (old new : Option Log) (result : Result Answer NoMemory)
     → task.work ≡ W.Store → IsWhole setup task → RanPlain task t [] before after old new result → later ≡ notes → RanStore task t setup before after notes later old new result
 from_plain task t setup before after notes later old new result k w r n = record {
   asked = r.asked;

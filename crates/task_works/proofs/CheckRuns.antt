@@ -18,6 +18,7 @@ use Rattle.task_text.specs.declared.task.Task.{Task}
 use Rattle.task_text.specs.declared.task.Work.TheVariants as W
 use Rattle.task_run.specs.Askers.{Asking}
 use Rattle.task_run.specs.declared.setup.Setup.{Setup}
+use Rattle.task_run.specs.declared.turn.TaskTurn.{TaskTurn}
 use Rattle.task_works.specs.declared.layouts.Query.TheVariants as Q
 use Rattle.task_run.specs.Stops.{is_done, is_done_at, verdict_stop, all_but_last, AnsweredBy}
 use Rattle.task_run.specs.Layouts.{chunk_sizes, keys_of_layout, layouts_tried, sizes_tried}
@@ -291,7 +292,7 @@ stop_answers Unsent e = refl
 abbrev check_task : List ℕ → List ℕ → Task
 check_task text file = record { work = W.Check; key = text; file = file; name = []; onto = [] }
 
-module _ (setup : Setup) (t : ℕ) (key : Parts) (text file : List ℕ) (layouts : List (ℕ × ℕ)) where
+module _ (setup : Setup) (t : TaskTurn) (key : Parts) (text file : List ℕ) (layouts : List (ℕ × ℕ)) where
   going : (asked : List Asking) (answer : Answer) → list_all goes_on asked ≡ true → RoundsAsk present_request 1 (layouts_tried key layouts) (rounds asked)
       → AnsweredBy [] answer (CheckAnswers (layouts_tried key layouts) asked answer) → RunOf setup t (check_task text file) key layouts asked [] [] answer
   going asked answer g o h = record {
@@ -318,7 +319,7 @@ module _ (setup : Setup) (t : ℕ) (key : Parts) (text file : List ℕ) (layouts
 as_check : (task : Task) → task.work ≡ W.Check → nameless task ≡ check_task task.key task.file
 as_check task e = ap (λ w. record { work = w; key = task.key; file = task.file; name = []; onto = [] }) e
 
-ran : (task : Task) (t : ℕ) (key : Parts) (layouts : List (ℕ × ℕ)) (before after asked : List Asking) (result : Result Answer NoMemory) → task.work ≡ W.Check → key_reading task.key ≡ Some key
+ran : (task : Task) (t : TaskTurn) (key : Parts) (layouts : List (ℕ × ℕ)) (before after asked : List Asking) (result : Result Answer NoMemory) → task.work ≡ W.Check → key_reading task.key ≡ Some key
     → after ≡ before ++ asked → ((setup : Setup) → RunOf setup t (check_task task.key task.file) key layouts asked [] [] (answered result)) → RanAsking task t layouts before after result
 ran task t key layouts before after asked result w r p h = record {
   asked = asked;
@@ -328,7 +329,7 @@ ran task t key layouts before after asked result w r p h = record {
       (subst P (sym (as_check task w)) (let Q : Option Parts → Type 0 = λ o. IfSome o (λ k. RunOf setup t (check_task task.key task.file) k layouts asked [] [] (answered result)) in subst Q (sym r) (h setup)));
 }
 
-module _ (task : Task) (t : ℕ) (key : Parts) (layouts : List (ℕ × ℕ)) (w : task.work ≡ W.Check) (k : key_reading task.key ≡ Some key) where
+module _ (task : Task) (t : TaskTurn) (key : Parts) (layouts : List (ℕ × ℕ)) (w : task.work ≡ W.Check) (k : key_reading task.key ≡ Some key) where
   pub check_nothing : (pairs : List Asking) (e : NoMemory) → RanAsking task t layouts pairs pairs (Err e)
   check_nothing pairs e = ran task t key layouts pairs pairs [] (Err e) w k (sym (append-nil pairs)) (λ setup. going setup t key task.key task.file layouts [] A.Memory refl tt tt)
 

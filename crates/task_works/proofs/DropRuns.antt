@@ -21,6 +21,7 @@ use Rattle.task_text.specs.declared.task.Task.{Task}
 use Rattle.task_text.specs.declared.task.Work.TheVariants as W
 use Rattle.task_run.specs.Askers.{Asking, Noting}
 use Rattle.task_run.specs.declared.setup.Setup.{Setup}
+use Rattle.task_run.specs.declared.turn.TaskTurn.{TaskTurn}
 use Rattle.task_works.specs.declared.layouts.Query.TheVariants as Q
 use Rattle.task_run.specs.Stops.{is_done, is_done_at, verdict_stop, failed_at, last_failed, all_but_last, AnsweredBy}
 use Rattle.task_run.specs.Layouts.{keys_of_layout, sizes_tried}
@@ -187,7 +188,7 @@ removed_all a b notes later key sizes i h m = let P : List ℕ → Type 0 = λ s
 abbrev drop_task : List ℕ → List ℕ → Task
 drop_task text file = record { work = W.Drop; key = text; file = file; name = []; onto = [] }
 
-module _ (setup : Setup) (t : ℕ) (key : Parts) (text file : List ℕ) (layouts : List (ℕ × ℕ)) where
+module _ (setup : Setup) (t : TaskTurn) (key : Parts) (text file : List ℕ) (layouts : List (ℕ × ℕ)) where
   going : (asked : List Asking) (noted : List Noting) (answer : Answer) → list_all goes_on asked ≡ true → DropAsks key (sizes_tried key layouts) asked noted
       → AnsweredBy [] answer (DropAnswers key (sizes_tried key layouts) asked answer) → RunOf setup t (drop_task text file) key layouts asked [] noted answer
   going asked noted answer g o h = record {
@@ -249,7 +250,7 @@ finished : (answer : Answer) (Finished : Type 0) → Finished → AnsweredBy [] 
 finished A.Memory Finished h = tt
 finished answer Finished h = h
 
-ran : (task : Task) (t : ℕ) (key : Parts) (layouts : List (ℕ × ℕ)) (before after asked : List Asking) (notes later noted : List Noting) (result : Result Answer NoMemory) → task.work ≡ W.Drop
+ran : (task : Task) (t : TaskTurn) (key : Parts) (layouts : List (ℕ × ℕ)) (before after asked : List Asking) (notes later noted : List Noting) (result : Result Answer NoMemory) → task.work ≡ W.Drop
     → key_reading task.key ≡ Some key → after ≡ before ++ asked → later ≡ notes ++ map (behind_more (length before)) noted
     → ((setup : Setup) → RunOf setup t (drop_task task.key task.file) key layouts asked [] noted (answered result)) → RanNoting task t layouts before after notes later result
 ran task t key layouts before after asked notes later noted result w r p n h = record {
@@ -301,7 +302,7 @@ some_asks key sizes done rest chunk s asked round o d l r e = let P : List ℕ �
     later : count_by (λ (note : Noting). nat_lt note.behind (length (asked ++ round))) (drop_notes key (0 + length (keys_dropped key done)) (chunk ∷ rest)) ≡ 0
     later = notes_later key (0 + length (keys_dropped key done)) (length (asked ++ round)) chunk rest (omega (arith, l, length-append asked round, order_fits remove_request 1 (keys_of_layout key chunk) round (r 1)))
 
-module _ (task : Task) (t : ℕ) (key : Parts) (layouts : List (ℕ × ℕ)) (w : task.work ≡ W.Drop) (k : key_reading task.key ≡ Some key) where
+module _ (task : Task) (t : TaskTurn) (key : Parts) (layouts : List (ℕ × ℕ)) (w : task.work ≡ W.Drop) (k : key_reading task.key ≡ Some key) where
   pub drop_nothing : (pairs : List Asking) (notes : List Noting) (e : NoMemory) → RanNoting task t layouts pairs pairs notes notes (Err e)
   drop_nothing pairs notes e =
       ran task t key layouts pairs pairs [] notes notes [] (Err e) w k (sym (append-nil pairs)) (sym (append-nil notes))

@@ -13,6 +13,7 @@ use Rattle.task_text.specs.declared.task.Work.{Work}
 use Rattle.task_text.specs.declared.task.Work.TheVariants as W
 use Rattle.task_run.specs.Askers.{Asking, AsksOne}
 use Rattle.task_run.specs.declared.setup.Setup.{Setup}
+use Rattle.task_run.specs.declared.turn.TaskTurn.{TaskTurn}
 use Rattle.task_run.specs.TaskRuns.{check_answer}
 use Rattle.task_run.specs.Exports.{AsksOfName, check_export, remove_export, rename_export}
 use Rattle.task_run.specs.Runs.{RunOf}
@@ -20,11 +21,11 @@ use Rattle.task_run.specs.Ran.{RanAsking, is_verdict_of, change_answer, may_foll
 use Rattle.task_run.proofs.Texts.{apart}
 use Rattle.task_run.proofs.ExportRuns.{with_work, export_run, named, asks_of_name, asks_nothing}
 
-abbrev AskRun : Work → Setup → ℕ → Task → Parts → List (ℕ × ℕ) → List Asking → Answer → Type 0
+abbrev AskRun : Work → Setup → TaskTurn → Task → Parts → List (ℕ × ℕ) → List Asking → Answer → Type 0
 AskRun work setup t task key layouts asked answer = RunOf setup t (with_work work task) key layouts asked [] [] answer
 
 -- where it holds of any reading of the key, the pairs grew by a run of the task
-one_ran : (work : Work) (task : Task) (t : ℕ) (layouts : List (ℕ × ℕ)) (before after : List Asking) (q : HostMessage) (v : Verdict) (answer : Answer) (o : Option Answer) → task.work ≡ work → Some answer ≡ o → (a : AsksOne before after (Some task.name) q v)
+one_ran : (work : Work) (task : Task) (t : TaskTurn) (layouts : List (ℕ × ℕ)) (before after : List Asking) (q : HostMessage) (v : Verdict) (answer : Answer) (o : Option Answer) → task.work ≡ work → Some answer ≡ o → (a : AsksOne before after (Some task.name) q v)
     → ((key : Parts) → key_reading task.key ≡ Some key → (setup : Setup) → AskRun work setup t task key layouts (named task.name a.request v ∷ []) (unwrap_or o A.Memory)) → RanAsking task t layouts before after (Ok answer)
 one_ran work task t layouts before after q v answer o w is a h = record {
   asked = named task.name a.request v ∷ [];
@@ -34,7 +35,7 @@ one_ran work task t layouts before after q v answer o w is a h = record {
       subst P (sym is) (h key r setup));
 }
 
-none_ran : (work : Work) (task : Task) (t : ℕ) (layouts : List (ℕ × ℕ)) (pairs : List Asking) (e : NoMemory) → task.work ≡ work
+none_ran : (work : Work) (task : Task) (t : TaskTurn) (layouts : List (ℕ × ℕ)) (pairs : List Asking) (e : NoMemory) → task.work ≡ work
     → ((key : Parts) (setup : Setup) → AskRun work setup t task key layouts [] A.Memory) → RanAsking task t layouts pairs pairs (Err e)
 none_ran work task t layouts pairs e w h = record {
   asked = [];
@@ -44,7 +45,7 @@ none_ran work task t layouts pairs e w h = record {
 
 -- ---- checks
 
-check_once : (setup : Setup) (t : ℕ) (task : Task) (key : Parts) (layouts : List (ℕ × ℕ)) (request : Option HostMessage) (v : Verdict) → AsksOfName check_export (key ∷ []) task.name (named task.name request v ∷ [])
+check_once : (setup : Setup) (t : TaskTurn) (task : Task) (key : Parts) (layouts : List (ℕ × ℕ)) (request : Option HostMessage) (v : Verdict) → AsksOfName check_export (key ∷ []) task.name (named task.name request v ∷ [])
     → is_verdict_of (Checkpresentexport task.key) v ≡ true → AskRun W.XCheck setup t task key layouts (named task.name request v ∷ []) (unwrap_or (check_answer v) A.Memory)
 check_once setup t task key layouts request (V.Done at) h k = record { asked_till_stop = refl; calls_till_stop = refl; found = refl; work = (h, refl, refl); answered = record { found = refl } }
 check_once setup t task key layouts request (V.Absent at) h k = record { asked_till_stop = refl; calls_till_stop = refl; found = refl; work = (h, refl, refl); answered = record { found = (refl, refl) } }
@@ -54,19 +55,19 @@ check_once setup t task key layouts request (V.Ended why) h k = record { asked_t
 check_once setup t task key layouts request V.Unsent h k = record { asked_till_stop = refl; calls_till_stop = refl; found = refl; work = (h, refl, refl); answered = refl }
 check_once setup t task key layouts request (V.Failed at) h k = apart k
 
-pub check_ran : (task : Task) (t : ℕ) (layouts : List (ℕ × ℕ)) (before after : List Asking) (v : Verdict) (answer : Answer) → task.work ≡ W.XCheck → AsksOne before after (Some task.name) (Checkpresentexport task.key) v
+pub check_ran : (task : Task) (t : TaskTurn) (layouts : List (ℕ × ℕ)) (before after : List Asking) (v : Verdict) (answer : Answer) → task.work ≡ W.XCheck → AsksOne before after (Some task.name) (Checkpresentexport task.key) v
     → is_verdict_of (Checkpresentexport task.key) v ≡ true → Some answer ≡ check_answer v → RanAsking task t layouts before after (Ok answer)
 check_ran task t layouts before after v answer w a k is =
     one_ran W.XCheck task t layouts before after (Checkpresentexport task.key) v answer (check_answer v) w is a
     (λ key r setup. check_once setup t task key layouts a.request v (asks_of_name check_export task.key task.name key a.request v r refl a.kept) k)
 
-pub check_none : (task : Task) (t : ℕ) (layouts : List (ℕ × ℕ)) (pairs : List Asking) (e : NoMemory) → task.work ≡ W.XCheck → RanAsking task t layouts pairs pairs (Err e)
+pub check_none : (task : Task) (t : TaskTurn) (layouts : List (ℕ × ℕ)) (pairs : List Asking) (e : NoMemory) → task.work ≡ W.XCheck → RanAsking task t layouts pairs pairs (Err e)
 check_none task t layouts pairs e w = none_ran W.XCheck task t layouts pairs e w
     (λ key setup. record { asked_till_stop = refl; calls_till_stop = refl; found = refl; work = (asks_nothing _ _ task.name, refl, refl); answered = tt })
 
 -- ---- drops
 
-drop_once : (setup : Setup) (t : ℕ) (task : Task) (key : Parts) (layouts : List (ℕ × ℕ)) (request : Option HostMessage) (v : Verdict) → AsksOfName remove_export (key ∷ []) task.name (named task.name request v ∷ [])
+drop_once : (setup : Setup) (t : TaskTurn) (task : Task) (key : Parts) (layouts : List (ℕ × ℕ)) (request : Option HostMessage) (v : Verdict) → AsksOfName remove_export (key ∷ []) task.name (named task.name request v ∷ [])
     → is_verdict_of (Removeexport task.key) v ≡ true → AskRun W.XDrop setup t task key layouts (named task.name request v ∷ []) (unwrap_or (change_answer A.Dropped v) A.Memory)
 drop_once setup t task key layouts request (V.Done at) h k = record { asked_till_stop = refl; calls_till_stop = refl; found = refl; work = (h, refl, refl); answered = refl }
 drop_once setup t task key layouts request (V.Failed at) h k = record { asked_till_stop = refl; calls_till_stop = refl; found = refl; work = (h, refl, refl); answered = refl }
@@ -76,19 +77,19 @@ drop_once setup t task key layouts request V.Unsent h k = record { asked_till_st
 drop_once setup t task key layouts request (V.Absent at) h k = apart k
 drop_once setup t task key layouts request (V.Unknown at) h k = apart k
 
-pub drop_ran : (task : Task) (t : ℕ) (layouts : List (ℕ × ℕ)) (before after : List Asking) (v : Verdict) (answer : Answer) → task.work ≡ W.XDrop → AsksOne before after (Some task.name) (Removeexport task.key) v
+pub drop_ran : (task : Task) (t : TaskTurn) (layouts : List (ℕ × ℕ)) (before after : List Asking) (v : Verdict) (answer : Answer) → task.work ≡ W.XDrop → AsksOne before after (Some task.name) (Removeexport task.key) v
     → is_verdict_of (Removeexport task.key) v ≡ true → Some answer ≡ change_answer A.Dropped v → RanAsking task t layouts before after (Ok answer)
 drop_ran task t layouts before after v answer w a k is =
     one_ran W.XDrop task t layouts before after (Removeexport task.key) v answer (change_answer A.Dropped v) w is a
     (λ key r setup. drop_once setup t task key layouts a.request v (asks_of_name remove_export task.key task.name key a.request v r refl a.kept) k)
 
-pub drop_none : (task : Task) (t : ℕ) (layouts : List (ℕ × ℕ)) (pairs : List Asking) (e : NoMemory) → task.work ≡ W.XDrop → RanAsking task t layouts pairs pairs (Err e)
+pub drop_none : (task : Task) (t : TaskTurn) (layouts : List (ℕ × ℕ)) (pairs : List Asking) (e : NoMemory) → task.work ≡ W.XDrop → RanAsking task t layouts pairs pairs (Err e)
 drop_none task t layouts pairs e w = none_ran W.XDrop task t layouts pairs e w
     (λ key setup. record { asked_till_stop = refl; calls_till_stop = refl; found = refl; work = (asks_nothing _ _ task.name, refl, refl); answered = tt })
 
 -- ---- new names
 
-rename_once : (setup : Setup) (t : ℕ) (task : Task) (key : Parts) (layouts : List (ℕ × ℕ)) (request : Option HostMessage) (v : Verdict) → AsksOfName (rename_export task.onto) (key ∷ []) task.name (named task.name request v ∷ [])
+rename_once : (setup : Setup) (t : TaskTurn) (task : Task) (key : Parts) (layouts : List (ℕ × ℕ)) (request : Option HostMessage) (v : Verdict) → AsksOfName (rename_export task.onto) (key ∷ []) task.name (named task.name request v ∷ [])
     → is_verdict_of (Renameexport task.key task.onto) v ≡ true → AskRun W.XRename setup t task key layouts (named task.name request v ∷ []) (unwrap_or (change_answer A.Renamed v) A.Memory)
 rename_once setup t task key layouts request (V.Done at) h k = record { asked_till_stop = refl; calls_till_stop = refl; found = refl; work = (h, refl, refl); answered = refl }
 rename_once setup t task key layouts request (V.Failed at) h k = record { asked_till_stop = refl; calls_till_stop = refl; found = refl; work = (h, refl, refl); answered = refl }
@@ -98,13 +99,13 @@ rename_once setup t task key layouts request V.Unsent h k = record { asked_till_
 rename_once setup t task key layouts request (V.Absent at) h k = apart k
 rename_once setup t task key layouts request (V.Unknown at) h k = apart k
 
-pub rename_ran : (task : Task) (t : ℕ) (layouts : List (ℕ × ℕ)) (before after : List Asking) (v : Verdict) (answer : Answer) → task.work ≡ W.XRename → AsksOne before after (Some task.name) (Renameexport task.key task.onto) v
+pub rename_ran : (task : Task) (t : TaskTurn) (layouts : List (ℕ × ℕ)) (before after : List Asking) (v : Verdict) (answer : Answer) → task.work ≡ W.XRename → AsksOne before after (Some task.name) (Renameexport task.key task.onto) v
     → is_verdict_of (Renameexport task.key task.onto) v ≡ true → Some answer ≡ change_answer A.Renamed v → RanAsking task t layouts before after (Ok answer)
 rename_ran task t layouts before after v answer w a k is =
     one_ran W.XRename task t layouts before after (Renameexport task.key task.onto) v answer (change_answer A.Renamed v) w is a
     (λ key r setup. rename_once setup t task key layouts a.request v (asks_of_name (rename_export task.onto) task.key task.name key a.request v r refl a.kept) k)
 
-pub rename_none : (task : Task) (t : ℕ) (layouts : List (ℕ × ℕ)) (pairs : List Asking) (e : NoMemory) → task.work ≡ W.XRename → RanAsking task t layouts pairs pairs (Err e)
+pub rename_none : (task : Task) (t : TaskTurn) (layouts : List (ℕ × ℕ)) (pairs : List Asking) (e : NoMemory) → task.work ≡ W.XRename → RanAsking task t layouts pairs pairs (Err e)
 rename_none task t layouts pairs e w = none_ran W.XRename task t layouts pairs e w
     (λ key setup. record { asked_till_stop = refl; calls_till_stop = refl; found = refl; work = (asks_nothing _ _ task.name, refl, refl); answered = tt })
 

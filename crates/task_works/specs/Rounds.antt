@@ -11,6 +11,7 @@ use Rattle.journal_model.specs.declared.answer.Answer.TheVariants.{Absent}
 use Rattle.task_text.specs.declared.task.Task.{Task}
 use Rattle.task_run.specs.Askers.{Asking, Noting}
 use Rattle.task_run.specs.declared.setup.Setup.{Setup}
+use Rattle.task_run.specs.declared.turn.TaskTurn.{TaskTurn}
 use Rattle.task_works.specs.declared.layouts.Query.{Query}
 use Rattle.task_works.specs.declared.layouts.Query.TheVariants as Q
 use Rattle.task_run.specs.Stops.{is_done, is_done_at, verdict_stop}
@@ -108,7 +109,7 @@ NotesNone notes later behind chunk (Ok done) = later ≡ notes ++ notes_none beh
 NotesNone notes later behind chunk (Err e) = later ≡ notes
 
 -- The pairs and the notes grew by those of one run of the task, which made no calls.
-pub record RanNoting (task : Task) (t : ℕ) (layouts : List (ℕ × ℕ)) (before after : List Asking) (notes later : List Noting) (result : Result Answer NoMemory) : Type 0 where
+pub record RanNoting (task : Task) (t : TaskTurn) (layouts : List (ℕ × ℕ)) (before after : List Asking) (notes later : List Noting) (result : Result Answer NoMemory) : Type 0 where
   pub asked : List Asking
   pub noted : List Noting
   pub pairs_are : after ≡ before ++ asked

@@ -11,7 +11,7 @@ use crate::layouts::{Query, ask_layout, sizes_tried};
 use ann_key::NoMemory;
 use journal_model::{Answer, Verdict};
 use std::alloc::Global;
-use task_run::{Asker, check_answer};
+use task_run::{Asker, TaskTurn, check_answer};
 use task_text::Task;
 
 // Whether the verdict ends the check, whatever layouts are left.
@@ -38,21 +38,21 @@ fn missing_more(missing: Answer, verdict: Verdict) -> Answer
 pub fn check<A: Asker>(
     alloc: Global,
     task: &Task,
-    number: u32,
+    turn: TaskTurn,
     asker: &mut A,
 ) -> Result<Answer, NoMemory>
     requires task { IsTask task.now }
     requires work { task.now.work ≡ W.Check }
-    requires number { number ≡ A.task asker.old }
+    requires number { turn.task ≡ A.task asker.old }
     requires ready { A.ready asker.old }
-    ensures ran { RanAsking task.now number (A.current asker.old) (A.pairs asker.old) (A.pairs asker.new) result }
+    ensures ran { RanAsking task.now turn (A.current asker.old) (A.pairs asker.old) (A.pairs asker.new) result }
     ensures notes { A.notes asker.new ≡ A.notes asker.old }
     ensures same { IsSameTask (A.task asker.old) (A.task asker.new) (A.may_note asker.old) (A.may_note asker.new) (A.loans asker.old) (A.loans asker.new) }
     ensures on { A.goes_on asker.old asker.new }
     ensures content { IfOk result (λ answer. may_follow_refusal (Ok answer) ≡ false) }
 {
     let key = task.key.view();
-    let Ok(layouts) = asker.layouts(alloc, number) else {
+    let Ok(layouts) = asker.layouts(alloc, turn.task) else {
         return Err(NoMemory);
     };
     let Ok(sizes) = sizes_tried(alloc, key.size(), &layouts) else {
@@ -60,7 +60,7 @@ pub fn check<A: Asker>(
     };
     let mut missing = Answer::Absent;
     for chunk in &sizes {
-        match ask_layout(alloc, asker, number, Query::Present, key, *chunk) {
+        match ask_layout(alloc, asker, turn.task, Query::Present, key, *chunk) {
             Ok(None) => return Ok(Answer::Present),
             Ok(Some(verdict)) => {
                 if is_stop(verdict) {

@@ -10,8 +10,8 @@ use crate::layouts::{Query, ask_layout, sizes_tried};
 use ann_key::NoMemory;
 use journal_model::Answer;
 use std::alloc::Global;
-use task_run::Asker;
 use task_run::answers::undone_answer;
+use task_run::{Asker, TaskTurn};
 use task_text::Task;
 
 // Notes that the remote has no chunks of this size. The plain layout has none to note.
@@ -35,30 +35,30 @@ fn note_none<A: Asker>(asker: &mut A, number: u32, chunk: u64) -> Result<(), NoM
 pub fn drop_key<A: Asker>(
     alloc: Global,
     task: &Task,
-    number: u32,
+    turn: TaskTurn,
     asker: &mut A,
 ) -> Result<Answer, NoMemory>
     requires task { IsTask task.now }
     requires work { task.now.work ≡ W.Drop }
-    requires number { number ≡ A.task asker.old }
+    requires number { turn.task ≡ A.task asker.old }
     requires ready { A.ready asker.old }
     requires may_note { A.may_note asker.old ≡ true }
-    ensures ran { RanNoting task.now number (A.current asker.old) (A.pairs asker.old) (A.pairs asker.new) (A.notes asker.old) (A.notes asker.new) result }
+    ensures ran { RanNoting task.now turn (A.current asker.old) (A.pairs asker.old) (A.pairs asker.new) (A.notes asker.old) (A.notes asker.new) result }
     ensures same { IsSameTask (A.task asker.old) (A.task asker.new) (A.may_note asker.old) (A.may_note asker.new) (A.loans asker.old) (A.loans asker.new) }
     ensures on { A.goes_on asker.old asker.new }
     ensures content { IfOk result (λ answer. may_follow_refusal (Ok answer) ≡ false) }
 {
     let key = task.key.view();
-    let Ok(layouts) = asker.layouts(alloc, number) else {
+    let Ok(layouts) = asker.layouts(alloc, turn.task) else {
         return Err(NoMemory);
     };
     let Ok(sizes) = sizes_tried(alloc, key.size(), &layouts) else {
         return Err(NoMemory);
     };
     for chunk in &sizes {
-        match ask_layout(alloc, asker, number, Query::Remove, key, *chunk) {
+        match ask_layout(alloc, asker, turn.task, Query::Remove, key, *chunk) {
             Ok(None) => {
-                if let Err(error) = note_none(asker, number, *chunk) {
+                if let Err(error) = note_none(asker, turn.task, *chunk) {
                     return Err(error);
                 }
             }

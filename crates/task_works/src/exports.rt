@@ -9,21 +9,21 @@ use ann_key::NoMemory;
 use journal_model::Answer;
 use std::alloc::Global;
 use task_run::answers::change_answer;
-use task_run::{Asker, ask, check_answer};
+use task_run::{Asker, TaskTurn, ask, check_answer};
 use task_text::Task;
 
 /// Whether the key is there under the task's name.
 pub fn check_export<A: Asker>(
     alloc: Global,
     task: &Task,
-    number: u32,
+    turn: TaskTurn,
     asker: &mut A,
 ) -> Result<Answer, NoMemory>
     requires task { IsTask task.now }
     requires work { task.now.work ≡ W.XCheck }
-    requires number { number ≡ A.task asker.old }
+    requires number { turn.task ≡ A.task asker.old }
     requires ready { A.ready asker.old }
-    ensures ran { RanAsking task.now number (A.current asker.old) (A.pairs asker.old) (A.pairs asker.new) result }
+    ensures ran { RanAsking task.now turn (A.current asker.old) (A.pairs asker.old) (A.pairs asker.new) result }
     ensures notes { A.notes asker.new ≡ A.notes asker.old }
     ensures same { IsSameTask (A.task asker.old) (A.task asker.new) (A.may_note asker.old) (A.may_note asker.new) (A.loans asker.old) (A.loans asker.new) }
     ensures on { A.goes_on asker.old asker.new }
@@ -31,7 +31,7 @@ pub fn check_export<A: Asker>(
 {
     let key = task.key.view();
     let name = task.name.view();
-    match ask::present_named(alloc, asker, number, key, name) {
+    match ask::present_named(alloc, asker, turn.task, key, name) {
         Ok(verdict) => Ok(check_answer(verdict)),
         Err(error) => Err(error),
     }
@@ -41,14 +41,14 @@ pub fn check_export<A: Asker>(
 pub fn drop_export<A: Asker>(
     alloc: Global,
     task: &Task,
-    number: u32,
+    turn: TaskTurn,
     asker: &mut A,
 ) -> Result<Answer, NoMemory>
     requires task { IsTask task.now }
     requires work { task.now.work ≡ W.XDrop }
-    requires number { number ≡ A.task asker.old }
+    requires number { turn.task ≡ A.task asker.old }
     requires ready { A.ready asker.old }
-    ensures ran { RanAsking task.now number (A.current asker.old) (A.pairs asker.old) (A.pairs asker.new) result }
+    ensures ran { RanAsking task.now turn (A.current asker.old) (A.pairs asker.old) (A.pairs asker.new) result }
     ensures notes { A.notes asker.new ≡ A.notes asker.old }
     ensures same { IsSameTask (A.task asker.old) (A.task asker.new) (A.may_note asker.old) (A.may_note asker.new) (A.loans asker.old) (A.loans asker.new) }
     ensures on { A.goes_on asker.old asker.new }
@@ -56,7 +56,7 @@ pub fn drop_export<A: Asker>(
 {
     let key = task.key.view();
     let name = task.name.view();
-    match ask::remove_named(alloc, asker, number, key, name) {
+    match ask::remove_named(alloc, asker, turn.task, key, name) {
         Ok(verdict) => Ok(change_answer(Answer::Dropped, verdict)),
         Err(error) => Err(error),
     }
@@ -66,14 +66,14 @@ pub fn drop_export<A: Asker>(
 pub fn rename_export<A: Asker>(
     alloc: Global,
     task: &Task,
-    number: u32,
+    turn: TaskTurn,
     asker: &mut A,
 ) -> Result<Answer, NoMemory>
     requires task { IsTask task.now }
     requires work { task.now.work ≡ W.XRename }
-    requires number { number ≡ A.task asker.old }
+    requires number { turn.task ≡ A.task asker.old }
     requires ready { A.ready asker.old }
-    ensures ran { RanAsking task.now number (A.current asker.old) (A.pairs asker.old) (A.pairs asker.new) result }
+    ensures ran { RanAsking task.now turn (A.current asker.old) (A.pairs asker.old) (A.pairs asker.new) result }
     ensures notes { A.notes asker.new ≡ A.notes asker.old }
     ensures same { IsSameTask (A.task asker.old) (A.task asker.new) (A.may_note asker.old) (A.may_note asker.new) (A.loans asker.old) (A.loans asker.new) }
     ensures on { A.goes_on asker.old asker.new }
@@ -82,7 +82,7 @@ pub fn rename_export<A: Asker>(
     let key = task.key.view();
     let name = task.name.view();
     let onto = task.onto.view();
-    match ask::rename_named(alloc, asker, number, key, name, onto) {
+    match ask::rename_named(alloc, asker, turn.task, key, name, onto) {
         Ok(verdict) => Ok(change_answer(Answer::Renamed, verdict)),
         Err(error) => Err(error),
     }

@@ -16,7 +16,7 @@ use ann_outside::Desk;
 use journal_model::Answer;
 use std::alloc::Global;
 use task_get::{get_export, get_key};
-use task_run::{Asker, Setup};
+use task_run::{Asker, Setup, TaskTurn};
 use task_store::{store_chunks, store_export, store_whole};
 use task_text::{Task, Work};
 
@@ -31,7 +31,7 @@ fn is_chunked(task: &Task, setup: &Setup) -> bool
 fn store<A: Asker, D: Desk>(
     alloc: Global,
     task: &Task,
-    number: u32,
+    turn: TaskTurn,
     setup: &Setup,
     asker: &mut A,
     desk: &mut D,
@@ -39,18 +39,18 @@ fn store<A: Asker, D: Desk>(
     requires task { IsTask task.now }
     requires work { task.now.work ≡ W.Store }
     requires folder { has_newline setup.now.work ≡ false }
-    requires number { number ≡ A.task asker.old }
+    requires number { turn.task ≡ A.task asker.old }
     requires ready { A.ready asker.old }
     requires may { A.may_note asker.old ≡ true }
-    ensures ran { RanStore task.now number setup.now (A.pairs asker.old) (A.pairs asker.new) (A.notes asker.old) (A.notes asker.new) (D.log desk.old) (D.log desk.new) result }
+    ensures ran { RanStore task.now turn setup.now (A.pairs asker.old) (A.pairs asker.new) (A.notes asker.old) (A.notes asker.new) (D.log desk.old) (D.log desk.new) result }
     ensures same { IsSameTask (A.task asker.old) (A.task asker.new) (A.may_note asker.old) (A.may_note asker.new) (A.loans asker.old) (A.loans asker.new) }
     ensures on { A.goes_on asker.old asker.new }
     ensures causes { HasQuietCauses (D.counts desk.old) (D.counts desk.new) result }
 {
     if is_chunked(task, setup) {
-        store_chunks(alloc, task, number, setup, asker, desk)
+        store_chunks(alloc, task, turn, setup, asker, desk)
     } else {
-        store_whole(alloc, task, number, asker, desk)
+        store_whole(alloc, task, turn, asker, desk)
     }
 }
 
@@ -59,6 +59,7 @@ pub fn run_task<A: Asker, D: Desk>(
     alloc: Global,
     task: &Task,
     number: u32,
+    turn: u32,
     setup: &Setup,
     asker: &mut A,
     desk: &mut D,
@@ -68,20 +69,21 @@ pub fn run_task<A: Asker, D: Desk>(
     requires number { number ≡ A.task asker.old }
     requires ready { A.ready asker.old }
     requires notes { may_note task.now.work ≡ true → A.may_note asker.old ≡ true }
-    ensures ran { Ran task.now number setup.now (A.current asker.old) (A.pairs asker.old) (A.pairs asker.new) (A.notes asker.old) (A.notes asker.new) (D.log desk.old) (D.log desk.new) result }
+    ensures ran { Ran task.now (record { task = number; turn = turn }) setup.now (A.current asker.old) (A.pairs asker.old) (A.pairs asker.new) (A.notes asker.old) (A.notes asker.new) (D.log desk.old) (D.log desk.new) result }
     ensures same { IsSameTask (A.task asker.old) (A.task asker.new) (A.may_note asker.old) (A.may_note asker.new) (A.loans asker.old) (A.loans asker.new) }
     ensures on { A.goes_on asker.old asker.new }
     ensures causes { HasTaskCauses (D.counts desk.old) (D.counts desk.new) result }
 {
+    let turn = TaskTurn { task: number, turn };
     match task.work {
-        Work::Store => store(alloc, task, number, setup, asker, desk),
-        Work::Get => get_key(alloc, task, number, setup, asker, desk),
-        Work::Check => check(alloc, task, number, asker),
-        Work::Drop => drop_key(alloc, task, number, asker),
-        Work::XStore => store_export(alloc, task, number, asker, desk),
-        Work::XGet => get_export(alloc, task, number, setup, asker, desk),
-        Work::XCheck => check_export(alloc, task, number, asker),
-        Work::XDrop => drop_export(alloc, task, number, asker),
-        Work::XRename => rename_export(alloc, task, number, asker),
+        Work::Store => store(alloc, task, turn, setup, asker, desk),
+        Work::Get => get_key(alloc, task, turn, setup, asker, desk),
+        Work::Check => check(alloc, task, turn, asker),
+        Work::Drop => drop_key(alloc, task, turn, asker),
+        Work::XStore => store_export(alloc, task, turn, asker, desk),
+        Work::XGet => get_export(alloc, task, turn, setup, asker, desk),
+        Work::XCheck => check_export(alloc, task, turn, asker),
+        Work::XDrop => drop_export(alloc, task, turn, asker),
+        Work::XRename => rename_export(alloc, task, turn, asker),
     }
 }

@@ -2,7 +2,7 @@ use Rattle.std.proofs.Common.{◌≡◌, ◌∙◌, refl, arith}
 use Rattle.std.specs.Prelude.{◌+◌}
 use Rattle.chunk_plan.specs.Layouts.{count_of}
 use Rattle.task_get.specs.declared.get_chunk.Went.TheVariants as T
-use Rattle.task_get.proofs.GetChunks.{so_far_none, so_far_more, chunks_whole, chunks_ended, same_both}
+use Rattle.task_get.proofs.GetChunks.{so_far_none, so_far_more, chunks_whole, chunks_ended, over_not_whole, same_both}
 use Rattle.task_get.proofs.get_layout.chunks.Goals as goal
 
 pub loop-i-init : goal.loop-i-init
@@ -52,7 +52,7 @@ returns-in-Ok-Failed-clause-on g c = g.met.A.Asker.goes_both c.args.asker.now c.
 pub returns-in-Ok-Over-clause-ran : goal.returns-in-Ok-Over-clause-ran
 returns-in-Ok-Over-clause-ran g c =
     let r = rw c.in-Ok-Over.field-0-is at c.in-Ok-Over.ensures.ran in
-    rw c.in-Ok-Over.ensures.counted (chunks_ended _ _ _ _ _ _ _ _ _ _ _ _ _ _ _ _ _ _ _ _ c.loop-i.invariant.so_far (omega arith) (omega (arith, c.count-count.ensures)) c.requires.few r.grown (λ e. r.one _ refl) (λ e. cc) r.goes)
+    rw c.in-Ok-Over.ensures.counted (chunks_ended _ _ _ _ _ _ _ _ _ _ _ _ _ _ _ _ _ _ _ _ c.loop-i.invariant.so_far (omega arith) (omega (arith, c.count-count.ensures)) c.requires.few r.grown (λ e. r.one _ refl) (λ e. over_not_whole _ e) r.goes)
 
 pub returns-in-Ok-Over-clause-on : goal.returns-in-Ok-Over-clause-on
 returns-in-Ok-Over-clause-on g c = g.met.A.Asker.goes_both c.args.asker.now c.loop-i.asker c.next_chunk.new.asker c.loop-i.invariant.on c.next_chunk.ensures.on

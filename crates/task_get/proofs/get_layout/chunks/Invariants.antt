@@ -8,7 +8,7 @@ use Rattle.task_get.proofs.get_layout.chunks.Given as goal
 
 abbrev pub invariant-loop-i : goal.invariant-loop-i
 invariant-loop-i g l = record {
-  so_far : SoFar l.setup l.number (parts_of l.key) l.size l.chunk l.held l.i l.part l.fn.asked l.asked (g.A.Asker.pairs l.fn.asker) (g.A.Asker.pairs l.asker) (g.D.Desk.log l.fn.desk) (g.D.Desk.log l.desk) l.fn.checker l.checker;
+  so_far : SoFar l.setup l.turn (parts_of l.key) l.size l.chunk l.held l.i l.part l.fn.asked l.asked (g.A.Asker.pairs l.fn.asker) (g.A.Asker.pairs l.asker) (g.D.Desk.log l.fn.desk) (g.D.Desk.log l.desk) l.fn.checker l.checker;
   room : taken_of l.checker ≤ from_of l.chunk (l.i + 1);
   on : g.A.Asker.goes_on l.fn.asker l.asker;
   notes : g.A.Asker.notes l.asker ≡ g.A.Asker.notes l.fn.asker;

@@ -36,13 +36,13 @@ pub take_chunk-requires-clause-key : goal.take_chunk-requires-clause-key
 take_chunk-requires-clause-key g c = rw c.view.ensures (chunk_sent (text_of c.args.key) (parts_of c.args.key) c.args.chunk (c.args.i + 1) _ c.args.key.spelled c.requires.sent c.in-Ok-piece.ensures)
 
 pub take_chunk-requires-clause-names : goal.take_chunk-requires-clause-names
-take_chunk-requires-clause-names g c = λ e. fetch_differs c.args.setup.now c.args.number (c.args.asked.now + 1) c.requires.part.0 (sym (c.view-2.ensures ∙ c.in-Ok.ensures.name) ∙ e ∙ c.requires.part.1)
+take_chunk-requires-clause-names g c = λ e. fetch_differs c.args.setup.now c.args.turn (c.args.asked.now + 1) c.requires.part.0 (sym (c.view-2.ensures ∙ c.in-Ok.ensures.name) ∙ e ∙ c.requires.part.1)
 
 pub returns-clause-ran : goal.returns-clause-ran
 returns-clause-ran g c = let t = c.take_chunk.ensures.took in record {
   grown = grown_by _ _ _ _ _ _ _ _ _ _ _ t.how t.so;
   goes = λ file b cur got left calls held bytes p n room w k.
-      take_ran (turn_at c.args.setup.now c.args.number (parts_of c.args.key) file c.args.chunk b) cur got left (chunk_part (parts_of c.args.key) c.args.size c.args.chunk (c.args.i + 1)) (c.args.asked.now + 1)
+      take_ran (turn_at c.args.setup.now c.args.turn (parts_of c.args.key) file c.args.chunk b) cur got left (chunk_part (parts_of c.args.key) c.args.size c.args.chunk (c.args.i + 1)) (c.args.asked.now + 1)
       calls held bytes _ c.args.size _ _ _ _ _ _ _ _ _ _ t.how t.so p (c.view-2.ensures ∙ c.in-Ok.ensures.name) w k (omega (arith, n)) room
       (ap key_reading c.view.ensures ∙ read_of_spelled _ (with_chunk c.args.chunk (c.args.i + 1) (parts_of c.args.key)) c.in-Ok-piece.ensures) c.requires.size (ap (λ (r : ℕ × ℕ). r.1 - r.0) c.range-from.ensures);
   one = λ went e. take_one _ _ _ _ _ _ _ _ _ _ _ t.how t.so went e;

@@ -11,7 +11,7 @@ pub returns-in_default-clause-ran : goal.returns-in_default-clause-ran
 returns-in_default-clause-ran g c = whole_nothing _ _ _ _ _ _ _ _
 
 pub whole_by-requires-clause-differ : goal.whole_by-requires-clause-differ
-whole_by-requires-clause-differ g c = λ e. fetch_differs c.args.setup.now c.args.number (c.args.asked + 1) c.args.file.now (sym (c.view.ensures ∙ c.in-Ok.ensures.name) ∙ e ∙ c.requires.part)
+whole_by-requires-clause-differ g c = λ e. fetch_differs c.args.setup.now c.args.turn (c.args.asked + 1) c.args.file.now (sym (c.view.ensures ∙ c.in-Ok.ensures.name) ∙ e ∙ c.requires.part)
 
 pub returns-clause-ran : goal.returns-clause-ran
 returns-clause-ran g c = c.whole_by.ensures.ran c.args.setup.now c.args.asked (c.view.ensures ∙ c.in-Ok.ensures.name) (omega arith)

@@ -25,7 +25,7 @@ transfer_named-requires-clause-name g c =
 
 pub take_whole-requires-clause-differ : goal.take_whole-requires-clause-differ
 take_whole-requires-clause-differ g c = λ e.
-    fetch_differs c.args.setup.now c.args.number 1 c.args.task.now.file (sym (c.view-fetch.ensures ∙ c.in-Ok-fetch_name.ensures.name) ∙ e ∙ c.view-part.ensures ∙ c.in-Ok.ensures ∙ ap part_of c.view-file.ensures)
+    fetch_differs c.args.setup.now c.args.turn 1 c.args.task.now.file (sym (c.view-fetch.ensures ∙ c.in-Ok-fetch_name.ensures.name) ∙ e ∙ c.view-part.ensures ∙ c.in-Ok.ensures ∙ ap part_of c.view-file.ensures)
 
 pub returns-in-Ok-transfer_named-clause-ran : goal.returns-in-Ok-transfer_named-clause-ran
 returns-in-Ok-transfer_named-clause-ran g c =

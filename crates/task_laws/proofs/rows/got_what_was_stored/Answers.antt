@@ -1,33 +1,21 @@
-use Rattle.std.proofs.Common.{◌≡◌, refl, arith, subst, ℕ, List, [], ◌∷◌, ◌++◌}
-use Rattle.std.specs.Prelude.{◌==◌, codes, Bool, true, false, IsTrue, if◌then◌else◌, slice_index}
-use Rattle.std.proofs.Common.{rules}
+use Rattle.std.proofs.Common.{refl, rules, arith, [], ◌∷◌, ◌++◌}
+use Rattle.std.specs.Prelude.{codes, false}
 use Rattle.std.specs.Fmt.{digits}
-use Rattle.ann_digest.specs.declared.hash_kind.HashKind.{HashKind}
-use Rattle.ann_digest.specs.declared.hash_kind.HashKind.TheVariants.{Md5, Sha1, Sha224, Sha256, Sha384, Sha512}
-use Rattle.ann_digest.specs.HashKinds.{backend_of}
 use Rattle.journal_model.specs.declared.answer.Answer.TheVariants.{Got}
 use Rattle.annex_model.specs.Messages.{Transfer}
 use Rattle.journal_model.specs.declared.verdict.Verdict.TheVariants.{Done}
 use Rattle.journal_model.specs.Rows.{greeting}
 use Rattle.task_text.specs.declared.task.Work.TheVariants.{Get}
 use Rattle.task_run.specs.Askings.{TaskStretch}
-use Rattle.task_run.specs.Rows.{task_of, setup_of, asks, fetched_2_1, got_hi}
+use Rattle.task_run.specs.Rows.{task_of, setup_of, first_turn, asks, fetched_2_1, got_hi}
 use Rattle.task_run.specs.Runs.{TaskRun}
 use Rattle.gathering.specs.JournalRuns.{JournalRun}
 use Rattle.task_laws.specs.Changes.{Retrieves}
 use Rattle.task_laws.specs.Rows.{hi, store_then_get, storing, retrieving, stored_then_got, the_store, the_retrieve}
+use Rattle.task_laws.proofs.WormKeys.{no_digest}
 use Rattle.task_laws.proofs.rows.got_what_was_stored.Goals as goal
 
--- WORM names no digest
-no_digest : (kind : HashKind) (extended : Bool) → codes "WORM" ≡ backend_of kind ++ (if extended then codes "E" else []) → ⊥
-no_digest Md5 extended e = let P : List ℕ → Type 0 = λ l. IsTrue (slice_index l 0 == 87) in let h : false ≡ true = subst P e refl in cc
-no_digest Sha1 extended e = let P : List ℕ → Type 0 = λ l. IsTrue (slice_index l 0 == 87) in let h : false ≡ true = subst P e refl in cc
-no_digest Sha224 extended e = let P : List ℕ → Type 0 = λ l. IsTrue (slice_index l 0 == 87) in let h : false ≡ true = subst P e refl in cc
-no_digest Sha256 extended e = let P : List ℕ → Type 0 = λ l. IsTrue (slice_index l 0 == 87) in let h : false ≡ true = subst P e refl in cc
-no_digest Sha384 extended e = let P : List ℕ → Type 0 = λ l. IsTrue (slice_index l 0 == 87) in let h : false ≡ true = subst P e refl in cc
-no_digest Sha512 extended e = let P : List ℕ → Type 0 = λ l. IsTrue (slice_index l 0 == 87) in let h : false ≡ true = subst P e refl in cc
-
-ran : TaskRun (task_of Get hi (codes "o")) 2 (setup_of 0) [] (asks (Transfer false hi fetched_2_1) (Done 19) ∷ []) got_hi [] Got
+ran : TaskRun (task_of Get hi (codes "o")) (first_turn 2) (setup_of 0) [] (asks (Transfer false hi fetched_2_1) (Done 19) ∷ []) got_hi [] Got
 unfolding digits
 ran = record {
   asked_till_stop = refl;
@@ -47,22 +35,25 @@ stretch = record {
   by = 0;
   child = 1;
   within = retrieving;
-  answered_by = 0;
+  closed_by = 0;
+  renewed = false;
   answer = Got;
   rest = [];
   is = refl;
   one = refl;
 }
 
-abbrev run : JournalRun store_then_get (setup_of 0) got_hi 0 2 stored_then_got
+abbrev run : JournalRun store_then_get (setup_of 0) got_hi 0 2 1 stored_then_got
 run = record {
   task = task_of Get hi (codes "o");
   is = refl;
   run = stretch;
   by_it = refl;
+  turn = refl;
   layouts = [];
   known = record { book = []; order = refl; counts = λ k uuid chunk. refl; current = record { standing = []; those = record { moves = []; below = tt; is = refl }; order = λ k d low high. absurd (omega arith); pairs = refl } };
   ran = ran;
+  shut = refl;
 }
 
 retrieves : Retrieves stored_then_got the_retrieve the_store hi fetched_2_1

@@ -2,4 +2,4 @@ use Rattle.task_run.proofs.FileNames.{fetch_has_none}
 use Rattle.task_run.proofs.names.fetch_name.Goals as goal
 
 pub returns-in-Ok-clause-line : goal.returns-in-Ok-clause-line
-returns-in-Ok-clause-line c = rw c.in-Ok.ensures (fetch_has_none c.args.setup.now c.args.number c.args.n c.requires)
+returns-in-Ok-clause-line c = rw c.in-Ok.ensures (fetch_has_none c.args.setup.now c.args.turn c.args.n c.requires)

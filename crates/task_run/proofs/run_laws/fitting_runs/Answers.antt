@@ -115,6 +115,27 @@ returns-clause-got_as_other c = λ r.
     let P : HostMessage → Type 0 = λ m. bytes_eq (file_named m) fetched_2_1 ≡ true in
     let h : false ≡ true = subst P r.work.1.in_order.0.0.0 refl in cc
 
+pub returns-clause-got_again : goal.returns-clause-got_again
+unfolding digits
+returns-clause-got_again c = record {
+  asked_till_stop = refl;
+  calls_till_stop = refl;
+  found = refl;
+  work = (
+    record { names = refl; changes = refl; lengths = refl },
+    record { in_order = search rules; each_failed = refl; each_begun = refl; each_right = refl; held_read = refl; fetched_read = refl },
+    refl,
+  );
+  answered = record { answered = record { begun = refl; by_length = (refl, record { said = record { size = refl; name = λ naming e. absurd (no_digest naming.kind naming.extended e) }; held_whole = refl; fetched_whole = refl }); part = record { moved = refl; held = λ before found. refl; renamed = refl } } };
+}
+
+-- the files of another turn have other names
+pub returns-clause-other_turn : goal.returns-clause-other_turn
+unfolding digits
+returns-clause-other_turn c = λ r.
+    let P : HostMessage → Type 0 = λ m. bytes_eq (file_named m) fetched_1 ≡ true in
+    let h : false ≡ true = subst P r.work.1.in_order.0.0.0 refl in cc
+
 -- where part held nine bytes at first, it holds others in the end
 pub returns-clause-grown_on_nine : goal.returns-clause-grown_on_nine
 unfolding digits

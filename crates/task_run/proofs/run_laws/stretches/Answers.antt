@@ -1,13 +1,26 @@
 use Rattle.std.proofs.Common.{[], ◌∷◌, ◌++◌, refl}
-use Rattle.journal_model.specs.declared.answer.Answer.TheVariants.{Dropped, Failed as FailedAnswer}
-use Rattle.journal_model.specs.declared.entry.What.TheVariants.{Claim, Answer as Answered}
-use Rattle.journal_model.specs.Rows.{by_main, greeting}
-use Rattle.task_run.specs.StretchRows.{first_within, second_within, second_run}
+use Rattle.std.specs.Prelude.{true, false}
+use Rattle.journal_model.specs.declared.answer.Answer.TheVariants.{Dropped}
+use Rattle.journal_model.specs.Rows.{greeting}
+use Rattle.task_run.specs.StretchRows.{first_run, first_within, lost_answer, next_greeting, second_within, second_run}
 use Rattle.task_run.proofs.run_laws.stretches.Goals as goal
 
 pub returns-clause-first : goal.returns-clause-first
 returns-clause-first c = (
-  record { past = greeting; by = 0; child = 1; within = first_within; answered_by = 0; answer = FailedAnswer 13; rest = second_run; is = refl; one = refl },
+  record {
+    past = greeting;
+    by = 0;
+    child = 1;
+    within = first_within;
+    closed_by = 0;
+    renewed = true;
+    answer = lost_answer;
+    rest = next_greeting 16 ++ second_run;
+    is = refl;
+    one = refl;
+  },
+  refl,
+  refl,
   refl,
   refl,
   refl,
@@ -16,16 +29,19 @@ returns-clause-first c = (
 pub returns-clause-second : goal.returns-clause-second
 returns-clause-second c = (
   record {
-    past = greeting ++ by_main (Claim 1 1) ∷ first_within ++ by_main (Answered 1 (FailedAnswer 13)) ∷ [];
+    past = greeting ++ first_run ++ next_greeting 16;
     by = 0;
-    child = 1;
+    child = 2;
     within = second_within;
-    answered_by = 0;
+    closed_by = 0;
+    renewed = false;
     answer = Dropped;
     rest = [];
     is = refl;
     one = refl;
   },
+  refl,
+  refl,
   refl,
   refl,
   refl,
