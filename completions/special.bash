@@ -15,9 +15,9 @@ _special_run() {
     --program) _special_programs "$current" ;;
     --keep | --journal) _special_offer -f -- "$current" ;;
     --work | --gitdir) _special_offer -d -- "$current" ;;
-    --uuid | --jobs | --chunk | --name | --starts) COMPREPLY=() ;;
+    --uuid | --jobs | --chunk | --name | --starts | --again) COMPREPLY=() ;;
     *)
-      _special_offer -W "--program --uuid --jobs --chunk --name --gitdir --keep --journal --work --starts --help" \
+      _special_offer -W "--program --uuid --jobs --chunk --name --gitdir --keep --journal --work --starts --again --help" \
         -- "$current" ;;
   esac
 }

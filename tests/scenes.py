@@ -129,7 +129,7 @@ class Scene:
 
     def row_asked(self, row):
         wanted = self.spelled(row.removeprefix("=> ")).removeprefix(b'"').removesuffix(b'"')
-        got = re.sub(rb"\d{16}(-\d+-\d+\.)", rb"STAMP\1", b"".join(self.heard()))
+        got = re.sub(rb"\d{16}(-\d+-\d+(?:-\d+)?\.)", rb"STAMP\1", b"".join(self.heard()))
         expect(got, wanted, "what was written to the children")
 
     def row_kept(self, row):

@@ -289,7 +289,8 @@ class Trial:
     def try_run(self):
         tasks = [self.task(number) for number in range(self.random.choice([1, 5, 30]))]
         jobs = self.random.randint(1, 8)
-        words = ["--jobs", str(jobs), "--starts", str(self.random.randint(1, 4)), "--chunk", self.random.choice(["0", "2"])]
+        words = ["--jobs", str(jobs), "--starts", str(self.random.randint(1, 4)), "--chunk", self.random.choice(["0", "2"]),
+                 "--again", self.random.choice(["0", "1", "8"])]
         done = self.room.run_tasks(self.program, "".join(task + "\n" for task in tasks), *words, journal=f"journal-{self.seed}")
         require(done.status in (0, 1) and done.err == "", f"{self}: run gave {done}")
         self.check_answers(done, len(tasks))

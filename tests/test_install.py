@@ -93,6 +93,7 @@ def groff_has_no_warning_of_the_page(room, page):
 
 @table([(option, option) for option in (
     "--program", "--uuid", "--jobs", "--chunk", "--name", "--gitdir", "--keep", "--journal", "--work", "--starts",
+    "--again",
 )])
 def each_option_of_run_is_in_the_help_the_page_and_the_completions(room, option):
     require(option in room.special("run", "--help").out, "it isn't in the help")

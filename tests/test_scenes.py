@@ -4,7 +4,7 @@ import scenes
 from harness import table
 
 FILES = ["check.txt", "info.txt", "init.txt", "run.txt", "kept.txt", "chunks.txt", "exports.txt", "audit_words.txt", "asides.txt",
-         "messages.txt"]
+         "messages.txt", "agains.txt"]
 
 
 @table([(f"{file}: {heading}", rows) for file in FILES for heading, rows in scenes.sections(file)])

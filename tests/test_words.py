@@ -74,12 +74,12 @@ def quoted(text):
     return re.findall(r'"(.*?)"', text)
 
 
-RUN = re.compile(r'run "(.*?)" (\S+) "(.*?)" "(.*?)" (\d+) (\d+) (\d+) (none|".*?") "(.*?)"(?: journal "(.*?)")?')
+RUN = re.compile(r'run "(.*?)" (\S+) "(.*?)" "(.*?)" (\d+) (\d+) (\d+) (none|".*?") "(.*?)"(?: journal "(.*?)"(?: again (\d))?)?')
 
 
 def expect_run(room, words, wanted):
     """A run over a pool of as many children as there are jobs, and one whose starts all fail."""
-    program, uuid, name, gitdir, jobs, chunk, starts, keep, work, journal = RUN.fullmatch(wanted).groups()
+    program, uuid, name, gitdir, jobs, chunk, starts, keep, work, journal, again = RUN.fullmatch(wanted).groups()
     trial = Trial(room, "run", program)
     more = "".join(f"check WORM--{n}\n" for n in range(int(jobs)))
     tasks = f"store WORM-s2--a in\nget WORM-s2--b out\n{more}"
@@ -96,6 +96,8 @@ def expect_run(room, words, wanted):
     for file, front in ((keep, "annex-keep 1\n"), (journal, "annex-journal 2\n")):
         if file and not (file == keep == journal and "keep" in front):
             require((trial.text(file) or "").startswith(front), f"the file {file} begins with {front}")
+    if journal and journal != keep:
+        require(f"\nagain {again or 0}\n" in trial.text(journal), f"the journal doesn't say again {again or 0}")
     if not keep and not journal:
         expect(trial.has("f"), False, "a file was written")
     tasks = "check WORM--a\n" * (int(starts) + 1)

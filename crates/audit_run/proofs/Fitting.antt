@@ -14,6 +14,7 @@ use Rattle.journal_model.specs.declared.opening.Opening.{Opening}
 use Rattle.chunk_log.specs.ChunkLines.{IsWrittenUuid}
 use Rattle.task_text.specs.TaskLines.{IsTask}
 use Rattle.journal_model.specs.Beginnings.{MayBegin}
+use Rattle.journal_model.specs.Limits.{most_again}
 use Rattle.journal_model.specs.Replies.{IsLineIdentity}
 use Rattle.journal_reader.specs.RunTexts.{IsAgain, is_text, is_written_uuid}
 use Rattle.cli_words.proofs.Fits.{uuid_fits}
@@ -39,7 +40,7 @@ text_fits text h = (and_parts (is_utf8 text) (not (has_newline text)) h).1
 along : (a b : List ℕ) → a ≡ b → not (has_newline b) ≡ true → not (has_newline a) ≡ true
 along a b e h = ap (λ (t : List ℕ). not (has_newline t)) e ∙ h
 
-few_again : (early : Bool) (n : ℕ) → IsAgain early n → n ≤ 8
+few_again : (early : Bool) (n : ℕ) → IsAgain early n → n ≤ most_again
 few_again false n few = few
 few_again true n none = omega (arith, none)
 
@@ -57,13 +58,14 @@ module _ (opening : Opening) (journal : List Entry) (lines : List (List ℕ)) (i
     gitdir = along opening.identity.gitdir is.told.gitdir is.opening_is.gitdir (text_fits is.told.gitdir is.class.gitdir);
   }
 
+  few_runs : opening.again ≤ most_again
+  few_runs = subst (λ (n : ℕ). n ≤ most_again) (sym is.opening_is.again) (few_again is.told.early is.told.again is.class.again)
+
   pub may_begin : MayBegin opening
   may_begin = record {
     few = few_tasks;
     tasks = subst (λ (ts : List Task). All IsTask ts) (sym is.opening_is.tasks) all_tasks;
     lines = line_identity;
     uuid = subst IsWrittenUuid (sym is.opening_is.uuid) (written_uuid is.told.uuid (parsed is.told.uuid) refl is.class.uuid);
+    again = few_runs;
   }
-
-  pub may_again : opening.again ≤ 8
-  may_again = subst (λ (n : ℕ). n ≤ 8) (sym is.opening_is.again) (few_again is.told.early is.told.again is.class.again)

@@ -44,7 +44,6 @@ pub fn audit_input<S: Source>(
 // What is found of the journal, which goes with its opening when that is done.
 fn audit_all(alloc: Global, opening: Opening, journal: Journal) -> Result<Audit, NoMemory>
     requires begins { MayBegin opening }
-    requires again { opening.again ≤ 8 }
     ensures audit { IfOk result (IsAudit opening journal.entries) }
 {
     audit(alloc, &opening, &journal)

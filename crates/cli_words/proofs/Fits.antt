@@ -10,6 +10,7 @@ use Rattle.clap.specs.Simple.{matches_of}
 use Rattle.clap.specs.Faults.{fault_of}
 use Rattle.clap.specs.Walk.{Row}
 use Rattle.annex_model.specs.Lines.{has_newline}
+use Rattle.journal_model.specs.Limits.{most_again}
 use Rattle.journal_model.specs.Replies.{IsLineIdentity}
 use Rattle.cli_words.specs.Grammar.{is_without, run_grammar, value_at}
 use Rattle.cli_words.specs.Identities.{nobody, IsFit}
@@ -127,26 +128,27 @@ init_fits (program ∷ uuid ∷ keep ∷ words) = go (uuid_in uuid) (settings_in
 text_fits : (text : List ℕ) → is_text text ≡ true → not (has_newline text) ≡ true
 text_fits text h = (both (nat_lt 0 (length text)) (not (has_end text)) h).1
 
-with_fits : (rows : List Row) (uuid : Option (List ℕ)) (jobs chunk starts : Option ℕ) → IsWritten uuid
-    → not (has_newline (value_at rows (codes "name"))) ≡ true → not (has_newline (value_at rows (codes "gitdir"))) ≡ true → Fits (option_map Run (run_with rows uuid jobs chunk starts))
-with_fits rows (Some uuid) (Some jobs) (Some chunk) (Some starts) w n g = record { settings = refl; identity = record { uuid = rw w refl; name = n; gitdir = g } }
-with_fits rows (Some uuid) (Some jobs) (Some chunk) None w n g = tt
-with_fits rows (Some uuid) (Some jobs) None starts w n g = tt
-with_fits rows (Some uuid) None chunk starts w n g = tt
-with_fits rows None jobs chunk starts w n g = tt
+with_fits : (rows : List Row) (uuid : Option (List ℕ)) (jobs chunk starts again : Option ℕ) → IsWritten uuid
+    → not (has_newline (value_at rows (codes "name"))) ≡ true → not (has_newline (value_at rows (codes "gitdir"))) ≡ true → Fits (option_map Run (run_with rows uuid jobs chunk starts again))
+with_fits rows (Some uuid) (Some jobs) (Some chunk) (Some starts) (Some again) w n g = record { settings = refl; identity = record { uuid = rw w refl; name = n; gitdir = g } }
+with_fits rows (Some uuid) (Some jobs) (Some chunk) (Some starts) None w n g = tt
+with_fits rows (Some uuid) (Some jobs) (Some chunk) None again w n g = tt
+with_fits rows (Some uuid) (Some jobs) None starts again w n g = tt
+with_fits rows (Some uuid) None chunk starts again w n g = tt
+with_fits rows None jobs chunk starts again w n g = tt
 
 from_fits : (rows : List Row) → Fits (option_map Run (run_from rows))
 from_fits rows = go (are_texts rows) refl
   where
     go : (b : Bool) → are_texts rows ≡ b → Fits (option_map Run (cond b (run_with rows (uuid_in (value_at rows (codes "uuid"))) (number_in 1 64 (value_at rows (codes "jobs")))
-        (number_in 0 most_chunk (value_at rows (codes "chunk"))) (number_in 1 16 (value_at rows (codes "starts")))) None))
+        (number_in 0 most_chunk (value_at rows (codes "chunk"))) (number_in 1 16 (value_at rows (codes "starts"))) (number_in 0 most_again (value_at rows (codes "again")))) None))
     go false h = tt
     go true h =
         let behind_program = both (is_text (value_at rows (codes "program"))) _ h in
         let name = both (is_text (value_at rows (codes "name"))) _ behind_program.1 in
         let gitdir = both (is_text (value_at rows (codes "gitdir"))) _ name.1 in
         with_fits rows (uuid_in (value_at rows (codes "uuid"))) (number_in 1 64 (value_at rows (codes "jobs"))) (number_in 0 most_chunk (value_at rows (codes "chunk")))
-        (number_in 1 16 (value_at rows (codes "starts"))) (written_fits (parsed (value_at rows (codes "uuid"))))
+        (number_in 1 16 (value_at rows (codes "starts"))) (number_in 0 most_again (value_at rows (codes "again"))) (written_fits (parsed (value_at rows (codes "uuid"))))
         (text_fits (value_at rows (codes "name")) name.0) (text_fits (value_at rows (codes "gitdir")) gitdir.0)
 
 run_fits : (words : List (List ℕ)) → Fits (option_map Run (run_of words))

@@ -8,6 +8,7 @@ use Rattle.clap.specs.Simple.{matches_of}
 use Rattle.clap.specs.Faults.{fault_of}
 use Rattle.clap.specs.Walk.{Row}
 use Rattle.annex_model.specs.Lines.{has_newline}
+use Rattle.journal_model.specs.Limits.{most_again}
 use Rattle.cli_words.specs.Grammar.{is_without, run_grammar, value_at}
 use Rattle.cli_words.specs.Ranges.{HasRanges}
 use Rattle.cli_words.specs.Values.{has_end, is_text, is_word_of_command, number_in, padded_number_in, uuid_in, IsNumberIn}
@@ -48,22 +49,23 @@ read_in least most text = go (number_in least most text) refl
     go None e = tt
     go (Some n) e = let is : IsNumberIn least most text n = number_read least most text n e in (is.least_one, is.most_one)
 
-with_ranged : (rows : List Row) (uuid : Option (List ℕ)) (jobs chunk starts : Option ℕ) → IsRead 1 64 jobs → IsRead 0 most_chunk chunk → IsRead 1 16 starts
-    → has_newline (value_at rows (codes "work")) ≡ false → Ranged (option_map Run (run_with rows uuid jobs chunk starts))
-with_ranged rows (Some uuid) (Some jobs) (Some chunk) (Some starts) j c s w =
+with_ranged : (rows : List Row) (uuid : Option (List ℕ)) (jobs chunk starts again : Option ℕ) → IsRead 1 64 jobs → IsRead 0 most_chunk chunk → IsRead 1 16 starts → IsRead 0 most_again again
+    → has_newline (value_at rows (codes "work")) ≡ false → Ranged (option_map Run (run_with rows uuid jobs chunk starts again))
+with_ranged rows (Some uuid) (Some jobs) (Some chunk) (Some starts) (Some again) j c s a w =
     let one = j.0 in
     let least = s.0 in
-    record { jobs = (omega arith, j.1); chunk = c.1; some = omega arith; few = s.1; work = w }
-with_ranged rows (Some uuid) (Some jobs) (Some chunk) None j c s w = tt
-with_ranged rows (Some uuid) (Some jobs) None starts j c s w = tt
-with_ranged rows (Some uuid) None chunk starts j c s w = tt
-with_ranged rows None jobs chunk starts j c s w = tt
+    record { jobs = (omega arith, j.1); chunk = c.1; some = omega arith; few = s.1; again = a.1; work = w }
+with_ranged rows (Some uuid) (Some jobs) (Some chunk) (Some starts) None j c s a w = tt
+with_ranged rows (Some uuid) (Some jobs) (Some chunk) None again j c s a w = tt
+with_ranged rows (Some uuid) (Some jobs) None starts again j c s a w = tt
+with_ranged rows (Some uuid) None chunk starts again j c s a w = tt
+with_ranged rows None jobs chunk starts again j c s a w = tt
 
 from_ranged : (rows : List Row) → Ranged (option_map Run (run_from rows))
 from_ranged rows = go (are_texts rows) refl
   where
     go : (b : Bool) → are_texts rows ≡ b → Ranged (option_map Run (cond b (run_with rows (uuid_in (value_at rows (codes "uuid"))) (number_in 1 64 (value_at rows (codes "jobs")))
-        (number_in 0 most_chunk (value_at rows (codes "chunk"))) (number_in 1 16 (value_at rows (codes "starts")))) None))
+        (number_in 0 most_chunk (value_at rows (codes "chunk"))) (number_in 1 16 (value_at rows (codes "starts"))) (number_in 0 most_again (value_at rows (codes "again")))) None))
     go false h = tt
     go true h =
         let behind_program = both (is_text (value_at rows (codes "program"))) _ h in
@@ -71,7 +73,8 @@ from_ranged rows = go (are_texts rows) refl
         let behind_gitdir = both (is_text (value_at rows (codes "gitdir"))) _ behind_name.1 in
         let work = both (is_text (value_at rows (codes "work"))) _ behind_gitdir.1 in
         with_ranged rows (uuid_in (value_at rows (codes "uuid"))) (number_in 1 64 (value_at rows (codes "jobs"))) (number_in 0 most_chunk (value_at rows (codes "chunk")))
-        (number_in 1 16 (value_at rows (codes "starts"))) (read_in 1 64 (value_at rows (codes "jobs"))) (read_in 0 most_chunk (value_at rows (codes "chunk"))) (read_in 1 16 (value_at rows (codes "starts")))
+        (number_in 1 16 (value_at rows (codes "starts"))) (number_in 0 most_again (value_at rows (codes "again"))) (read_in 1 64 (value_at rows (codes "jobs"))) (read_in 0 most_chunk (value_at rows (codes "chunk"))) (read_in 1 16 (value_at rows (codes "starts")))
+        (read_in 0 most_again (value_at rows (codes "again")))
         (text_whole (value_at rows (codes "work")) work.0)
 
 run_ranged : (words : List (List ℕ)) → Ranged (option_map Run (run_of words))
@@ -88,22 +91,23 @@ run_ranged words = go (fault_of run_grammar words) (matches_of run_grammar words
 abbrev IsOfText : Option RunWords → Type 0
 IsOfText o = IfSome o (λ words. (text : List ℕ) × (uuid_in text ≡ Some words.uuid))
 
-with_uuid : (rows : List Row) (text : List ℕ) (uuid : Option (List ℕ)) (jobs chunk starts : Option ℕ) → uuid_in text ≡ uuid → IsOfText (run_with rows uuid jobs chunk starts)
-with_uuid rows text (Some uuid) (Some jobs) (Some chunk) (Some starts) e = (text, e)
-with_uuid rows text (Some uuid) (Some jobs) (Some chunk) None e = tt
-with_uuid rows text (Some uuid) (Some jobs) None starts e = tt
-with_uuid rows text (Some uuid) None chunk starts e = tt
-with_uuid rows text None jobs chunk starts e = tt
+with_uuid : (rows : List Row) (text : List ℕ) (uuid : Option (List ℕ)) (jobs chunk starts again : Option ℕ) → uuid_in text ≡ uuid → IsOfText (run_with rows uuid jobs chunk starts again)
+with_uuid rows text (Some uuid) (Some jobs) (Some chunk) (Some starts) (Some again) e = (text, e)
+with_uuid rows text (Some uuid) (Some jobs) (Some chunk) (Some starts) None e = tt
+with_uuid rows text (Some uuid) (Some jobs) (Some chunk) None again e = tt
+with_uuid rows text (Some uuid) (Some jobs) None starts again e = tt
+with_uuid rows text (Some uuid) None chunk starts again e = tt
+with_uuid rows text None jobs chunk starts again e = tt
 
 from_uuid : (rows : List Row) → IsOfText (run_from rows)
 from_uuid rows = go (are_texts rows)
   where
     go : (b : Bool) → IsOfText (cond b (run_with rows (uuid_in (value_at rows (codes "uuid"))) (number_in 1 64 (value_at rows (codes "jobs")))
-        (number_in 0 most_chunk (value_at rows (codes "chunk"))) (number_in 1 16 (value_at rows (codes "starts")))) None)
+        (number_in 0 most_chunk (value_at rows (codes "chunk"))) (number_in 1 16 (value_at rows (codes "starts"))) (number_in 0 most_again (value_at rows (codes "again")))) None)
     go false = tt
     go true =
         with_uuid rows (value_at rows (codes "uuid")) (uuid_in (value_at rows (codes "uuid"))) (number_in 1 64 (value_at rows (codes "jobs")))
-        (number_in 0 most_chunk (value_at rows (codes "chunk"))) (number_in 1 16 (value_at rows (codes "starts"))) refl
+        (number_in 0 most_chunk (value_at rows (codes "chunk"))) (number_in 1 16 (value_at rows (codes "starts"))) (number_in 0 most_again (value_at rows (codes "again"))) refl
 
 pub run_uuid : (words : List (List ℕ)) → IfSome (run_of words) (λ run. (text : List ℕ) × (uuid_in text ≡ Some run.uuid))
 unfolding run_of

@@ -26,6 +26,7 @@ run_options =
     ∷ optional (codes "journal")
     ∷ with_value (codes "work") (codes ".")
     ∷ with_value (codes "starts") (codes "3")
+    ∷ with_value (codes "again") (codes "0")
     ∷ []
 
 -- a command with these options, and with nothing else

@@ -35,6 +35,7 @@ least_run = record {
   journal = None;
   work = codes ".";
   starts = 3;
+  again = 0;
 }
 
 abbrev pub init_words : Words → Words

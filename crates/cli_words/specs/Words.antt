@@ -5,6 +5,7 @@ use Rattle.std.specs.Option.{option_map_or}
 use Rattle.clap.specs.Walk.{Row, first_of}
 use Rattle.clap.specs.Simple.{matches_of}
 use Rattle.clap.specs.Faults.{fault_of}
+use Rattle.journal_model.specs.Limits.{most_again}
 use Rattle.cli_words.specs.Values.{is_text, is_word_of_command, number_in, padded_number_in, uuid_in}
 use Rattle.cli_words.specs.Settings.{settings_in}
 use Rattle.cli_words.specs.Grammar.{is_without, run_grammar, value_at}
@@ -64,8 +65,8 @@ are_texts rows =
     && (is_text (value_at rows (codes "work")) && (option_map_or is_text (first_of (codes "keep") rows) true
     && option_map_or is_text (first_of (codes "journal") rows) true))))
 
-abbrev pub run_with : List Row → Option (List ℕ) → Option ℕ → Option ℕ → Option ℕ → Option RunWords
-run_with rows (Some uuid) (Some jobs) (Some chunk) (Some starts) = Some (record {
+abbrev pub run_with : List Row → Option (List ℕ) → Option ℕ → Option ℕ → Option ℕ → Option ℕ → Option RunWords
+run_with rows (Some uuid) (Some jobs) (Some chunk) (Some starts) (Some again) = Some (record {
   program = value_at rows (codes "program");
   uuid = uuid;
   jobs = jobs;
@@ -76,19 +77,21 @@ run_with rows (Some uuid) (Some jobs) (Some chunk) (Some starts) = Some (record 
   journal = first_of (codes "journal") rows;
   work = value_at rows (codes "work");
   starts = starts;
+  again = again;
 })
-run_with rows uuid jobs chunk starts = None
+run_with rows uuid jobs chunk starts again = None
 
 -- the greatest size of a chunk
 abbrev pub most_chunk : ℕ
 most_chunk = 1099511627776
 
--- what a parse found: 1 to 64 jobs, a chunk size of at most that or none, 1 to 16 starts
+-- what a parse found: 1 to 64 jobs, a chunk size of at most that or none, 1 to 16 starts, and at most so many runs again of a task
 abbrev pub run_from : List Row → Option RunWords
 run_from rows =
     if are_texts rows then run_with rows
     (uuid_in (value_at rows (codes "uuid"))) (number_in 1 64 (value_at rows (codes "jobs")))
     (number_in 0 most_chunk (value_at rows (codes "chunk"))) (number_in 1 16 (value_at rows (codes "starts")))
+    (number_in 0 most_again (value_at rows (codes "again")))
     else None
 
 -- the words, `run` among them, where a parse takes them

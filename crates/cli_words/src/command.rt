@@ -65,4 +65,6 @@ pub struct RunWords {
     pub work: Text,
     /// How often a child may be started in the first place, all rounds together.
     pub starts: u32,
+    /// How often a task may be run again whose child was lost.
+    pub again: u32,
 }

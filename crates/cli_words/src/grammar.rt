@@ -60,5 +60,6 @@ pub(super) fn run_grammar<'a>(alloc: Global) -> Result<Command<'a>, NoMemory>
     let command = with_optional(alloc, command, "keep")?;
     let command = with_optional(alloc, command, "journal")?;
     let command = with_value(alloc, command, "work", ".")?;
-    with_value(alloc, command, "starts", "3")
+    let command = with_value(alloc, command, "starts", "3")?;
+    with_value(alloc, command, "again", "0")
 }

@@ -107,6 +107,9 @@ pub fn worked_runs()
     ensures dash_in_one { command_of (run_words (codes "--work=-x" ∷ [])) ≡ Some (Run (record least_run { work = codes "-x" })) }
     ensures starts { command_of (run_words (codes "--starts" ∷ codes "16" ∷ [])) ≡ Some (Run (record least_run { starts = 16 })) }
     ensures more_starts { command_of (run_words (codes "--starts" ∷ codes "17" ∷ [])) ≡ None }
+    ensures again { command_of (run_words (codes "--again" ∷ codes "8" ∷ [])) ≡ Some (Run (record least_run { again = 8 })) }
+    ensures never_again { command_of (run_words (codes "--again" ∷ codes "0" ∷ [])) ≡ Some (Run least_run) }
+    ensures more_often { command_of (run_words (codes "--again" ∷ codes "9" ∷ [])) ≡ None }
     ensures journal { command_of (run_words (codes "--journal" ∷ codes "f" ∷ [])) ≡ Some (Run (record least_run { journal = Some (codes "f") })) }
     ensures empty_journal { command_of (run_words (codes "--journal=" ∷ [])) ≡ None }
     ensures unknown { command_of (run_words (codes "--kept" ∷ codes "f" ∷ [])) ≡ None }

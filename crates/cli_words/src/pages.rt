@@ -83,6 +83,7 @@ const RUN: &str = "special run --program PROGRAM --uuid UUID [OPTIONS]\n\
     \x20                  (default: none)\n\
     --work FOLDER      the folder for files that the run makes, which must exist (default .)\n\
     --starts NUMBER    how often a child may be started in the first place, 1 to 16 (default 3)\n\
+    --again NUMBER     how often a task whose child ends under it may be run again on another one, 0 to 8 (default 0)\n\
     \n\
     Files and folders are relative to the current folder, in which the children run too. Numbers are plain digits:\n\
     --chunk 1048576, and not 1M.\n\
@@ -104,7 +105,7 @@ const RUN: &str = "special run --program PROGRAM --uuid UUID [OPTIONS]\n\
     unsupported               the remote doesn't know the request\n\
     notprepared TEXT          the remote can't get ready\n\
     startfault                PROGRAM couldn't be started. Mostly it is a script without ./ or without leave to be run\n\
-    nochild                   all starts are used up\n\
+    nochild                   all starts are used up, and no child has ended under the task\n\
     ended WHY, foul LINE      the child ended, or said LINE where it may not stand\n\
     unsent, memory            a write to the child failed, or there wasn't enough memory\n\
     \n\

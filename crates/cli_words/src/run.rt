@@ -101,6 +101,9 @@ fn run_from(alloc: Global, matches: &ArgMatches<'_>) -> Result<Option<RunWords>,
     let Some(starts) = number_in(value_at(matches, "starts"), 1, 16) else {
         return Ok(None);
     };
+    let Some(again) = number_in(value_at(matches, "again"), 0, 8) else {
+        return Ok(None);
+    };
     Ok(Some(RunWords {
         program: copy_at(alloc, matches, "program")?,
         uuid,
@@ -112,5 +115,6 @@ fn run_from(alloc: Global, matches: &ArgMatches<'_>) -> Result<Option<RunWords>,
         journal: copy_given(alloc, matches, "journal")?,
         work: copy_at(alloc, matches, "work")?,
         starts: starts as u32,
+        again: again as u32,
     }))
 }

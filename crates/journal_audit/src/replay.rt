@@ -206,7 +206,6 @@ fn found_by(
 /// A core that has made nothing.
 fn fresh_core(alloc: Global, opening: &Opening) -> Result<Core, NoMemory>
     requires begins { MayBegin opening.now }
-    requires again { opening.now.again ≤ 8 }
     ensures { IfOk result (λ core. (core.opening ≡ opening.now) × (core.journal ≡ [])) }
 {
     let opening = opening.copy(alloc)?;
@@ -217,7 +216,6 @@ fn fresh_core(alloc: Global, opening: &Opening) -> Result<Core, NoMemory>
 /// same. It takes memory for a copy of the opening and of the journal.
 pub fn audit(alloc: Global, opening: &Opening, journal: &Journal) -> Result<Audit, NoMemory>
     requires begins { MayBegin opening.now }
-    requires again { opening.now.again ≤ 8 }
     ensures audit { IfOk result (IsAudit opening.now journal.now.entries) }
 {
     let mut core = fresh_core(alloc, opening)?;

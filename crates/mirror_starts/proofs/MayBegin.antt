@@ -17,4 +17,5 @@ may_begin r o h = subst MayBegin (sym h) record {
   tasks = All-nil IsTask;
   lines = record { uuid = refl; name = refl; gitdir = refl };
   uuid = nil_written;
+  again = lit≤ tt;
 }

@@ -10,4 +10,4 @@ mirror_identity = record { uuid = codes "00000000-0000-0000-0000-000000000000"; 
 
 -- no task, no note and no stamp, and these registers
 abbrev pub mirror_opening : RegisterFile → Opening
-mirror_opening registers = record { tasks = []; registers = registers; notes = []; identity = mirror_identity; stamp = 0 }
+mirror_opening registers = record { tasks = []; registers = registers; notes = []; identity = mirror_identity; stamp = 0; again = 0 }

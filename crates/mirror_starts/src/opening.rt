@@ -29,6 +29,7 @@ fn opening(alloc: Global, registers: &Registers) -> Result<Opening, NoMemory>
         notes: NoteBook::new(alloc),
         identity: identity(alloc)?,
         stamp: 0,
+        again: 0,
     })
 }
 

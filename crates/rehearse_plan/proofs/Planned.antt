@@ -133,6 +133,7 @@ begins seed tasks few = record {
   tasks = are_tasks seed tasks 1 tasks few (omega (arith, few));
   lines = record { uuid = refl; name = refl; gitdir = refl };
   uuid = nil_written;
+  again = lit≤ tt;
 }
 
 pub begins_of : (seed tasks : ℕ) (list : List Task) (registers : RegisterFile) (notes : List Note) (who : Identity) → tasks ≤ 65536 → list ≡ tasks_of seed tasks → who ≡ nobody
@@ -144,6 +145,7 @@ begins_of seed tasks list registers notes who few same nil =
       tasks = subst (λ (ts : List Task). All IsTask ts) (sym same) o.tasks;
       lines = subst IsLineIdentity (sym nil) o.lines;
       uuid = subst (λ (i : Identity). IsWrittenUuid i.uuid) (sym nil) o.uuid;
+      again = o.again;
     }
 
 -- what is read of the text of a key is no fault

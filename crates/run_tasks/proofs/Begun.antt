@@ -30,6 +30,7 @@ use Rattle.task_input.specs.declared.error.InputError.{InputError}
 use Rattle.task_input.specs.declared.limits.Limits.{Limits}
 use Rattle.task_input.specs.declared.limits.TheConstants.Limits.{TASKS}
 use Rattle.journal_model.specs.Beginnings.{MayBegin}
+use Rattle.journal_model.specs.Limits.{most_again}
 use Rattle.journal_model.specs.declared.opening.Opening.{Opening}
 use Rattle.lone_work.specs.Works.{AreTasks}
 use Rattle.run_tasks.specs.Inputs.{InputFlow, input_flow, IsTaken, IsTextFor, run_opening}
@@ -165,21 +166,22 @@ few_tasks limits bytes tasks h =
     let same : length (lines_of true bytes) ≡ length tasks = ap (λ (ls : List (List ℕ)). length ls) h.1.whole ∙ length-map tasks line_of in
     omega (arith, few, same)
 
-may_begin : (words : RunWords) (clock : Option ℕ) (told : Option Files) (flow : InputFlow) (opening : Opening) → IsFit (Run words) → IsWrittenUuid words.uuid
+may_begin : (words : RunWords) (clock : Option ℕ) (told : Option Files) (flow : InputFlow) (opening : Opening) → IsFit (Run words) → IsWrittenUuid words.uuid → words.again ≤ most_again
     → IsReady words clock told flow opening → MayBegin opening
-may_begin words clock told flow opening fit written ready =
+may_begin words clock told flow opening fit written again ready =
     let given = ready.input.comes.1 in
     subst MayBegin (sym ready.begins.is) record {
       few = few_tasks TASKS ready.input.bytes ready.tasks given;
       tasks = given.1.each;
       lines = fit.identity;
       uuid = written;
+      again = again;
     }
 
-pub may_begin_all : (words : RunWords) (clock : Option ℕ) (told : Option Files) (flow : InputFlow) (faults faults' : ℕ) (r : Result Opening RunEnd) → IsFit (Run words) → IsWrittenUuid words.uuid
+pub may_begin_all : (words : RunWords) (clock : Option ℕ) (told : Option Files) (flow : InputFlow) (faults faults' : ℕ) (r : Result Opening RunEnd) → IsFit (Run words) → IsWrittenUuid words.uuid → words.again ≤ most_again
     → BeginsRun words clock told flow faults faults' r → IfOk r MayBegin
-may_begin_all words clock told flow faults faults' (Ok opening) fit written h = may_begin words clock told flow opening fit written h
-may_begin_all words clock told flow faults faults' (Err end) fit written h = tt
+may_begin_all words clock told flow faults faults' (Ok opening) fit written again h = may_begin words clock told flow opening fit written again h
+may_begin_all words clock told flow faults faults' (Err end) fit written again h = tt
 
 pub all_tasks : (tasks : List Task) → All IsTask tasks → AreTasks tasks
 all_tasks [] h = tt

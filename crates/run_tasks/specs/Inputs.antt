@@ -59,7 +59,7 @@ IsTextFor words told kept = go words.keep told
 
 -- ---- the opening
 
--- the tasks, what was kept, the identity of the words, and the clock's answer
+-- the tasks, what was kept, the identity of the words, the clock's answer, and how often the words let a task be run again
 abbrev pub run_opening : RunWords → List Task → RegisterFile → List Note → ℕ → Opening
 run_opening words tasks registers notes stamp = record {
   tasks = tasks;
@@ -67,6 +67,7 @@ run_opening words tasks registers notes stamp = record {
   notes = notes;
   identity = run_identity words;
   stamp = stamp;
+  again = words.again;
 }
 
 -- the opening is that, over what the text of the kept file hands on

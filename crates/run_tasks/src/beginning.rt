@@ -100,6 +100,7 @@ fn opening_of(
         notes,
         identity: words.identity(alloc)?,
         stamp,
+        again: words.again,
     })
 }
 

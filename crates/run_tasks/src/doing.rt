@@ -6,6 +6,7 @@ ghost use Rattle.child_end.specs.Outsides.{OutsideValue};
 ghost use Rattle.child_end.specs.Programs.{programs_value};
 ghost use Rattle.cli_words.specs.Identities.{IsFit};
 ghost use Rattle.cli_words.specs.declared.command.Command.TheVariants.{Run};
+ghost use Rattle.journal_model.specs.Limits.{most_again};
 ghost use Rattle.run_tasks.specs.Inputs.{input_flow};
 ghost use Rattle.run_tasks.specs.Runs.{HasDone};
 ghost use Rattle.run_tasks.specs.declared.made.RunEnd.TheVariants.{Memory};
@@ -107,6 +108,7 @@ where
     requires uuid { IsWrittenUuid words.now.uuid }
     requires jobs { (0 < words.now.jobs) × (words.now.jobs ≤ 64) }
     requires starts { (0 < words.now.starts) × (words.now.starts ≤ 16) }
+    requires again { words.now.again ≤ most_again }
     requires text { has_newline words.now.work ≡ false }
     requires input { I.is_open input.old ≡ true }
     ensures { HasDone words.now (C.answer clock.old) (record { programs = programs_value (P.starts programs.old) (P.faults programs.old); made = K.made desks.old }) (input_flow (I.given input.old) (I.given input.new) (I.left input.old) (I.left input.new) (I.faults input.old) (I.faults input.new)) (record { programs = programs_value (P.starts programs.new) (P.faults programs.new); made = K.made desks.new }) result }

@@ -14,7 +14,7 @@ use Rattle.cli_words.specs.Identities.{nobody}
 use Rattle.cli_words.specs.Refusals.{reason_refused}
 use Rattle.cli_words.proofs.Refusing.{task_key}
 use Rattle.journal_model.specs.Beginnings.{MayBegin}
-use Rattle.journal_model.specs.Limits.{most_tasks}
+use Rattle.journal_model.specs.Limits.{most_again, most_tasks}
 use Rattle.journal_model.specs.Replies.{IsLineIdentity}
 use Rattle.journal_model.specs.declared.opening.Identity.{Identity}
 use Rattle.journal_model.specs.declared.answer.Answer.{Answer}
@@ -39,12 +39,13 @@ use Rattle.special_cli.proofs.Leaving.{leaves_as}
 use Rattle.special_cli.specs.Endings.{IsAnswered, IsChecked, check_setup}
 
 -- what a check of a key that isn't refused begins with, and an info
-begins : (o : Opening) → length o.tasks ≤ most_tasks → All IsTask o.tasks → o.identity ≡ nobody → MayBegin o
-begins o few tasks who = record {
+begins : (o : Opening) → length o.tasks ≤ most_tasks → All IsTask o.tasks → o.identity ≡ nobody → o.again ≤ most_again → MayBegin o
+begins o few tasks who again = record {
   few = few;
   tasks = tasks;
   lines = subst IsLineIdentity (sym who) record { uuid = refl; name = refl; gitdir = refl };
   uuid = subst (λ (i : Identity). IsWrittenUuid i.uuid) (sym who) nil_written;
+  again = again;
 }
 
 task_key_class : (key : List ℕ) → reason_refused key ≡ None → is_task_key key ≡ true
@@ -57,10 +58,10 @@ pub check_begins : (key : List ℕ) (stamp : ℕ) (o : Opening) → reason_refus
 check_begins key stamp o h same =
     let one : Task = record { work = Check; key = key; file = []; name = []; onto = [] } in
     subst MayBegin (sym same)
-    (begins (check_opening key stamp) (lit≤ tt) (All-cons IsTask one [] record { key_class = task_key_class key h; file_class = refl; name_class = refl; onto_class = refl; apart = refl } (All-nil IsTask)) refl)
+    (begins (check_opening key stamp) (lit≤ tt) (All-cons IsTask one [] record { key_class = task_key_class key h; file_class = refl; name_class = refl; onto_class = refl; apart = refl } (All-nil IsTask)) refl (lit≤ tt))
 
 pub info_begins : (o : Opening) → o ≡ info_opening → MayBegin o
-info_begins o same = subst MayBegin (sym same) (begins info_opening (lit≤ tt) (All-nil IsTask) refl)
+info_begins o same = subst MayBegin (sym same) (begins info_opening (lit≤ tt) (All-nil IsTask) refl (lit≤ tt))
 
 -- ---- nothing was done
 
@@ -77,9 +78,9 @@ ran_nothing o setup may limit journal none =
       ended = refl;
       asks = refl;
       lost = tt;
+      rest = λ t. refl;
       done = [];
       claimed = refl;
-      answered = refl;
       ran = All-nil (HasRun o setup limit []);
       log_is = refl;
       caused = refl;

@@ -5,7 +5,7 @@ use Rattle.std.specs.List.{list_all, list_any, cons_option}
 use Rattle.journal_model.specs.declared.verdict.Why.{Why}
 use Rattle.journal_model.specs.declared.verdict.Verdict.{Verdict}
 use Rattle.journal_model.specs.declared.entry.What.{What}
-use Rattle.journal_model.specs.declared.entry.What.TheVariants.{Claim, Start, NoStart, Lead, Ask, Put, Sent, Mute, Got, End, Verdict as Settled, Lost, Answer as Answered, Note as Noted}
+use Rattle.journal_model.specs.declared.entry.What.TheVariants.{Claim, Start, NoStart, Lead, Ask, Put, Sent, Mute, Got, End, Verdict as Settled, Lost, Answer as Answered, Note as Noted, Again}
 use Rattle.journal_model.specs.declared.entry.Entry.{Entry}
 use Rattle.journal_model.specs.Journal.{any, each_of}
 use Rattle.journal_model.proofs.Looks.{both, same_number}
@@ -40,6 +40,7 @@ of_link f v c (Ask child job task line) h = absurd cc
 of_link f v c (Lost child task) h = absurd cc
 of_link f v c (Answered task answer) h = absurd cc
 of_link f v c (Noted task chunk count) h = absurd cc
+of_link f v c (Again task answer) h = absurd cc
 
 pub no_task : (c child task : ℕ) (b : Bool) → (child == c && (task == 0 && b)) ≡ true → task ≡ 0
 no_task c child task b h =
@@ -61,6 +62,7 @@ of_greeting f v c (Start child slot offer) h = absurd cc
 of_greeting f v c (NoStart slot) h = absurd cc
 of_greeting f v c (Answered task answer) h = absurd cc
 of_greeting f v c (Noted task chunk count) h = absurd cc
+of_greeting f v c (Again task answer) h = absurd cc
 
 none_of : {X : Type 0} (f : What → Option X) (p : What → Bool) → ((w : What) → p w ≡ true → f w ≡ None)
     → (xs : List Entry) → list_all (λ (e : Entry). p e.what) xs ≡ true → each_of f xs ≡ []

@@ -10,7 +10,7 @@ use Rattle.journal_model.specs.declared.verdict.Verdict.{Verdict}
 use Rattle.journal_model.specs.declared.verdict.Verdict.TheVariants.{Done as DoneAt, Failed as FailedAt, Unsupported as UnsupportedAt}
 use Rattle.journal_model.specs.declared.answer.Answer.TheVariants as answer
 use Rattle.journal_model.specs.declared.entry.What.{What}
-use Rattle.journal_model.specs.declared.entry.What.TheVariants.{Claim, Start, NoStart, End, Answer as Answered, Note as Noted}
+use Rattle.journal_model.specs.declared.entry.What.TheVariants.{Claim, Start, NoStart, End, Answer as Answered, Note as Noted, Again}
 use Rattle.journal_model.specs.declared.entry.Entry.{Entry}
 use Rattle.journal_model.specs.Journal.{any, starts, ends, mutes, is_started, is_ended, is_mute, open_jobs, verdict_of, why_of}
 use Rattle.journal_model.specs.Legality.{is_done, is_busy_with, has_busy_task, may_stop}
@@ -60,6 +60,7 @@ taskless : (w : What) → is_of_setup w ≡ true → is_of_task w ≡ false
 taskless (Claim task child) h = absurd cc
 taskless (Answered task answer) h = absurd cc
 taskless (Noted task chunk count) h = absurd cc
+taskless (Again task answer) h = absurd cc
 taskless w h = refl
 
 -- ---- what it comes to

@@ -9,7 +9,7 @@ use Rattle.journal_model.specs.declared.verdict.Verdict.{Verdict}
 use Rattle.journal_model.specs.declared.verdict.Verdict.TheVariants.{Failed as FailedAt, Unsupported as UnsupportedAt}
 use Rattle.annex_model.specs.Messages.{host_line}
 use Rattle.journal_model.specs.declared.entry.What.{What}
-use Rattle.journal_model.specs.declared.entry.What.TheVariants.{Claim, Start, NoStart, Ask, End, Answer as Answered, Note as Noted}
+use Rattle.journal_model.specs.declared.entry.What.TheVariants.{Claim, Start, NoStart, Ask, End, Answer as Answered, Note as Noted, Again}
 use Rattle.journal_model.specs.declared.entry.Entry.{Entry}
 use Rattle.journal_model.specs.declared.opening.Opening.{Opening}
 use Rattle.journal_model.specs.Journal.{any, each_of, starts, ends, mutes, offers, is_started, is_ended, is_mute, asked_jobs, open_jobs, verdict_of, why_of}
@@ -50,6 +50,7 @@ taskless_greeting : (c : ℕ) (w : What) → is_of_greeting c w ≡ true → is_
 taskless_greeting c (Claim task child) h = absurd cc
 taskless_greeting c (Answered task answer) h = absurd cc
 taskless_greeting c (Noted task chunk count) h = absurd cc
+taskless_greeting c (Again task answer) h = absurd cc
 taskless_greeting c w h = refl
 
 pub off : (b : Bool) → (b && false) ≡ false
@@ -134,6 +135,7 @@ taskless_asking : (c : ℕ) (w : What) → is_of_asking c w ≡ true → is_of_t
 taskless_asking c (Claim task child) h = absurd cc
 taskless_asking c (Answered task answer) h = absurd cc
 taskless_asking c (Noted task chunk count) h = absurd cc
+taskless_asking c (Again task answer) h = absurd cc
 taskless_asking c w h = refl
 
 startless_asking : (c : ℕ) (w : What) → is_of_asking c w ≡ true → start_in w ≡ None
@@ -193,6 +195,7 @@ no_claims c (e ∷ journal) h = go e.what h (no_claims c journal)
     go (Claim task child) h r = absurd cc
     go (Answered task answer) h r = absurd cc
     go (Noted task chunk count) h r = absurd cc
+    go (Again task answer) h r = absurd cc
     go w h r = r h
 
 pub may_close : (key : Option (List ℕ)) (journal : List Entry) (c : ℕ) → IsInterviewed key journal c → may_stop journal c Closed ≡ true

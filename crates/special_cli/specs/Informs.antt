@@ -4,7 +4,7 @@ use Rattle.journal_model.specs.declared.verdict.Why.{Why}
 use Rattle.annex_model.specs.Lines.{text}
 use Rattle.annex_model.specs.Messages.{host_line}
 use Rattle.journal_model.specs.declared.entry.What.{What}
-use Rattle.journal_model.specs.declared.entry.What.TheVariants.{Claim, Start, NoStart, Answer as Answered, Note as Noted}
+use Rattle.journal_model.specs.declared.entry.What.TheVariants.{Claim, Start, NoStart, Answer as Answered, Note as Noted, Again}
 use Rattle.journal_model.specs.declared.entry.Entry.{Entry}
 use Rattle.journal_model.specs.Journal.{any, is_live, is_mute, open_jobs, why_of}
 use Rattle.journal_model.specs.Due.{replies_at}
@@ -29,10 +29,11 @@ abbrev pub is_of_task : What → Bool
 is_of_task (Claim task child) = true
 is_of_task (Answered task answer) = true
 is_of_task (Noted task chunk count) = true
+is_of_task (Again task answer) = true
 is_of_task _ = false
 
 -- There is one start at most, in slot 0, and ASYNC is not offered. The child was asked the first of the requests, in order, and
--- nothing else; at most one request to it was lost, no job of it is open, and it has ended. No task is claimed or answered. All
+-- nothing else; at most one request to it was lost, no job of it is open, and it has ended. Nothing is of a task. All
 -- entries are the main thread's.
 pub record IsAsked (key : Option (List ℕ)) (journal : List Entry) : Type 0 where
   pub once : (starts_in journal ≡ []) ⊎ (starts_in journal ≡ Start 1 0 false ∷ []) ⊎ (starts_in journal ≡ NoStart 0 ∷ [])

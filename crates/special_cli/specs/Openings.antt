@@ -7,7 +7,7 @@ use Rattle.cli_words.specs.Identities.{nobody}
 
 -- no task, and no stamp
 abbrev pub info_opening : Opening
-info_opening = record { tasks = []; registers = nothing_set; notes = []; identity = nobody; stamp = 0 }
+info_opening = record { tasks = []; registers = nothing_set; notes = []; identity = nobody; stamp = 0; again = 0 }
 
 -- the one task, and the clock's answer
 abbrev pub check_opening : List ℕ → ℕ → Opening
@@ -17,4 +17,5 @@ check_opening key stamp = record {
   notes = [];
   identity = nobody;
   stamp = stamp;
+  again = 0;
 }

@@ -20,6 +20,7 @@ pub(super) fn info_opening(alloc: Global) -> Result<Opening, NoMemory>
         notes: NoteBook::new(alloc),
         identity: nobody(alloc)?,
         stamp: 0,
+        again: 0,
     })
 }
 
@@ -50,5 +51,6 @@ pub(super) fn check_opening(alloc: Global, key: KeyRef<'_>, stamp: u64) -> Resul
         notes: NoteBook::new(alloc),
         identity,
         stamp,
+        again: 0,
     })
 }

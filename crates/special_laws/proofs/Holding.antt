@@ -20,12 +20,14 @@ use Rattle.special_laws.specs.FilesHold.{AllHold, FilesHold, FilesHoldAt, FilesH
 use Rattle.task_laws.specs.Changes.{Request}
 use Rattle.task_laws.specs.Faithful.{IsFaithful, IsPlayed, Told, sent}
 use Rattle.task_laws.specs.Retrieval.{GotStored}
-use Rattle.task_laws.specs.ToldDesks.{AreToldFrom, AreToldSo, IsToldAt}
+use Rattle.task_laws.specs.ToldDesks.{AreToldFrom, AreToldSo, IsToldAt, turn_done}
 use Rattle.task_laws.proofs.FilesStored.{desk_holds, file_keeps_content, file_keeps_stored}
 use Rattle.task_laws.proofs.NoPart.{no_part_is_afresh}
+use Rattle.task_laws.proofs.Retrieving.{ran_in}
 use Rattle.task_run.specs.Askings.{run_askings, run_notings}
 use Rattle.task_run.specs.Runs.{TaskRun}
 use Rattle.task_run.specs.declared.setup.Setup.{Setup}
+use Rattle.task_run.specs.declared.turn.TaskTurn.{TaskTurn}
 
 -- ---- what is told
 
@@ -46,7 +48,7 @@ run_is_told words clock before input left end at run =
 -- ---- what the files hold
 
 module _ (o : Opening) (setup : Setup) (told : Told) (journal : List Entry) (legal : Legal o journal) (faithful : IsFaithful o setup told journal) where
-  got_afresh : (t : ℕ) (key : Parts) (stores : List Request) → IsPlayed told t → (got : GotAnew o setup told journal t key stores) → GotStored o setup told journal got.number t key stores
+  got_afresh : (t : TaskTurn) (key : Parts) (stores : List Request) → IsPlayed told t → (got : GotAnew o setup told journal t key stores) → GotStored o setup told journal got.number t key stores
   got_afresh t key stores played got =
       let P : Answer → Type 0 = λ x. TaskRun got.run.task t setup got.run.layouts (run_askings got.run.run) (told.calls t) (run_notings got.run.run) x in
       record {
@@ -54,7 +56,7 @@ module _ (o : Opening) (setup : Setup) (told : Told) (journal : List Entry) (leg
         keyed = got.keyed;
         got = got.got;
         afresh = no_part_is_afresh got.run.task t setup got.run.layouts (run_askings got.run.run) (told.calls t) (run_notings got.run.run) key (told.before t) (told.after t)
-            got.keyed (subst P got.got got.run.ran) played got.unheld;
+            got.keyed (subst P got.got (ran_in o setup (told.calls t) got.number t journal got.run)) played got.unheld;
         stored = got.stored;
       }
 
@@ -64,11 +66,11 @@ module _ (o : Opening) (setup : Setup) (told : Told) (journal : List Entry) (leg
     sent_is = λ earlier later r key stores is got leave.
         let holds = desk_holds told earlier later r old new (subst (λ (d : List TaskDone). AreToldSo told d old new) is so) in
         holds.1 got.run.task.file (concat (map (sent o setup told) stores))
-        (file_keeps_stored o setup told journal got.number r.task key stores faithful holds.0 (got_afresh r.task key stores holds.0 got)) leave;
+        (file_keeps_stored o setup told journal got.number (turn_done r) key stores faithful holds.0 (got_afresh (turn_done r) key stores holds.0 got)) leave;
     content_is = λ earlier later r u key bytes stores is got base one leave.
         let holds = desk_holds told earlier later r old new (subst (λ (d : List TaskDone). AreToldSo told d old new) is so) in
         holds.1 got.run.task.file bytes
-        (file_keeps_content o setup told journal got.number r.task u key bytes stores legal faithful holds.0 (got_afresh r.task key stores holds.0 got) base one) leave;
+        (file_keeps_content o setup told journal got.number (turn_done r) u key bytes stores legal faithful holds.0 (got_afresh (turn_done r) key stores holds.0 got) base one) leave;
   }
 
   desk_keeps : (done : List TaskDone) (log : Option Log) (files : Option Files) → IsToldAt told done log files → FilesHoldAt o setup told journal done log files

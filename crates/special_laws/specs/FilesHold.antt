@@ -22,16 +22,19 @@ use Rattle.task_laws.specs.Changes.{Request}
 use Rattle.task_laws.specs.Faithful.{AreStoredFor, IsFaithful, Told, sent}
 use Rattle.task_laws.specs.FilesKept.{HasNoPart}
 use Rattle.task_laws.specs.Retrieval.{AllLeave, StoredInChunks}
+use Rattle.task_laws.specs.ToldDesks.{turn_done}
 use Rattle.task_run.specs.Askings.{run_askings}
 use Rattle.task_run.specs.Gets.{asked_last}
 use Rattle.task_run.specs.declared.setup.Setup.{Setup}
+use Rattle.task_run.specs.declared.turn.TaskTurn.{TaskTurn}
 
 -- ---- one get
 
--- Task t was answered Got and had no part till its last layout, and these stored the keys of that layout before it retrieved them.
-pub record GotAnew (o : Opening) (setup : Setup) (told : Told) (journal : List Entry) (t : ℕ) (key : Parts) (stores : List Request) : Type 0 where
+-- A task was answered Got by this turn, its last one, which had no part till its last layout, and these stored the keys of that layout before
+-- it retrieved them.
+pub record GotAnew (o : Opening) (setup : Setup) (told : Told) (journal : List Entry) (t : TaskTurn) (key : Parts) (stores : List Request) : Type 0 where
   pub number : ℕ
-  pub run : JournalRun o setup (told.calls t) number t journal
+  pub run : JournalRun o setup (told.calls t) number t.task t.turn journal
   pub keyed : key_reading run.task.key ≡ Some key
   pub got : run.run.answer ≡ Got
   pub unheld : HasNoPart run.task.file (told.calls t) (told.before t)
@@ -39,14 +42,14 @@ pub record GotAnew (o : Opening) (setup : Setup) (told : Told) (journal : List E
 
 -- ---- one desk
 
--- The file of each such get of a desk that its later tasks leave as it is: it holds in the end what those stores sent, one after the other;
--- and where one task stored all of them in chunks, the content of that task's file.
+-- The file of each such get of a desk that its later runs leave as it is: it holds in the end what those stores sent, one after the other;
+-- and where one run of a task stored all of them in chunks, the content of that task's file.
 pub record FilesHold (o : Opening) (setup : Setup) (told : Told) (journal : List Entry) (done : List TaskDone) (new : Files) : Type 0 where
-  pub sent_is : (earlier later : List TaskDone) (r : TaskDone) (key : Parts) (stores : List Request) → done ≡ earlier ++ r ∷ later → (got : GotAnew o setup told journal r.task key stores)
-      → AllLeave told got.run.task.file (map (λ (d : TaskDone). d.task) later) → content got.run.task.file new ≡ Some (concat (map (sent o setup told) stores))
-  pub content_is : (earlier later : List TaskDone) (r : TaskDone) (u : ℕ) (key : Parts) (bytes : List ℕ) (stores : List Request) → done ≡ earlier ++ r ∷ later → (got : GotAnew o setup told journal r.task key stores)
+  pub sent_is : (earlier later : List TaskDone) (r : TaskDone) (key : Parts) (stores : List Request) → done ≡ earlier ++ r ∷ later → (got : GotAnew o setup told journal (turn_done r) key stores)
+      → AllLeave told got.run.task.file (map turn_done later) → content got.run.task.file new ≡ Some (concat (map (sent o setup told) stores))
+  pub content_is : (earlier later : List TaskDone) (r : TaskDone) (u : TaskTurn) (key : Parts) (bytes : List ℕ) (stores : List Request) → done ≡ earlier ++ r ∷ later → (got : GotAnew o setup told journal (turn_done r) key stores)
       → key.chunk ≡ None → StoredInChunks o setup told journal u bytes stores
-      → AllLeave told got.run.task.file (map (λ (d : TaskDone). d.task) later) → content got.run.task.file new ≡ Some bytes
+      → AllLeave told got.run.task.file (map turn_done later) → content got.run.task.file new ≡ Some bytes
 
 -- so it is where the files at first and in the end are told
 abbrev pub FilesHoldFrom : Opening → Setup → Told → List Entry → List TaskDone → Option Files → Option Files → Type 0
@@ -70,13 +73,13 @@ AllHold told o setup limit journal past entries k (d ∷ ds) (table ∷ tables) 
 
 -- ---- a run
 
--- this is told of the tasks of the run's desks, which are left in the end
+-- this is told of what the run's desks did, which are left in the end
 abbrev pub IsToldOfRun : (told : Told) (words : RunWords) (clock : Option ℕ) (files : Option Files) (input : InputFlow) (workers : List TableValue) (journal : List Entry)
     → IsRunOf words clock files input workers journal → Type 0
 IsToldOfRun told words clock files input workers journal run =
     AreToldAt told run.opening (run_setup words run.stamp) words.starts journal [] journal 1 run.before (map table_tells workers) run.ran.did (map (λ (table : TableValue). table.files) workers)
 
--- There are files before and after each task of a run that fit what its desks tell.
+-- There are files before and after each run of a task that fit what its desks tell.
 abbrev pub RunIsTold : Type 0
 RunIsTold =
     (words : RunWords) (clock : Option ℕ) (before : OutsideValue) (input : InputFlow) (left : Left) (end : RunEnd) (at : IsAtDesk words clock before input left.outside (made_in left end))

@@ -105,9 +105,9 @@ pub fn run_completes()
     ensures idle { IdleLacksMemory }
 {}
 
-/// There are files before and after each task of a run that fit what its desks tell. Where the remote was faithful to these, the file of a
-/// get that had no part at its begin holds in the end, at the desk that is left, what the stores of its keys sent; and where one task
-/// stored all of them in chunks, the content of that task's file.
+/// There are files before and after each run of a task that fit what its desks tell. Where the remote was faithful to these, the file of a
+/// get that had no part at the begin of its last run holds in the end, at the desk that is left, what the stores of its keys sent; and where
+/// one run of a task stored all of them in chunks, the content of that task's file.
 pub fn run_keeps()
     ensures told { RunIsTold }
     ensures kept { RunKeeps }

@@ -1,7 +1,7 @@
 use Rattle.std.proofs.Common.{[], ◌++◌, refl}
 use Rattle.std.proofs.lemmas.Result.{err_from_is_err_and}
 use Rattle.journal_audit.specs.declared.found.Audit.{Audit}
-use Rattle.audit_run.proofs.Fitting.{may_begin, may_again}
+use Rattle.audit_run.proofs.Fitting.{may_begin}
 use Rattle.audit_run.proofs.Pieces.{fault_read, fault_told, counted_end, found_read, found_told}
 use Rattle.audit_run.proofs.reading.audit_input.Goals as goal
 
@@ -37,12 +37,6 @@ audit_all-requires-clause-begins g c =
     let taken = c.in_ok-intake.ensures.given in
     let text = c.in_ok-opening.ensures c.args.limits.now taken.0 [] taken.2.0 (λ _. refl) in
     may_begin c.in_ok-opening.opening c.in_ok-opening.journal.entries _ text.1
-
-pub audit_all-requires-clause-again : goal.audit_all-requires-clause-again
-audit_all-requires-clause-again g c =
-    let taken = c.in_ok-intake.ensures.given in
-    let text = c.in_ok-opening.ensures c.args.limits.now taken.0 [] taken.2.0 (λ _. refl) in
-    may_again c.in_ok-opening.opening c.in_ok-opening.journal.entries _ text.1
 
 pub returns-clause-input : goal.returns-clause-input
 returns-clause-input g c =

@@ -8,6 +8,6 @@ and : (x y z : App) (r : Rule) → x ≡ with_rule y r → y ≡ z → x ≡ wit
 and x y z r more known = more ∙ ap (λ a. with_rule a r) known
 
 pub returns : goal.returns
-returns c = IfOk-weaker c.with_value-6.result _ _
-    (λ last starts. and _ _ _ _ starts (and _ _ _ _ c.in_ok-command-9.ensures (and _ _ _ _ c.in_ok-command-8.ensures (and _ _ _ _ c.in_ok-command-7.ensures (and _ _ _ _ c.in_ok-command-6.ensures (and _ _ _ _ c.in_ok-command-5.ensures (and _ _ _ _ c.in_ok-command-4.ensures (and _ _ _ _ c.in_ok-command-3.ensures (and _ _ _ _ c.in_ok-command-2.ensures (and _ _ _ _ c.in_ok-command.ensures c.new-command.ensures.app))))))))))
-    c.with_value-6.ensures
+returns c = IfOk-weaker c.with_value-7.result _ _
+    (λ last again. and _ _ _ _ again (and _ _ _ _ c.in_ok-command-10.ensures (and _ _ _ _ c.in_ok-command-9.ensures (and _ _ _ _ c.in_ok-command-8.ensures (and _ _ _ _ c.in_ok-command-7.ensures (and _ _ _ _ c.in_ok-command-6.ensures (and _ _ _ _ c.in_ok-command-5.ensures (and _ _ _ _ c.in_ok-command-4.ensures (and _ _ _ _ c.in_ok-command-3.ensures (and _ _ _ _ c.in_ok-command-2.ensures (and _ _ _ _ c.in_ok-command.ensures c.new-command.ensures.app)))))))))))
+    c.with_value-7.ensures

@@ -17,7 +17,7 @@ go_on-worked-requires-clause-may g c κs within =
     let new = c.begin-begun.new.input in
     let flow = input_flow (g.I.Source.given old) (g.I.Source.given new) (g.I.Source.left old) (g.I.Source.left new) (g.I.Source.faults old) (g.I.Source.faults new) in
     may_begin_all c.args.words.now (g.C.Clock.answer c.args.clock.now) (g.K.Desk.Desk.files c.in-Ok-desk.desk) flow (g.K.Desk.Desk.counts c.in-Ok-desk.desk).faults (g.K.Desk.Desk.counts c.begin-begun.new.desk).faults
-    c.begin-begun.result c.requires.fit c.requires.uuid c.begin-begun.ensures.begins
+    c.begin-begun.result c.requires.fit c.requires.uuid c.requires.again c.begin-begun.ensures.begins
 
 pub returns : goal.returns
 returns g c =

@@ -1,7 +1,7 @@
 use Rattle.std.proofs.Common.{sym, subst}
 use Rattle.journal_model.specs.declared.opening.Opening.{Opening}
 use Rattle.run_answers.specs.Answering.{AreAllAnswered}
-use Rattle.special_cli.proofs.Answered.{all_answered}
+use Rattle.run_answers.proofs.Answered.{all_answered}
 use Rattle.special_cli.proofs.Checked.{ran_nothing, silent}
 use Rattle.special_cli.proofs.check.do_task.Goals as goal
 
@@ -14,4 +14,4 @@ answers_of-requires g c =
     let journal = c.run_alone.new.core.journal in
     let ran = c.run_alone.ensures.ran in
     subst (λ (o : Opening). AreAllAnswered o journal) (sym c.run_alone.ensures.core.opening)
-    (all_answered c.args.core.now.opening journal ran.done ran.claimed ran.answered c.in-Ok-run_alone.ensures.whole)
+    (all_answered c.args.core.now.opening journal ran.legal ran.rest c.in-Ok-run_alone.ensures.whole)

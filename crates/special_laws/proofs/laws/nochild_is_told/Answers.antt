@@ -33,7 +33,7 @@ returns-clause-run c = record { past = mute; rest = closed ∷ []; is = refl; an
 no_start : (answer : Answer) → ZeroRun 1 unstarted 1 answer → ⊥
 no_start answer z = go z.past z.is z.answers
   where
-    go : (past : List Entry) → unstarted ≡ past ++ by_main (Claim 1 0) ∷ by_main (Answered 1 answer) ∷ z.rest → ZeroAnswers 1 past (failed_start past (start_untaken past)) answer → ⊥
+    go : (past : List Entry) → unstarted ≡ past ++ by_main (Claim 1 0) ∷ by_main (Answered 1 answer) ∷ z.rest → ZeroAnswers 1 past (failed_start past (start_untaken past)) 1 answer → ⊥
     go [] e a = let bad : 0 ≡ 1 = a.0 in cc
     go (p ∷ []) e a = let bad : [] ≡ by_main (Answered 1 answer) ∷ z.rest = cc in cc
     go (p ∷ q ∷ []) e a = let bad : [] ≡ by_main (Claim 1 0) ∷ by_main (Answered 1 answer) ∷ z.rest = cc in cc
