@@ -32,8 +32,8 @@ returns-in_err-opening-clause-faults g c =
     let p = err_from_is_err_and c.from_residual-in_err-opening.result c.from_residual-in_err-opening.ensures.1 in
     rw (p.1, p.2) (counted_end Audit (g.S.Source.faults c.args.source.now) (g.S.Source.faults c.take_all.new.source) limits (taken.0 ++ []) c.in_err-opening.field-0.0 (c.in_err-opening.ensures limits taken.0 [] taken.2.0 (λ _. refl)) c.in_ok-intake.ensures.faults)
 
-pub audit_all-requires-clause-begins : goal.audit_all-requires-clause-begins
-audit_all-requires-clause-begins g c =
+pub audit_all-requires : goal.audit_all-requires
+audit_all-requires g c =
     let taken = c.in_ok-intake.ensures.given in
     let text = c.in_ok-opening.ensures c.args.limits.now taken.0 [] taken.2.0 (λ _. refl) in
     may_begin c.in_ok-opening.opening c.in_ok-opening.journal.entries _ text.1
