@@ -1,6 +1,6 @@
 -- A child that was started has a number above 0.
-use Rattle.std.proofs.Common.{◌≡◌, zero, suc, ℕ, ◌+◌, ◌<◌, List, [], ◌∷◌, ◌++◌, refl, ◌∙◌, Bool, true, false, ◌==◌, arith}
-use Rattle.std.specs.Prelude.{◌&&◌, ◌||◌, ◌^◌, nat_lt}
+use Rattle.std.proofs.Common.{◌≡◌, zero, suc, ℕ, ◌+◌, ◌<◌, List, [], ◌∷◌, ◌++◌, refl, ◌∙◌, true, false, ◌==◌, arith}
+use Rattle.std.specs.Prelude.{◌&&◌, ◌^◌, nat_lt}
 use Rattle.std.specs.List.{list_all}
 use Rattle.journal_model.specs.declared.entry.What.{What}
 use Rattle.journal_model.specs.declared.entry.What.TheVariants.{Put, Start, End, Verdict as Settled}

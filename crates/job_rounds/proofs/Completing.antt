@@ -14,25 +14,28 @@ use Rattle.journal_model.specs.declared.entry.What.TheVariants.{Claim, Answer as
 use Rattle.journal_model.specs.declared.entry.Entry.{Entry}
 use Rattle.journal_model.specs.declared.opening.Opening.{Opening}
 use Rattle.journal_model.specs.Journal.{any}
-use Rattle.journal_model.specs.Legality.{answers, claims, is_claimed, task_of}
+use Rattle.journal_model.specs.Legality.{answers, claims, is_of_lost_child, task_of, turn_of_task}
 use Rattle.journal_model.specs.Makers.{is_of_task}
 use Rattle.journal_model.proofs.Looks.{any-append, entry, same, same_number, true_not_false}
 use Rattle.journal_model.proofs.Testing.{by_either, or_left, or_right}
 use Rattle.journal_model.proofs.Working.{tasks_kept}
 use Rattle.task_text.specs.declared.task.Task.{Task}
+use Rattle.task_text.specs.declared.task.Work.{Work}
+use Rattle.task_text.specs.declared.task.Work.TheVariants as W
 use Rattle.task_run.specs.declared.setup.Setup.{Setup}
-use Rattle.task_run.specs.Askings.{TaskStretch, run_askings, run_notings}
+use Rattle.task_run.specs.Askings.{TaskStretch, closing, run_askings, run_notings, run_turn}
 use Rattle.task_run.specs.Ran.{HasTaskCauses, is_of_content}
-use Rattle.lone_work.specs.Works.{CausedInTurn, DeskTells, TaskDone}
+use Rattle.lone_work.specs.Works.{CausedInTurn, DeskTells, TaskDone, turns_of}
 use Rattle.task_laws.specs.LoneWell.{AreKeysRead, ChildrenWell, IsDoneWell}
 use Rattle.task_laws.specs.RunWell.{AreAskedWell}
-use Rattle.task_laws.specs.WentWell.{IsFoundWell, IsSuccess, is_asked_well, is_called_well}
+use Rattle.task_laws.specs.WentWell.{IsFoundWell, IsSuccess, is_asked_well, is_called_well, success_of}
+use Rattle.task_laws.proofs.LastRuns.{answered_is_last}
 use Rattle.task_laws.proofs.RunsWell.{one_succeeds, run_asks}
 use Rattle.task_laws.proofs.WellTasks.{well_unless_refused}
 use Rattle.job_rounds.specs.Completeness.{DesksFound, FindsWell, JobsComplete}
 use Rattle.job_rounds.specs.Desks.{AreDone, DesksDid, HasDesk, HaveDesks, IsTaskDone, claimed_for, claims_for, desk_of}
 use Rattle.job_rounds.proofs.NoneUnserved.{none_unserved}
-use Rattle.job_rounds.proofs.RoundDid.{Stands, answered_once, only_one}
+use Rattle.job_rounds.proofs.OneAnswer.{Stands, answered_once, only_one}
 
 -- ---- counts
 
@@ -61,15 +64,19 @@ refused_is a h = absurd cc
 
 -- ---- which desk claimed a task
 
-any_behind : (p : ℕ → Bool) (x : Option ℕ) (xs : List ℕ) → list_any p xs ≡ true → list_any p (cons_option x xs) ≡ true
+any_behind : (p : ℕ × ℕ → Bool) (x : Option (ℕ × ℕ)) (xs : List (ℕ × ℕ)) → list_any p xs ≡ true → list_any p (cons_option x xs) ≡ true
 any_behind p None xs h = h
 any_behind p (Some x) xs h = or_right (p x) (list_any p xs) h
+
+-- a turn of the task
+abbrev is_of : ℕ → ℕ × ℕ → Bool
+is_of t u = u.0 == t
 
 pub record IsFound (n : ℕ) (past xs : List Entry) (t : ℕ) : Type 0 where
   pub desk : ℕ
   pub some : 0 < desk
   pub few : desk ≤ n
-  pub claimed : list_any (λ u. u == t) (claims_for desk past xs) ≡ true
+  pub claimed : list_any (is_of t) (claims_for desk past xs) ≡ true
 
 claim_found : (n : ℕ) (past xs : List Entry) (t : ℕ) → HaveDesks n past xs → any (claims t) xs ≡ true → IsFound n past xs t
 claim_found n past [] t h k = absurd cc
@@ -80,20 +87,20 @@ claim_found n past (e ∷ xs) t h k = by_what e.what refl h.0 k (claim_found n (
       desk = f.desk;
       some = f.some;
       few = f.few;
-      claimed = any_behind (λ u. u == t) (claimed_for f.desk past e.by e.what) (claims_for f.desk (past ++ e ∷ []) xs) f.claimed;
+      claimed = any_behind (is_of t) (claimed_for f.desk past e.by e.what) (claims_for f.desk (past ++ e ∷ []) xs) f.claimed;
     }
 
     here : (task child : ℕ) → e.what ≡ Claim task child → (task == t) ≡ true → HasDesk n past e.by (Claim task child) → IsFound n past (e ∷ xs) t
     here task child is at d =
-        let own : claimed_for (desk_of past e.by child) past e.by e.what ≡ Some task =
-        ap (claimed_for (desk_of past e.by child) past e.by) is ∙ ap (λ (b : Bool). cond {A = Option ℕ} b (Some task) None) (same (desk_of past e.by child)) in
+        let own : claimed_for (desk_of past e.by child) past e.by e.what ≡ Some (task, turn_of_task past task) =
+        ap (claimed_for (desk_of past e.by child) past e.by) is ∙ ap (λ (b : Bool). cond {A = Option (ℕ × ℕ)} b (Some (task, turn_of_task past task)) None) (same (desk_of past e.by child)) in
         record {
           desk = desk_of past e.by child;
           some = d.0;
           few = d.1;
           claimed =
-              ap (λ (x : Option ℕ). list_any (λ u. u == t) (cons_option x (claims_for (desk_of past e.by child) (past ++ e ∷ []) xs))) own
-              ∙ or_left (task == t) (list_any (λ u. u == t) (claims_for (desk_of past e.by child) (past ++ e ∷ []) xs)) at;
+              ap (λ (x : Option (ℕ × ℕ)). list_any (is_of t) (cons_option x (claims_for (desk_of past e.by child) (past ++ e ∷ []) xs))) own
+              ∙ or_left (task == t) (list_any (is_of t) (claims_for (desk_of past e.by child) (past ++ e ∷ []) xs)) at;
         }
 
     by_what : (w : What) → e.what ≡ w → HasDesk n past e.by w → (claims t w || any (claims t) xs) ≡ true → (any (claims t) xs ≡ true → IsFound n (past ++ e ∷ []) xs t) → IsFound n past (e ∷ xs) t
@@ -132,7 +139,7 @@ module _ (o : Opening) (setup : Setup) (limit : ℕ) (journal : List Entry) (sta
         by_key (Some key) e s = by_desk (finds c.number c.run key e)
           where
             Found : Type 0
-            Found = IsFoundWell setup r.task c.run.task key c.run.layouts c.run.task.work (run_askings c.run.run) r.calls
+            Found = IsFoundWell setup (run_turn c.run.run) c.run.task key c.run.layouts c.run.task.work (run_askings c.run.run) r.calls
 
             asks_well : list_all (is_asked_well c.run.task.work) (run_askings c.run.run) ≡ true
             asks_well = run_asks (is_asked_well c.run.task.work) journal r.task c.run.run (asked r.task c.run.task c.run.is)
@@ -141,12 +148,12 @@ module _ (o : Opening) (setup : Setup) (limit : ℕ) (journal : List Entry) (sta
             counted none (inl s) = as_given s
             counted none (inr q) = absurd (never none q)
 
-            by_desk : IsFoundWell setup r.task c.run.task key c.run.layouts c.run.task.work (run_askings c.run.run) r.calls
+            by_desk : IsFoundWell setup (run_turn c.run.run) c.run.task key c.run.layouts c.run.task.work (run_askings c.run.run) r.calls
                 × ((Rose old.missing new.missing → ⊥) ⊎ (list_all (is_called_well (Rattle.task_run.specs.Names.part_of c.run.task.file)) r.calls ≡ true)) → IsDoneWell o r
             by_desk (found, inl none) =
-                counted none (well_unless_refused c.run.task r.task setup c.run.layouts (run_askings c.run.run) r.calls (run_notings c.run.run) c.run.run.answer key e asks_well found c.run.ran)
+                counted none (well_unless_refused c.run.task (run_turn c.run.run) setup c.run.layouts (run_askings c.run.run) r.calls (run_notings c.run.run) c.run.run.answer key e asks_well found c.run.ran)
             by_desk (found, inr called) =
-                one_succeeds o setup journal (record { number = c.number; task = r.task; calls = r.calls; answer = r.answer }) asked
+                one_succeeds o setup journal (record { number = c.number; task = r.task; turn = r.turn; calls = r.calls; answer = r.answer }) asked
                 (record { run = c.run; answer_is = c.answer; key = key; keyed = e; desk = record { called = called; found = found } })
 
     all_found : (before : Counts) (rs : List TaskDone) → Later old before → CausedInTurn before rs new → All (FindsWell o setup journal old new) rs → AreDone o setup limit journal rs → All (IsDoneWell o) rs
@@ -165,12 +172,12 @@ module _ (o : Opening) (setup : Setup) (limit : ℕ) (journal : List Entry) (sta
     done : IsTaskDone o setup limit journal r
     well : IsDoneWell o r
 
-  done_among : (t : ℕ) (rs : List TaskDone) → AreDone o setup limit journal rs → All (IsDoneWell o) rs → list_any (λ u. u == t) (map (λ (r : TaskDone). r.task) rs) ≡ true → Did t
+  done_among : (t : ℕ) (rs : List TaskDone) → AreDone o setup limit journal rs → All (IsDoneWell o) rs → list_any (is_of t) (turns_of rs) ≡ true → Did t
   done_among t [] done well h = absurd cc
   done_among t (r ∷ rs) done well h = by_test (r.task == t) refl h (done_among t rs done.1 (All-tail (IsDoneWell o) r rs well))
     where
-      by_test : (b : Bool) → (r.task == t) ≡ b → (b || list_any (λ u. u == t) (map (λ (x : TaskDone). x.task) rs)) ≡ true
-          → (list_any (λ u. u == t) (map (λ (x : TaskDone). x.task) rs) ≡ true → Did t) → Did t
+      by_test : (b : Bool) → (r.task == t) ≡ b → (b || list_any (is_of t) (turns_of rs)) ≡ true
+          → (list_any (is_of t) (turns_of rs) ≡ true → Did t) → Did t
       by_test true e k more = record { r = r; task_is = same_number r.task t e; done = done.0; well = All-head (IsDoneWell o) r rs well }
       by_test false e k more = more k
 
@@ -178,7 +185,7 @@ module _ (o : Opening) (setup : Setup) (limit : ℕ) (journal : List Entry) (sta
   beyond a b l f = grind (arith, nat_tests)
 
   desks_among : (past entries : List Entry) (k : ℕ) (ds es : List DeskTells) (did : DesksDid o setup limit journal past entries k ds es) → DesksFound o setup limit journal past entries k ds es did
-      → (t m : ℕ) → k ≤ m → m < k + length ds → list_any (λ u. u == t) (claims_for m past entries) ≡ true → Did t
+      → (t m : ℕ) → k ≤ m → m < k + length ds → list_any (is_of t) (claims_for m past entries) ≡ true → Did t
   desks_among past entries k [] es did found t m low high h = absurd (let bad : ⊥ = omega (arith, low, high) in bad)
   desks_among past entries k (d ∷ ds) [] did found t m low high h = absurd did
   desks_among past entries k (d ∷ ds) (e ∷ es) did found t m low high h =
@@ -187,8 +194,8 @@ module _ (o : Opening) (setup : Setup) (limit : ℕ) (journal : List Entry) (sta
       here : (k == m) ≡ true → Did t
       here at =
           let is : m ≡ k = sym (same_number k m at) in
-          let claimed : list_any (λ u. u == t) (map (λ (r : TaskDone). r.task) did.0.done) ≡ true =
-          ap (list_any (λ u. u == t)) (did.0.claimed ∙ ap (λ (n : ℕ). claims_for n past entries) (sym is)) ∙ h in
+          let claimed : list_any (is_of t) (turns_of did.0.done) ≡ true =
+          ap (list_any (is_of t)) (did.0.claimed ∙ ap (λ (n : ℕ). claims_for n past entries) (sym is)) ∙ h in
           done_among t did.0.done did.0.ran (all_found d.counts e.counts found.0 d.counts did.0.done (omega arith, omega arith) did.0.caused found.1 did.0.ran) claimed
 
 -- ---- an answer
@@ -201,13 +208,30 @@ task_number : (o : Opening) (t : ℕ) (task : Task) → task_of o t ≡ Some tas
 task_number o zero task h = absurd cc
 task_number o (suc t) task h = omega arith
 
-run_stands : (journal : List Entry) (t : ℕ) (run : TaskStretch journal t) → Stands journal (Answered t run.answer)
-run_stands journal t run = record {
+-- A run that isn't to be run again is closed by its answer.
+run_stands : (journal : List Entry) (t : ℕ) (run : TaskStretch journal t) → run.renewed ≡ false → Stands journal (Answered t run.answer)
+run_stands journal t run last = record {
   front = run.past ++ entry run.by (Claim t run.child) ∷ run.within;
-  by = run.answered_by;
+  by = run.closed_by;
   back = run.rest;
-  is = run.is;
+  is = run.is ∙ ap (λ (b : Bool). run.past ++ entry run.by (Claim t run.child) ∷ run.within ++ entry run.closed_by (closing b t run.answer) ∷ run.rest) last;
 }
+
+-- A success isn't that a child was lost.
+kept : (work : Work) (answer : Answer) → IsSuccess work answer → is_of_lost_child answer ≡ false
+kept work answer (inl e) = ap is_of_lost_child e ∙ of_work work
+  where
+    of_work : (w : Work) → is_of_lost_child (success_of w) ≡ false
+    of_work W.Store = refl
+    of_work W.Get = refl
+    of_work W.Check = refl
+    of_work W.Drop = refl
+    of_work W.XStore = refl
+    of_work W.XGet = refl
+    of_work W.XCheck = refl
+    of_work W.XDrop = refl
+    of_work W.XRename = refl
+kept work answer (inr e) = ap is_of_lost_child e
 
 answer_inside : (t : ℕ) (a b : Answer) → Answered t a ≡ Answered t b → a ≡ b
 answer_inside t a b e = cc
@@ -218,9 +242,9 @@ jobs_complete o setup may limit journal desks desks' ran well front rest by t an
     stands : Stands journal (Answered t answer)
     stands = record { front = front; by = by; back = rest; is = is }
 
-    claimed : is_claimed journal t ≡ true
+    claimed : any (claims t) journal ≡ true
     claimed =
-        by_either (is_claimed journal t) (λ h. h)
+        by_either (any (claims t) journal) (λ h. h)
         (λ h. true_not_false (any (is_of_task t) journal) (stands_any (is_of_task t) journal (Answered t answer) stands (same t)) ((tasks_kept o journal ran.legal).none t (task_number o t task named) h))
 
     found : IsFound (length desks) [] journal t
@@ -235,9 +259,12 @@ jobs_complete o setup may limit journal desks desks' ran well front rest by t an
     by_done : (d : Did o setup limit journal well.starts well.keys well.children well.asked t) → IsTaskDone o setup limit journal d.r → IsSuccess task.work answer
     by_done d (inr z) = absurd (none_unserved limit journal d.r.task well.starts well.children d.r.answer z.0)
     by_done d (inl c) =
-        let given : Stands journal (Answered t c.run.run.answer) = subst (λ (n : ℕ). Stands journal (Answered n c.run.run.answer)) d.task_is (run_stands journal d.r.task c.run.run) in
+        let of_task : task_of o d.r.task ≡ Some task = ap (task_of o) d.task_is ∙ named in
+        let remains : is_of_lost_child c.run.run.answer ≡ false = ap is_of_lost_child c.answer ∙ kept task.work d.r.answer (d.well task of_task) in
+        let last = answered_is_last o journal d.r.task c.run.run (task_number o d.r.task task of_task) ran.legal remains in
+        let given : Stands journal (Answered t c.run.run.answer) =
+        subst (λ (n : ℕ). Stands journal (Answered n c.run.run.answer)) d.task_is (run_stands journal d.r.task c.run.run last.0) in
         let one : Answered t c.run.run.answer ≡ Answered t answer =
         only_one (answers t) journal (Answered t c.run.run.answer) (Answered t answer) (answered_once o journal ran.legal t) given stands (same t) (same t) in
         let told : d.r.answer ≡ answer = sym c.answer ∙ answer_inside t c.run.run.answer answer one in
-        let of_task : task_of o d.r.task ≡ Some task = ap (task_of o) d.task_is ∙ named in
         subst (λ (x : Answer). IsSuccess task.work x) told (d.well task of_task)

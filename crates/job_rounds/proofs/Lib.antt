@@ -29,5 +29,6 @@ pub mod Firsts
 pub mod Steps
 pub mod NoneUnserved
 pub mod Succeeding
+pub mod OneAnswer
 pub mod Completing
 pub mod TaskFiles

@@ -175,6 +175,6 @@ none_unserved limit journal t some w answer z = go (failed_start z.past (start_u
     so_far : AreWell z.past
     so_far = record { heard = before is_muting z.past more well.heard; closed = before is_unclosed_end z.past more well.closed; ready = before is_refusal z.past more well.ready }
 
-    go : (failed : Option Answer) → failed_start z.past (start_untaken z.past) ≡ failed → UnservedAnswers limit z.past failed answer → ⊥
-    go (Some failed) e a = none_without_child limit journal t some w answer (record { past = z.past; rest = z.rest; is = z.is; answers = subst (λ (x : Option Answer). ZeroAnswers limit z.past x answer) (sym e) a })
+    go : (failed : Option Answer) → failed_start z.past (start_untaken z.past) ≡ failed → UnservedAnswers limit z.past failed t answer → ⊥
+    go (Some failed) e a = none_without_child limit journal t some w answer (record { past = z.past; rest = z.rest; is = z.is; answers = subst (λ (x : Option Answer). ZeroAnswers limit z.past x t answer) (sym e) a })
     go None e a = (let none = none_first [] z.past so_far (before is_no_start z.past more well.started) a.1 in let all = a.0 in omega (arith, none, all, some))

@@ -21,7 +21,7 @@ use Rattle.job_rounds.proofs.NoneUnserved.{none_unserved}
 
 module _ (o : Opening) (setup : Setup) (limit : ℕ) (journal : List Entry) where
   abbrev Well : TaskDone → Type 0
-  Well r = (number : ℕ) → IsDeskWell o setup journal number r.task r.calls
+  Well r = (number : ℕ) → IsDeskWell o setup journal number r.task r.turn r.calls
 
   module _ (starts : 0 < limit) (keys : AreKeysRead o) (children : ChildrenWell journal) (asked : AreAskedWell o journal) where
     one_well : (r : TaskDone) → Well r → IsTaskDone o setup limit journal r → IsDoneWell o r
@@ -31,7 +31,7 @@ module _ (o : Opening) (setup : Setup) (limit : ℕ) (journal : List Entry) wher
         by_key : (x : Option Parts) → key_reading c.run.task.key ≡ x → is_some x ≡ true → IsDoneWell o r
         by_key None e s = absurd cc
         by_key (Some key) e s =
-            one_succeeds o setup journal (record { number = c.number; task = r.task; calls = r.calls; answer = r.answer }) asked
+            one_succeeds o setup journal (record { number = c.number; task = r.task; turn = r.turn; calls = r.calls; answer = r.answer }) asked
             (record { run = c.run; answer_is = c.answer; key = key; keyed = e; desk = desk c.number c.run key e })
 
     all_well : (rs : List TaskDone) → All Well rs → AreDone o setup limit journal rs → All (IsDoneWell o) rs

@@ -10,7 +10,7 @@ use Rattle.journal_model.specs.declared.entry.Entry.{Entry}
 use Rattle.journal_model.specs.declared.opening.Opening.{Opening}
 use Rattle.journal_model.specs.Legality.{task_of}
 use Rattle.task_text.specs.declared.task.Task.{Task}
-use Rattle.task_run.specs.Askings.{run_askings}
+use Rattle.task_run.specs.Askings.{run_askings, run_turn}
 use Rattle.task_run.specs.Names.{part_of}
 use Rattle.task_run.specs.declared.setup.Setup.{Setup}
 use Rattle.gathering.specs.JournalRuns.{JournalRun}
@@ -25,8 +25,8 @@ use Rattle.job_rounds.specs.JobRuns.{RanJobs}
 -- that is looked up or removed.
 abbrev pub FindsWell : Opening → Setup → List Entry → Counts → Counts → TaskDone → Type 0
 FindsWell o setup journal old new r =
-    (number : ℕ) (run : JournalRun o setup r.calls number r.task journal) (key : Parts) → key_reading run.task.key ≡ Some key
-    → IsFoundWell setup r.task run.task key run.layouts run.task.work (run_askings run.run) r.calls
+    (number : ℕ) (run : JournalRun o setup r.calls number r.task r.turn journal) (key : Parts) → key_reading run.task.key ≡ Some key
+    → IsFoundWell setup (run_turn run.run) run.task key run.layouts run.task.work (run_askings run.run) r.calls
     × ((Rose old.missing new.missing → ⊥) ⊎ (list_all (is_called_well (part_of run.task.file)) r.calls ≡ true))
 
 -- No desk counted a fault, and each of its tasks found what it should.

@@ -23,14 +23,14 @@ all_done o setup limit journal past entries k (d ∷ ds) [] did = []
 all_done o setup limit journal past entries k (d ∷ ds) (e ∷ es) did = did.0.done ++ all_done o setup limit journal past entries (k + 1) ds es did.1
 
 -- A start was allowed; each gave a child, none refused to get ready, ended before it was closed, or couldn't be written to; each request of a
--- task was done, but that what a store asks before it stores may be answered in any way; and all went well at the desks of these tasks, by
--- whichever number they were run.
+-- task was done, but that what a store asks before it stores may be answered in any way; and all went well at the desks in these turns of
+-- tasks, by whichever number they were run.
 pub record JobsWentWell (o : Opening) (setup : Setup) (limit : ℕ) (journal : List Entry) (done : List TaskDone) : Type 0 where
   pub starts : 0 < limit
   pub keys : AreKeysRead o
   pub children : ChildrenWell journal
   pub asked : AreAskedWell o journal
-  pub desks : All (λ (r : TaskDone). (number : ℕ) → IsDeskWell o setup journal number r.task r.calls) done
+  pub desks : All (λ (r : TaskDone). (number : ℕ) → IsDeskWell o setup journal number r.task r.turn r.calls) done
 
 -- Then each of the tasks that these desks did is answered by its success, or says that memory ran out.
 abbrev pub JobsSucceed : Opening → Setup → ℕ → List Entry → List Entry → List Entry → ℕ → List DeskTells → List DeskTells → Type 0

@@ -208,7 +208,7 @@ find_holds p (y ∷ ys) x h = go (p y) refl h (find_holds p ys x)
     go true e h r = (let eq : y ≡ x = cc in subst (λ z. p z ≡ true) eq e)
     go false e h r = r h
 
-claimed_free : (o : Opening) (past : List Entry) (t : ℕ) (f : Option ℕ) → least_free o past ≡ f → is_number t f ≡ true → is_claimed past t ≡ false
+pub claimed_free : (o : Opening) (past : List Entry) (t : ℕ) (f : Option ℕ) → least_free o past ≡ f → is_number t f ≡ true → is_claimed past t ≡ false
 claimed_free o past t None e h = absurd cc
 claimed_free o past t (Some k) e h =
     let free : is_free o past k ≡ true = find_holds (is_free o past) (numbers_of o) k e in

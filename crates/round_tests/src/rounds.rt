@@ -2,7 +2,7 @@
 ghost use Rattle.std.specs.Prelude.{◌≡◌, [], IfOk, vec_len, false};
 ghost use Rattle.annex_model.specs.Lines.{has_newline};
 ghost use Rattle.chunk_log.specs.ChunkLines.{IsWrittenUuid};
-ghost use Rattle.host_core.specs.Openings.{MayOpen};
+ghost use Rattle.journal_model.specs.Beginnings.{MayBegin};
 ghost use Rattle.journal_model.specs.Legality.{Legal};
 ghost use Rattle.journal_model.specs.Replies.{IsLineIdentity};
 ghost use Rattle.crew_rounds.specs.Tagged.{TaggedCan, link_of};
@@ -29,7 +29,7 @@ type Link = Lone<MemSink, MemSource>;
 
 // What a run without tasks begins with.
 fn opening(alloc: Global) -> Result<Opening, NoMemory>
-    ensures { IfOk result MayOpen }
+    ensures { IfOk result MayBegin }
 {
     let identity = identity(alloc)?;
     Ok(Opening {

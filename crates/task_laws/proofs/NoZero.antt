@@ -258,9 +258,9 @@ none_without_child limit journal t some w answer z =
     failed = none_failed z.past k
 
     P : Option Answer → Type 0
-    P o = ZeroAnswers limit z.past o answer
+    P o = ZeroAnswers limit z.past o t answer
 
-    by_answers : ZeroAnswers limit z.past None answer → ⊥
+    by_answers : ZeroAnswers limit z.past None t answer → ⊥
     by_answers a =
         let zero_starts : count is_any_start z.past ≡ 0 = none_started [] z.past well k.started a.1 in
         let all : count is_any_start z.past ≡ limit = a.0 in
