@@ -8,5 +8,5 @@ pub round_tagged_some-requires-clause-tasks : goal.round_tagged_some-requires-cl
 round_tagged_some-requires-clause-tasks g c κs within =
     let copied : c.view.result.now ≡ c.in_ok-opening.opening.tasks = c.view.ensures ∙ c.in_ok-tasks.ensures in (
       ap (λ (o : Opening). o.tasks) (c.ready-link.ensures.opening ∙ c.in_ok-core.ensures.opening) ∙ sym copied,
-      subst AreTasks (sym copied) (are_tasks c.in_ok-opening.opening.tasks c.in_ok-opening.ensures.begins.tasks),
+      subst AreTasks (sym copied) (are_tasks c.in_ok-opening.opening.tasks c.in_ok-opening.ensures.tasks),
     )
