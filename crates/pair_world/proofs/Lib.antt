@@ -1,0 +1,8 @@
+mod Lines
+mod CueCalls
+mod Sides
+mod Made
+mod Kits
+mod Taking
+mod Journals
+mod Linking
