@@ -51,7 +51,7 @@ pub record IsSilent (journal : List Entry) (c : ℕ) : Type 0 where
 -- the child owes nothing
 pub record IsIdle (journal : List Entry) (c : ℕ) : Type 0 where
   pub got : length (got_lines journal c) ≡ 1 + replies_to (written journal c)
-  pub open : open_jobs journal c ≡ []
+  pub none_open : open_jobs journal c ≡ []
   pub stage : stage_of settings (written journal c) ≡ Waiting
 
 -- the child owes the line to the last message, which belongs to the request of its last job
@@ -59,7 +59,7 @@ pub record IsBusy (journal : List Entry) (c : ℕ) : Type 0 where
   pub job : ℕ
   pub line : List ℕ
   pub request : HostMessage
-  pub open : open_jobs journal c ≡ job ∷ []
+  pub open_job : open_jobs journal c ≡ job ∷ []
   pub last : 1 + job ≡ length (asked_jobs journal c)
   pub got : length (got_lines journal c) ≡ replies_to (written journal c)
   pub asked : request_of journal c job ≡ Some line
