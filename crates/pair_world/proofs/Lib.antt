@@ -6,3 +6,5 @@ mod Kits
 mod Taking
 mod Journals
 mod Linking
+mod Worked
+mod Shelved
