@@ -6,3 +6,7 @@ mod Kits
 mod Taking
 mod Journals
 mod Linking
+mod PaceKits
+mod PaceSaid
+mod PaceTexts
+mod PaceHeard
