@@ -10,3 +10,12 @@ mod PaceKits
 mod PaceSaid
 mod PaceTexts
 mod PaceHeard
+mod PaceEntries
+mod PaceStarts
+mod PaceRequests
+mod PaceAsks
+mod PaceAnswers
+mod PaceGroups
+mod PaceEvents
+mod PaceHears
+mod PaceMoves
