@@ -6,18 +6,19 @@ use Rattle.std.proofs.Math.Seq.{take-add}
 use Rattle.std.proofs.lemmas.List.Elements.{filter-append}
 use Rattle.std.proofs.lemmas.List.{map-append}
 use Rattle.annex_model.specs.Lines.{text, has_newline}
-use Rattle.annex_model.specs.Messages.{HostMessage, host_line}
+use Rattle.annex_model.specs.Messages.{HostMessage}
 use Rattle.task_text.specs.declared.task.Task.{Task}
 use Rattle.journal_model.specs.declared.verdict.Why.{Why}
 use Rattle.journal_model.specs.declared.verdict.Why.TheVariants.{Full}
 use Rattle.journal_model.specs.declared.verdict.Verdict.{Verdict}
 use Rattle.journal_model.specs.declared.verdict.Verdict.TheVariants.{Ended}
 use Rattle.journal_model.specs.declared.entry.What.{What}
-use Rattle.journal_model.specs.declared.entry.What.TheVariants.{Claim, Start, NoStart, Ask, Put, Sent, Mute, Got, End, Verdict as Settled, Lost, Answer as Answered, Note as Noted}
+use Rattle.journal_model.specs.declared.entry.What.TheVariants.{Claim, Start, NoStart, Put, Sent, Mute, Got, End, Verdict as Settled, Lost, Answer as Answered, Note as Noted, Again}
 use Rattle.journal_model.specs.declared.entry.Entry.{Entry}
 use Rattle.journal_model.specs.declared.opening.Opening.{Opening}
-use Rattle.journal_model.specs.Journal.{each_of, sends, writes, is_started, is_ended, is_mute, is_full, got_lines, unsent, open_jobs, verdict_of, on_wire}
-use Rattle.journal_model.specs.Legality.{is_empty, count, is_start, is_claimed_by, is_prepared, least_free, task_of}
+use Rattle.journal_model.specs.declared.answer.Answer.{Answer}
+use Rattle.journal_model.specs.Journal.{each_of, sends, writes, is_started, is_ended, is_mute, is_full, got_lines, unsent, open_jobs, verdict_of}
+use Rattle.journal_model.specs.Legality.{is_empty, count, is_start, is_claimed_by, is_run_again, is_prepared, least_free, task_of, turn_of_task}
 use Rattle.journal_model.specs.Due.{due_by, due_by_got, made_by}
 use Rattle.journal_model.specs.Wires.{sent_lines}
 use Rattle.journal_model.proofs.Looks.{same, either_left, either_right, each_of-append, any-append}
@@ -25,12 +26,12 @@ use Rattle.journal_model.proofs.Soft.{is_soft, soft_verdicts, soft_got, soft_str
 use Rattle.journal_model.proofs.Linking.{sent_count, sent_count-append, got_more, text-append}
 use Rattle.journal_model.proofs.Mouths.{lines_same, covered_more}
 use Rattle.journal_model.proofs.Fresh.{other_child}
-use Rattle.talk_serial.specs.Requests.{message_of}
+use Rattle.talk_serial.specs.Requests.{message_of, name_of}
 use Rattle.host_core.specs.declared.event.Event.{Event}
 use Rattle.host_core.specs.declared.event.Event.TheVariants.{Claim as ClaimEvent, Start as StartEvent, NoStart as NoStartEvent, Ask as AskEvent, Lookup, Look, Listen, Fetch, Got as GotEvent, Stop, Sent as SentEvent, Mute as MuteEvent, Answer as AnswerEvent, Note as NoteEvent, Layouts as LayoutsEvent, Shut}
 use Rattle.host_core.specs.declared.event.Reply.{Reply}
 use Rattle.host_core.specs.declared.event.Reply.TheVariants.{Task as TaskReply, Child, Job, Read, Wait, NoTask, Gone, Over, Done}
-use Rattle.host_core.specs.Steps.{Step, step_of, group_of, append, odd, only, gone, is_gone, claim, ask, next_job, may_request, may_answer, may_add_note, may_end, is_asked, settled_so, next_line, listening, resting, layouts_for, is_awaited, is_idle, are_all_claimed, told, unless_shut, shut_for, shut_by}
+use Rattle.host_core.specs.Steps.{Step, step_of, group_of, append, odd, only, gone, is_gone, claim, ask, asking, closing, next_job, may_request, is_named_well, may_answer, may_add_note, may_end, is_asked, settled_so, next_line, listening, resting, layouts_for, is_awaited, is_idle, are_all_claimed, told, unless_shut, shut_for, shut_by}
 use Rattle.pair_world.specs.Pairs.{PairValue, new_pair}
 use Rattle.pair_world.specs.Worlds.{IsFed, IsRead}
 use Rattle.pair_world.specs.Moves.{begun_by, is_barred, is_odd}
@@ -109,11 +110,27 @@ quiet_claim o past by child None = (go (are_all_claimed o past), λ c. calm_none
     go true = refl
     go false = refl
 
-quiet_ask : (o : Opening) (past : List Entry) (by task child : ℕ) (q : HostMessage) → Quiet (ask o past by task child q)
-quiet_ask o past by task child q = quiet_if (is_gone past child) (append o past by (Lost child task) (gone past child))
-    (append o past by (Ask child (next_job past child) task (on_wire past child (next_job past child) (host_line q))) (Job (next_job past child)))
+-- a request, with or without a name before it
+calm_asking : (past : List Entry) (c by task child : ℕ) (name : Option (List ℕ)) (q : HostMessage) → Calm c (made_by by (asking past task child name q))
+calm_asking past c by task child None q = record { got = refl; sent = refl; starts = refl; started = refl }
+calm_asking past c by task child (Some name) q = record { got = refl; sent = refl; starts = refl; started = refl }
+
+-- the request is asked
+abbrev asked : (past : List Entry) (by task child : ℕ) (name : Option (List ℕ)) (q : HostMessage) → Step
+asked past by task child name q = record { reply = Job (next_job past child); group = made_by by (asking past task child name q) }
+
+quiet_ask : (o : Opening) (past : List Entry) (by task child : ℕ) (name : Option (List ℕ)) (q : HostMessage) → Quiet (ask o past by task child name q)
+quiet_ask o past by task child name q = quiet_if (is_gone past child) (append o past by (Lost child task) (gone past child)) (asked past by task child name q)
     (refl, λ c. record { got = refl; sent = refl; starts = refl; started = refl })
-    (refl, λ c. record { got = refl; sent = refl; starts = refl; started = refl })
+    (refl, λ c. calm_asking past c by task child name q)
+
+-- a task is answered, or run again in place of the answer
+calm_closing : (o : Opening) (past : List Entry) (c by task : ℕ) (answer : Answer) → Calm c (group_of o past by (closing o past task answer))
+calm_closing o past c by task answer = go (is_run_again o past task answer)
+  where
+    go : (b : Bool) → Calm c (group_of o past by (cond b (Again task answer) (Answered task answer)))
+    go true = record { got = refl; sent = refl; starts = refl; started = refl }
+    go false = record { got = refl; sent = refl; starts = refl; started = refl }
 
 quiet_settled : (v : Option Verdict) → Quiet (only (settled_so v))
 quiet_settled (Some v) = (refl, λ c. calm_none c)
@@ -163,7 +180,8 @@ quiet_event o past by (StartEvent slot offer) b s = absurd cc
 quiet_event o past by (NoStartEvent slot) b s =
     quiet_if (by == 0) (append o past by (NoStart slot) Done) odd (refl, λ c. record { got = refl; sent = refl; starts = refl; started = refl }) quiet_odd
 quiet_event o past by (AskEvent child task request) b s =
-    quiet_if (may_request past by task child (message_of request)) (ask o past by task child (message_of request)) odd (quiet_ask o past by task child (message_of request)) quiet_odd
+    let f = ask o past by task child (name_of request) (message_of request) in
+    quiet_if (may_request past by task child (message_of request) && is_named_well (name_of request)) f odd (quiet_ask o past by task child (name_of request) (message_of request)) quiet_odd
 quiet_event o past by (Lookup child job) b s =
     quiet_if (is_asked past child job) (only (settled_so (verdict_of past child job))) odd (quiet_settled (verdict_of past child job)) quiet_odd
 quiet_event o past by (Look child) b s =
@@ -180,7 +198,7 @@ quiet_event o past by (Stop child why) b s = quiet_stop o past by child why
 quiet_event o past by (SentEvent child) b s = absurd cc
 quiet_event o past by (MuteEvent child) b s = absurd cc
 quiet_event o past by (AnswerEvent task answer) b s =
-    quiet_if (may_answer past by task) (append o past by (Answered task answer) Done) odd (refl, λ c. record { got = refl; sent = refl; starts = refl; started = refl }) quiet_odd
+    quiet_if (may_answer past by task) (append o past by (closing o past task answer) Done) odd (refl, λ c. calm_closing o past c by task answer) quiet_odd
 quiet_event o past by (NoteEvent task chunk n) b s =
     quiet_if (may_add_note o past by task chunk) (append o past by (Noted task chunk n) Done) odd (refl, λ c. record { got = refl; sent = refl; starts = refl; started = refl }) quiet_odd
 quiet_event o past by (LayoutsEvent task) b s = quiet_if (is_claimed_by past by task) (layouts_for o past (task_of o task)) odd (quiet_layouts o past (task_of o task)) quiet_odd
@@ -235,12 +253,15 @@ refused_only r e = refl
 refused_odd : Refused odd
 refused_odd e = refl
 
--- an entry is answered otherwise
+-- a step that is answered otherwise isn't refused
+refused_not : (s : Step) → is_odd s.reply ≡ false → Refused s
+refused_not s other e = let bad : false ≡ true = sym other ∙ e in absurd cc
+
 refused_append : (o : Opening) (past : List Entry) (by : ℕ) (w : What) (r : Reply) → is_odd r ≡ false → Refused (append o past by w r)
-refused_append o past by w r not e = let bad : false ≡ true = sym not ∙ e in absurd cc
+refused_append o past by w r other = refused_not (append o past by w r) other
 
 refused_claim : (o : Opening) (past : List Entry) (by child : ℕ) (free : Option ℕ) → Refused (claim o past by child free)
-refused_claim o past by child (Some t) = refused_append o past by (Claim t child) (TaskReply t) refl
+refused_claim o past by child (Some t) = refused_append o past by (Claim t child) (TaskReply t (turn_of_task past t)) refl
 refused_claim o past by child None = refused_only (cond (are_all_claimed o past) NoTask Wait)
 
 refused_layouts : (o : Opening) (past : List Entry) (task : Option Task) → Refused (layouts_for o past task)
@@ -259,12 +280,11 @@ refused_step o past by (StartEvent slot offer) =
 refused_step o past by (NoStartEvent slot) = refused_if (by == 0) (append o past by (NoStart slot) Done) odd (refused_append o past by (NoStart slot) Done refl) refused_odd
 refused_step o past by (AskEvent child task request) =
     let q = message_of request in
-    let job = next_job past child in
+    let name = name_of request in
     let lost = append o past by (Lost child task) (gone past child) in
-    let asked = append o past by (Ask child job task (on_wire past child job (host_line q))) (Job job) in
-    refused_if (may_request past by task child q) (ask o past by task child q) odd
-    (refused_if (is_gone past child) lost asked (refused_append o past by (Lost child task) (gone past child) refl)
-    (refused_append o past by (Ask child job task (on_wire past child job (host_line q))) (Job job) refl)) refused_odd
+    let said = asked past by task child name q in
+    refused_if (may_request past by task child q && is_named_well name) (ask o past by task child name q) odd
+    (refused_if (is_gone past child) lost said (refused_append o past by (Lost child task) (gone past child) refl) (refused_not said refl)) refused_odd
 refused_step o past by (Lookup child job) = refused_if (is_asked past child job) (only (settled_so (verdict_of past child job))) odd (refused_only (settled_so (verdict_of past child job))) refused_odd
 refused_step o past by (Look child) =
     refused_if (not (is_started past child)) odd (cond (is_gone past child) (only (gone past child)) (only Done)) refused_odd
@@ -290,7 +310,8 @@ refused_step o past by (SentEvent child) = refused_if (is_empty (unsent past chi
 refused_step o past by (MuteEvent child) =
     refused_if (is_started past child && not (is_mute past child)) (append o past by (Mute child) Done) odd (refused_append o past by (Mute child) Done refl) refused_odd
 refused_step o past by (AnswerEvent task answer) =
-    refused_if (may_answer past by task) (append o past by (Answered task answer) Done) odd (refused_append o past by (Answered task answer) Done refl) refused_odd
+    let w = closing o past task answer in
+    refused_if (may_answer past by task) (append o past by w Done) odd (refused_append o past by w Done refl) refused_odd
 refused_step o past by (NoteEvent task chunk n) =
     refused_if (may_add_note o past by task chunk) (append o past by (Noted task chunk n) Done) odd (refused_append o past by (Noted task chunk n) Done refl) refused_odd
 refused_step o past by (LayoutsEvent task) = refused_if (is_claimed_by past by task) (layouts_for o past (task_of o task)) odd (refused_layouts o past (task_of o task)) refused_odd

@@ -6,16 +6,18 @@ mod Kits
 mod Taking
 mod Journals
 mod Linking
-mod PaceKits
-mod PaceSaid
-mod PaceTexts
-mod PaceHeard
-mod PaceEntries
-mod PaceStarts
-mod PaceRequests
-mod PaceAsks
-mod PaceAnswers
-mod PaceGroups
-mod PaceEvents
-mod PaceHears
-mod PaceMoves
+pub mod PaceKits
+pub mod PaceSaid
+pub mod PaceTexts
+pub mod PaceHeard
+pub mod PaceEntries
+pub mod PaceStarts
+pub mod PaceRequests
+pub mod PaceAsks
+pub mod PaceAnswers
+pub mod PaceGroups
+pub mod PaceEvents
+pub mod PaceHears
+pub mod PaceMoves
+mod Worked
+mod Shelved

@@ -8,10 +8,10 @@ use Rattle.wire_line.specs.HeldBytes.{first_line, after_line}
 use Rattle.kit_core.specs.declared.call.Said.{Said}
 use Rattle.kit_core.specs.declared.call.Call.{Call}
 use Rattle.kit_core.specs.Kits.{Heard, lines_to}
-use Rattle.kit_core.specs.Stages.{Follows, is_free}
+use Rattle.kit_core.specs.Stages.{KitValue, Follows, is_free}
 use Rattle.pair_world.specs.declared.taken.Taken.{Taken}
 use Rattle.pair_world.specs.Shelves.{Items}
-use Rattle.pair_world.specs.Cues.{settings}
+use Rattle.pair_world.specs.Cues.{CueValue, settings}
 use Rattle.pair_world.specs.Pairs.{PairValue, heard, heard_by}
 use Rattle.pair_world.specs.Works.{is_waiting, has_whole, word_for, call_for, request_with, last_said, Serves, StepsBy, Takes}
 use Rattle.pair_world.specs.Outcomes.{TakesOne}
@@ -97,8 +97,11 @@ work_done keys files k f view old new m call say line bytes answer word same fol
     first : host_reading (first_line view.at_kit) ≡ Some m
     first = ap host_reading (sym whole.1) ∙ reads
 
-pub of_some : (o : Option (List ℕ)) (line : List ℕ) (P : Type 0) (Q : List ℕ → Type 0) → o ≡ Some line → MatchOption o P Q → Q line
-of_some o line P Q e m = subst (λ (x : Option (List ℕ)). MatchOption x P Q) e m
+pub of_some : {X : Type 0} (o : Option X) (x : X) (P : Type 0) (Q : X → Type 0) → o ≡ Some x → MatchOption o P Q → Q x
+of_some {X = X} o x P Q e m = subst (λ (y : Option X). MatchOption y P Q) e m
+
+pub of_none : {X : Type 0} (o : Option X) (P : Type 0) (Q : X → Type 0) → o ≡ None → MatchOption o P Q → P
+of_none {X = X} o P Q e m = subst (λ (y : Option X). MatchOption y P Q) e m
 
 pub whole_ends : (side : List ℕ) → has_whole side ≡ true → has_newline side ≡ true
 whole_ends side h = go (has_newline side) (nat_le (length (first_line side)) 131072) h
@@ -106,3 +109,14 @@ whole_ends side h = go (has_newline side) (nat_le (length (first_line side)) 131
     go : (a b : Bool) → (a && b) ≡ true → a ≡ true
     go true b e = refl
     go false b e = cc
+
+-- a pair of which these parts were changed, one after the other
+pub pair_is : (view new : PairValue) (kit : KitValue CueValue) (r r' a a' h h' : List ℕ) (t t' : List Taken)
+    → new ≡ record view { kit = kit; request = r; taken = t; at_kit = a; to_host = h } → r ≡ r' → t ≡ t' → a ≡ a' → h ≡ h'
+    → new ≡ record view { kit = kit; request = r'; taken = t'; at_kit = a'; to_host = h' }
+pair_is view new kit r r' a a' h h' t t' is er et ea eh =
+    is
+    ∙ ap (λ (x : List ℕ). let p : PairValue = record view { kit = kit; request = x; taken = t; at_kit = a; to_host = h } in p) er
+    ∙ ap (λ (x : List Taken). let p : PairValue = record view { kit = kit; request = r'; taken = x; at_kit = a; to_host = h } in p) et
+    ∙ ap (λ (x : List ℕ). let p : PairValue = record view { kit = kit; request = r'; taken = t'; at_kit = x; to_host = h } in p) ea
+    ∙ ap (λ (x : List ℕ). let p : PairValue = record view { kit = kit; request = r'; taken = t'; at_kit = a'; to_host = x } in p) eh

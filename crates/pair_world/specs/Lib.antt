@@ -5,7 +5,6 @@ pub mod Works
 pub mod Outcomes
 pub mod Worlds
 pub mod Moves
-pub mod Shown
 pub mod Answered
 pub mod Paces
 pub mod Peace

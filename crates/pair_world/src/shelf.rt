@@ -1,65 +1,71 @@
 // Bytes under names, in memory.
-ghost use Rattle.std.specs.Prelude.{◌≡◌, option_copied, IfOk, OnOk};
-ghost use Rattle.pair_world.specs.Shelves.{content, without, with_item};
+ghost use Rattle.std.specs.Prelude.{◌≡◌, [], option_copied, IfOk, OnOk};
+ghost use Rattle.pair_world.specs.Shelves.{content, without, with_item, items_of};
 
-use ann_key::{Bytes, NoMemory};
+use ann_key::{Bytes, NoMemory, Text};
 use std::alloc::Global;
+use std::collections::BTreeMap;
 use std::marker::Model;
 
-/// Bytes under names. Contracts see the names with their bytes.
+/// Bytes under names. Contracts see the names with their bytes, in the rising byte order of the names.
 #[derive(Drop)]
 pub(crate) struct Shelf {
-    items: Vec<(Bytes, Bytes)>,
+    entries: BTreeMap<Vec<u8>, Vec<u8>>,
 }
 
 impl Model for Shelf {
+    ghost use Rattle.reg_file.specs.Tables.{Rises, texts_of};
     ghost use Rattle.pair_world.specs.Shelves.{Items};
 
     ghost Value = { Items };
 
-    ghost view = { λ s. s.items.items };
-}
+    ghost view = { λ s. texts_of s.entries.entries };
 
-// The bytes of the first item of that name.
-fn find<'a>(items: &'a [(Bytes, Bytes)], name: &[u8]) -> Option<&'a [u8]>
-    ensures { option_copied result ≡ content name.now items.entry.now }
-{
-    for item in items {
-        if item.0.view() == name {
-            return Some(item.1.view());
-        }
-    }
-    None
-}
-
-// Takes away the items of that name.
-fn take_away(items: &mut Vec<(Bytes, Bytes)>, name: &[u8])
-    ensures { items.new.items ≡ without name.now items.old.items }
-{
-    items.retain(|item| item.0.view() != name);
+    ghost invariant = { λ s. Rises (texts_of s.entries.entries) };
 }
 
 impl Shelf {
-    /// A shelf of these. It takes no memory.
-    pub(crate) fn from_items(items: Vec<(Bytes, Bytes)>) -> Shelf
-        ensures { result ≡ items.items }
+    /// A shelf with nothing. It takes no memory.
+    pub(crate) fn new(alloc: Global) -> Shelf
+        ensures { result ≡ [] }
     {
-        Shelf { items }
+        Shelf {
+            entries: BTreeMap::new(alloc),
+        }
+    }
+
+    /// A shelf with these files, of which the last of a name counts.
+    pub(crate) fn of_files(
+        alloc: Global,
+        files: Vec<(Text, Bytes)>,
+    ) -> Result<Shelf, NoMemory>
+        ensures { IfOk result (λ shelf. shelf ≡ items_of files.items) }
+    {
+        let mut shelf = Shelf::new(alloc);
+        for file in files {
+            let (name, bytes) = file;
+            shelf.put(Bytes::copy(alloc, name.view().as_bytes())?, bytes)?;
+        }
+        Ok(shelf)
     }
 
     /// The bytes under the name, if there are any.
     pub(crate) fn find(&self, name: &[u8]) -> Option<&[u8]>
         ensures { option_copied result ≡ content name.now self.now }
     {
-        find(self.items.as_slice(), name)
+        match self.entries.get(name) {
+            Some(bytes) => Some(bytes.as_slice()),
+            None => None,
+        }
     }
 
     /// Puts the bytes under the name, in place of what stood there.
     pub(crate) fn put(&mut self, name: Bytes, bytes: Bytes) -> Result<(), NoMemory>
         ensures { OnOk result (self.new ≡ with_item name bytes self.old) }
     {
-        take_away(&mut self.items, name.view());
-        self.items.push((name, bytes))?;
+        let name = name.into_vec();
+        let bytes = bytes.into_vec();
+        self.entries.insert(name, bytes)?;
         Ok(())
     }
 
@@ -67,7 +73,7 @@ impl Shelf {
     pub(crate) fn remove(&mut self, name: &[u8])
         ensures { self.new ≡ without name.now self.old }
     {
-        take_away(&mut self.items, name);
+        self.entries.remove(name);
     }
 
     /// A copy of the bytes under the name, if there are any.

@@ -1,11 +1,10 @@
 ghost use Rattle.std.specs.Prelude.{◌≡◌, ◌+◌, ◌++◌, ◌<◌, ◌^◌, ◌||◌, not, [], true, false, length, option_copied, MatchOption, IfOk, OnOk, slice_get, None, Some};
 ghost use Rattle.journal_model.specs.Beginnings.{MayBegin};
-ghost use Rattle.pair_world.specs.Shelves.{content};
+ghost use Rattle.pair_world.specs.Shelves.{content, items_of};
 ghost use Rattle.pair_world.specs.Pairs.{is_child};
-ghost use Rattle.pair_world.specs.Worlds.{Stands};
+ghost use Rattle.pair_world.specs.Worlds.{AreLinked};
 ghost use Rattle.pair_world.specs.Moves.{Moves, is_barred, is_silent, is_long, is_gone, heard_event, left_at};
 ghost use Rattle.pair_world.specs.Works.{answered};
-ghost use Rattle.pair_world.specs.Shown.{AreDistinct};
 ghost use Rattle.pair_world.specs.declared.step.Move.TheVariants.{Event as EventMove, Write, ToKit, Work as WorkMove, ToHost, Hear, End};
 
 use crate::answer::Answer;
@@ -105,18 +104,6 @@ fn settle(pair: &mut Pair, reply: &Reply)
     }
 }
 
-// The files by names as bytes.
-fn named(alloc: Global, files: Vec<(Text, Bytes)>) -> Result<Vec<(Bytes, Bytes)>, NoMemory>
-    ensures { IfOk result (λ items. items.items ≡ files.items) }
-{
-    let mut items = Vec::new(alloc);
-    for file in files {
-        let (name, bytes) = file;
-        items.push((Bytes::copy(alloc, name.view().as_bytes())?, bytes))?;
-    }
-    Ok(items)
-}
-
 // The answer of a kit is added, where it gave one.
 fn keep_answer(
     alloc: Global,
@@ -141,30 +128,29 @@ fn keep_answer(
 }
 
 impl World {
-    /// A world with no child, in which no key is stored, and these are the files.
+    /// A world with no child, in which no key is stored, and these are the files. The last of a name counts.
     pub fn new(
         alloc: Global,
         opening: Opening,
         files: Vec<(Text, Bytes)>,
     ) -> Result<World, NoMemory>
-        requires begins { MayBegin opening }
-        requires distinct { AreDistinct files.items }
-        ensures begun { IfOk result (λ world. world ≡ record { opening = opening; journal = []; shut = false; keys = []; files = files.items; pairs = []; answers = [] }) }
-        ensures stands { IfOk result Stands }
+        requires { MayBegin opening }
+        ensures begun { IfOk result (λ world. world ≡ record { opening = opening; journal = []; shut = false; keys = []; files = items_of files.items; pairs = []; answers = [] }) }
+        ensures stands { IfOk result AreLinked }
     {
-        let files = named(alloc, files)?;
+        let files = Shelf::of_files(alloc, files)?;
         Ok(World {
             alloc,
             core: Core::new(alloc, opening)?,
-            keys: Shelf::from_items(Vec::new(alloc)),
-            files: Shelf::from_items(files),
+            keys: Shelf::new(alloc),
+            files,
             pairs: Vec::new(alloc),
             answers: Vec::new(alloc),
         })
     }
 
     fn event(&mut self, by: u32, event: Event) -> Result<Moved, NoMemory>
-        requires { Stands self.old }
+        requires { AreLinked self.old }
         ensures moves { IfOk result (λ moved. Moves self.old (EventMove by event) moved self.new) }
         ensures few { OnOk result (length self.new.journal < 2 ^ 64) }
     {
@@ -183,7 +169,7 @@ impl World {
     }
 
     fn write(&mut self, child: u32) -> Result<Moved, NoMemory>
-        requires { Stands self.old }
+        requires { AreLinked self.old }
         ensures moves { IfOk result (λ moved. Moves self.old (Write child) moved self.new) }
         ensures few { OnOk result (length self.new.journal < 2 ^ 64) }
     {
@@ -203,7 +189,7 @@ impl World {
     }
 
     fn to_kit(&mut self, child: u32, n: u32) -> Result<Moved, NoMemory>
-        requires { Stands self.old }
+        requires { AreLinked self.old }
         ensures moves { IfOk result (λ moved. Moves self.old (ToKit child n) moved self.new) }
         ensures few { OnOk result (length self.new.journal < 2 ^ 64) }
     {
@@ -220,7 +206,7 @@ impl World {
     }
 
     fn to_host(&mut self, child: u32, n: u32) -> Result<Moved, NoMemory>
-        requires { Stands self.old }
+        requires { AreLinked self.old }
         ensures moves { IfOk result (λ moved. Moves self.old (ToHost child n) moved self.new) }
         ensures few { OnOk result (length self.new.journal < 2 ^ 64) }
     {
@@ -237,7 +223,7 @@ impl World {
     }
 
     fn work(&mut self, child: u32) -> Result<Moved, NoMemory>
-        requires { Stands self.old }
+        requires { AreLinked self.old }
         ensures moves { IfOk result (λ moved. Moves self.old (WorkMove child) moved self.new) }
         ensures few { OnOk result (length self.new.journal < 2 ^ 64) }
     {
@@ -257,7 +243,7 @@ impl World {
     }
 
     fn hear(&mut self, child: u32) -> Result<Moved, NoMemory>
-        requires { Stands self.old }
+        requires { AreLinked self.old }
         ensures moves { IfOk result (λ moved. Moves self.old (Hear child) moved self.new) }
         ensures few { OnOk result (length self.new.journal < 2 ^ 64) }
     {
@@ -277,7 +263,7 @@ impl World {
     }
 
     fn end(&mut self, child: u32) -> Result<Moved, NoMemory>
-        requires { Stands self.old }
+        requires { AreLinked self.old }
         ensures moves { IfOk result (λ moved. Moves self.old (End child) moved self.new) }
         ensures few { OnOk result (length self.new.journal < 2 ^ 64) }
     {
@@ -298,7 +284,7 @@ impl World {
     }
 
     fn make(&mut self, step: Move) -> Result<Moved, NoMemory>
-        requires { Stands self.old }
+        requires { AreLinked self.old }
         ensures moves { IfOk result (λ moved. Moves self.old step moved self.new) }
         ensures few { OnOk result (length self.new.journal < 2 ^ 64) }
     {
@@ -315,9 +301,9 @@ impl World {
 
     /// Makes the move, where it can be made. After `NoMemory` the world isn't used again.
     pub fn step(&mut self, step: Move) -> Result<Moved, NoMemory>
-        requires { Stands self.old }
+        requires { AreLinked self.old }
         ensures moves { IfOk result (λ moved. Moves self.old step moved self.new) }
-        ensures stands { OnOk result (Stands self.new) }
+        ensures stands { OnOk result (AreLinked self.new) }
     {
         self.make(step)
     }
