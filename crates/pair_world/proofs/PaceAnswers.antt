@@ -109,7 +109,8 @@ pub due_version : (o : Opening) (past : List Entry) (c : ℕ) (line : List ℕ) 
 due_version o past c line untagged none reads =
     let fault = ending past c (ErrorAt (length past)) in
     let wrong = ending past c (VersionFault (length past)) in
-    ap (λ (a : Option ℕ × List ℕ). cond (is_error (remote_reading a.1)) fault (cond (not (has_spoken past c)) (cond (is_version_one (remote_reading line)) [] wrong) (after_line o past c a.0 (remote_reading a.1)))) (untagged_line past c line untagged)
+    ap (λ (a : Option ℕ × List ℕ). cond (is_error (remote_reading a.1)) fault (cond (not (has_spoken past c)) (cond (is_version_one (remote_reading line)) [] wrong) (after_line o past c a.0 (remote_reading a.1))))
+    (untagged_line past c line untagged)
     ∙ ap (λ (x : Option RemoteMessage). cond (is_error x) fault (cond (not (has_spoken past c)) (cond (is_version_one x) [] wrong) (after_line o past c (first_of (open_jobs past c)) x))) reads
     ∙ ap (λ (x : Bool). cond {A = List What} (not x) [] (after_line o past c (first_of (open_jobs past c)) (Some (Version 1)))) (mute past none)
   where

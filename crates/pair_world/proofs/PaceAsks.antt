@@ -154,7 +154,8 @@ one_open past group c job none fresh jobs settled =
     ap (λ (b : Bool). cond {A = List ℕ} b (job ∷ []) []) (stay job ∙ ap not fresh) in
     ap (filter (λ (j : ℕ). not (is_settled now c j))) (each_of-append (asks c) past group ∙ ap (λ (ks : List ℕ). asked_jobs past c ++ ks) jobs)
     ∙ filter-append (λ (j : ℕ). not (is_settled now c j)) (asked_jobs past c) (job ∷ [])
-    ∙ ap (λ (ks : List ℕ). ks ++ filter (λ (j : ℕ). not (is_settled now c j)) (job ∷ [])) (filter_alike (λ (j : ℕ). not (is_settled now c j)) (λ (j : ℕ). not (is_settled past c j)) stay (asked_jobs past c) ∙ none)
+    ∙ ap (λ (ks : List ℕ). ks ++ filter (λ (j : ℕ). not (is_settled now c j)) (job ∷ []))
+    (filter_alike (λ (j : ℕ). not (is_settled now c j)) (λ (j : ℕ). not (is_settled past c j)) stay (asked_jobs past c) ∙ none)
     ∙ last
 
 lines_grown : (past group : List Entry) (c job : ℕ) (line : List ℕ) (q : HostMessage) (a : Asking past group c job line q) → written_lines (past ++ group) c ≡ written_lines past c ++ (a.front ++ line ∷ [])
@@ -208,7 +209,8 @@ busy_from o past group c job line legal names s a =
     }
 
 -- the child is in step then
-asks_in_step : (o : Opening) (past group : List Entry) (c job : ℕ) (line : List ℕ) → Legal o past → NamesNoLine c group → ChildInStep past c → is_mute group c ≡ false → is_tagged (past ++ group) c ≡ is_tagged past c
+asks_in_step : (o : Opening) (past group : List Entry) (c job : ℕ) (line : List ℕ) → Legal o past → NamesNoLine c group → ChildInStep past c → is_mute group c ≡ false
+    → is_tagged (past ++ group) c ≡ is_tagged past c
     → (s : Asked past c job line) → Asking past group c job line s.request → ChildInStep (past ++ group) c
 asks_in_step o past group c job line legal names h unmuted tagged s a = record {
   unmuted = any_same (mutes c) past group unmuted ∙ h.unmuted;
