@@ -5,4 +5,5 @@ pub mod Endless
 pub mod Fields
 pub mod FirstLines
 pub mod Following
+pub mod KeyLines
 pub mod Waiting

@@ -6,5 +6,18 @@ mod Kits
 mod Taking
 mod Journals
 mod Linking
+pub mod PaceKits
+pub mod PaceSaid
+pub mod PaceTexts
+pub mod PaceHeard
+pub mod PaceEntries
+pub mod PaceStarts
+pub mod PaceRequests
+pub mod PaceAsks
+pub mod PaceAnswers
+pub mod PaceGroups
+pub mod PaceEvents
+pub mod PaceHears
+pub mod PaceMoves
 mod Worked
 mod Shelved

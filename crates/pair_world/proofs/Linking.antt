@@ -258,7 +258,7 @@ no_child pairs c h = go (c == 0) refl
     go false e = let past : length pairs ≤ c - 1 = grind (arith, nat_tests) in get_or_past pairs (c - 1) no_pair past
 
 -- so a child whose pipe or side passes a test that nothing passes is there
-there : (pairs : List PairValue) (c : ℕ) (f : PairValue → Bool) → f no_pair ≡ true → f (pair_of pairs c) ≡ false → is_child pairs c ≡ true
+pub there : (pairs : List PairValue) (c : ℕ) (f : PairValue → Bool) → f no_pair ≡ true → f (pair_of pairs c) ≡ false → is_child pairs c ≡ true
 there pairs c f none some = go (is_child pairs c) refl
   where
     go : (b : Bool) → is_child pairs c ≡ b → b ≡ true
@@ -412,7 +412,7 @@ links_write old c reply new some d h few = go (unsent old.journal c) refl
         (linked_written old.journal 0 c (pair_of old.pairs c) w ws e (h.linked c k))
 
 -- a message is read only of a whole line
-message_reads : (side : List ℕ) (m : HostMessage) → next_message side ≡ Some m → (has_newline side ≡ true) × (host_reading (first_line side) ≡ Some m)
+pub message_reads : (side : List ℕ) (m : HostMessage) → next_message side ≡ Some m → (has_newline side ≡ true) × (host_reading (first_line side) ≡ Some m)
 message_reads side m e = go (has_newline side) (nat_le (length (first_line side)) 131072) refl e
   where
     go : (a b : Bool) → has_newline side ≡ a → cond (a && b) (host_reading (first_line side)) None ≡ Some m → (has_newline side ≡ true) × (host_reading (first_line side) ≡ Some m)
@@ -431,7 +431,7 @@ links_work old c (Some m) reply new e d k h =
     (linked_taken old.journal c old.keys old.files (pair_of old.pairs c) t.pair m t.asked t.line r.0 r.1 t.takes (h.linked c k))
 
 -- where something is at the host's side and its first line isn't too long, the line is whole
-not_silent : (side : List ℕ) → is_silent side ≡ false → is_long side ≡ false → has_newline side ≡ true
+pub not_silent : (side : List ℕ) → is_silent side ≡ false → is_long side ≡ false → has_newline side ≡ true
 not_silent side some short = go (has_newline side) refl
   where
     go : (b : Bool) → has_newline side ≡ b → b ≡ true
@@ -442,7 +442,7 @@ not_silent side some short = go (has_newline side) refl
         absurd (grind (arith, nat_tests))
 
 -- the two ways of a line of a live child: it is got, or the journal is full and ends the child
-step_got : (o : Opening) (past : List Entry) (c : ℕ) (line : List ℕ) (full : Bool) → is_started past c ≡ true → has_newline line ≡ false → is_ended past c ≡ false
+pub step_got : (o : Opening) (past : List Entry) (c : ℕ) (line : List ℕ) (full : Bool) → is_started past c ≡ true → has_newline line ≡ false → is_ended past c ≡ false
     → is_full past ≡ full
     → step_of o past 0 (GotEvent c line) ≡ cond full (append o past 0 (End c Full) (Gone (Some Full))) (append o past 0 (Got c line) Done)
 step_got o past c line full s n e f = rw (s, n, e, f) refl
