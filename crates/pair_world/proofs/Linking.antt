@@ -61,13 +61,13 @@ pair_at pairs c low = go (c == 0) refl
     go false e = refl
     go true e = absurd (grind (arith, nat_tests))
 
-set_same : (pairs : List PairValue) (c : ℕ) (p : PairValue) → is_child pairs c ≡ true → pair_of (with_pair pairs c p) c ≡ p
+pub set_same : (pairs : List PairValue) (c : ℕ) (p : PairValue) → is_child pairs c ≡ true → pair_of (with_pair pairs c p) c ≡ p
 set_same pairs c p k =
     let low = child_low pairs c k in
     let high = child_high pairs c k in
     pair_at (with_pair pairs c p) c low ∙ get_or-set_same pairs (c - 1) p no_pair (omega arith)
 
-set_other : (pairs : List PairValue) (c d : ℕ) (p : PairValue) → 0 < c → 0 < d → (c == d) ≡ false → pair_of (with_pair pairs c p) d ≡ pair_of pairs d
+pub set_other : (pairs : List PairValue) (c d : ℕ) (p : PairValue) → 0 < c → 0 < d → (c == d) ≡ false → pair_of (with_pair pairs c p) d ≡ pair_of pairs d
 set_other pairs c d p low there apart =
     pair_at (with_pair pairs c p) d there
     ∙ get_or-set_other pairs (c - 1) (d - 1) p no_pair (λ e. (let equal : d ≡ c = omega arith in absurd (differ (ap (λ n. c == n) (sym equal) ∙ apart))))
@@ -246,7 +246,7 @@ linked_heard o past c p whole h =
 -- ---- the moves
 
 -- a move of child c can be made only where there is such a child
-none_amiss : (n : ℕ) → is_amiss n [] ≡ true
+pub none_amiss : (n : ℕ) → is_amiss n [] ≡ true
 none_amiss n = grind (arith, nat_tests)
 
 -- with no child of that number, nothing is at its sides
@@ -258,7 +258,7 @@ no_child pairs c h = go (c == 0) refl
     go false e = let past : length pairs ≤ c - 1 = grind (arith, nat_tests) in get_or_past pairs (c - 1) no_pair past
 
 -- so a child whose pipe or side passes a test that nothing passes is there
-there : (pairs : List PairValue) (c : ℕ) (f : PairValue → Bool) → f no_pair ≡ true → f (pair_of pairs c) ≡ false → is_child pairs c ≡ true
+pub there : (pairs : List PairValue) (c : ℕ) (f : PairValue → Bool) → f no_pair ≡ true → f (pair_of pairs c) ≡ false → is_child pairs c ≡ true
 there pairs c f none some = go (is_child pairs c) refl
   where
     go : (b : Bool) → is_child pairs c ≡ b → b ≡ true
@@ -412,7 +412,7 @@ links_write old c reply new some d h few = go (unsent old.journal c) refl
         (linked_written old.journal 0 c (pair_of old.pairs c) w ws e (h.linked c k))
 
 -- a message is read only of a whole line
-message_reads : (side : List ℕ) (m : HostMessage) → next_message side ≡ Some m → (has_newline side ≡ true) × (host_reading (first_line side) ≡ Some m)
+pub message_reads : (side : List ℕ) (m : HostMessage) → next_message side ≡ Some m → (has_newline side ≡ true) × (host_reading (first_line side) ≡ Some m)
 message_reads side m e = go (has_newline side) (nat_le (length (first_line side)) 131072) refl e
   where
     go : (a b : Bool) → has_newline side ≡ a → cond (a && b) (host_reading (first_line side)) None ≡ Some m → (has_newline side ≡ true) × (host_reading (first_line side) ≡ Some m)
