@@ -255,7 +255,7 @@ noted_empty w pairs answers c = record {
 }
   where
     none : {X : Type 0} (g : PairValue → X) → g (pair_of w.pairs c) ≡ g no_pair
-    none g = ap (λ (ps : List PairValue). g (pair_of ps c)) pairs ∙ by_either (c == 0) (λ zero. rw zero refl) (λ some. rw some refl)
+    none g = ap (λ (ps : List PairValue). g (pair_of ps c)) pairs ∙ by_either (c == 0) (λ nought. rw nought refl) (λ some. rw some refl)
 
     taken_none : (pair_of w.pairs c).taken ≡ []
     taken_none = none (λ p. p.taken)
