@@ -12,7 +12,7 @@ use Rattle.annex_model.specs.Messages.{HostMessage, AskExtensions, Prepare, Init
 use Rattle.journal_model.proofs.Looks.{both, either_left, either_right, true_not_false}
 use Rattle.kit_core.specs.declared.call.Asked.{Asked}
 use Rattle.kit_core.specs.declared.call.Call.{Call}
-use Rattle.kit_core.specs.Kits.{Heard, messages, is_value, is_error, is_readying, request_of, values_of, next_setting, awaits_value, is_unexpected, ends_kit, is_over, is_prepared, final_line, Due, Silence, Line, Asks, refusal, transfer_asked, readying, work_due, expected_due, live_due, due_of, said_by, asked_by, IsAskedBy, lines_to, IsServed, IsServedBehind}
+use Rattle.kit_core.specs.Kits.{Heard, messages, is_value, is_error, is_readying, request_of, values_of, next_setting, awaits_value, is_unexpected, ends_kit, is_over, is_prepared, final_line, Due, Silence, Line, Asks, refusal, transfer_asked, readying, work_due, expected_due, live_due, due_of, said_by, asked_by, IsAskedBy, lines_to, IsServed}
 use Rattle.kit_core.specs.Stages.{KitValue, Follows, stage_of, is_free}
 use Rattle.kit_core.proofs.Behind.{request_pushed, values_pushed, some_behind-push, request_of-push, values_of-push, messages-push}
 use Rattle.kit_core.proofs.Waiting.{free_followed}
@@ -22,6 +22,7 @@ use Rattle.pair_world.specs.Pairs.{heard, heard_by, is_spelled, are_spelled, tak
 use Rattle.pair_world.specs.Works.{request_with, last_said}
 use Rattle.pair_world.specs.Answered.{request_taken, noted, answers_to}
 use Rattle.pair_world.proofs.Taking.{heard_more}
+use Rattle.pair_world.proofs.PaceSaid.{served_front}
 use Rattle.pair_world.proofs.AnswerNotes.{answers_push, request_push}
 
 -- ---- what a message is to the requests
@@ -186,15 +187,7 @@ comes h e ok asked = there (request_of-push ms m) (values_of-push ms m)
         (comes_in (is_prepared h) over awaits (request_of ms) (request_of (ms ++ m ∷ [])) (values_of ms) m e.call expected
         (subst (λ (x : List (List ℕ)). IsAskedBy (due_by x) e.call) v asked))))
 
--- ---- prefixes
-
--- all but the last of what was served was served
-pub served_pop : (before h : List Heard) (e : Heard) → IsServedBehind settings before (h ++ e ∷ [])
-    → IsServedBehind settings before h × IsAskedBy (due_of settings (before ++ h) e.message) e.call
-served_pop before [] e s = (tt, subst (λ (b : List Heard). IsAskedBy (due_of settings b e.message) e.call) (sym (append-nil before)) s.0)
-served_pop before (x ∷ rest) e s =
-    let r = served_pop (before ++ x ∷ []) rest e s.1 in
-    ((s.0, r.0), subst (λ (b : List Heard). IsAskedBy (due_of settings b e.message) e.call) (append_assoc before (x ∷ []) rest) r.1)
+-- ---- all lines that were taken
 
 -- what holds of no line, and behind one more, holds of all
 pub by_last : {X : Type 0} (P : List X → Type 0) → P [] → ((xs : List X) (x : X) → P xs → P (xs ++ x ∷ [])) → (xs : List X) → P xs
@@ -230,7 +223,7 @@ last_taken before t h = by_reading (host_reading t.line) refl
         let one : Heard = record { message = m; call = t.call } in
         let more : heard (before ++ t ∷ []) ≡ heard before ++ one ∷ [] = heard_more before t.line t.call m e in
         let over : is_over settings (messages (heard before ++ one ∷ [])) ≡ false = ap (λ (l : List Heard). is_over settings (messages l)) (sym more) ∙ h.expected in
-        let served = served_pop [] (heard before) one (subst (IsServed settings) more h.served) in
+        let served = served_front [] (heard before) one (subst (IsServed settings) more h.served) in
         record {
           message = m;
           reads = e;

@@ -12,6 +12,7 @@ use Rattle.journal_model.specs.declared.entry.Entry.{Entry}
 use Rattle.journal_model.specs.Beginnings.{MayBegin}
 use Rattle.journal_model.specs.Journal.{each_of, writes, got_lines, open_jobs, asked_jobs, is_live, is_mute, is_tagged}
 use Rattle.journal_model.specs.Parts.{part}
+use Rattle.journal_model.specs.Registers.{settings as settings_made}
 use Rattle.kit_core.specs.declared.call.Call.{Call}
 use Rattle.kit_core.specs.declared.kit.Stage.TheVariants.{Waiting}
 use Rattle.kit_core.specs.Calls.{is_line_said}
@@ -93,11 +94,12 @@ pub record KeepsStep (journal : List Entry) (c : ℕ) : Type 0 where
   pub untagged : is_tagged journal c ≡ false
   pub turn : IsSilent journal c ⊎ (IsIdle journal c ⊎ IsBusy journal c)
 
--- So it is of each child, from what a run may begin with. No child was found mute, and behind its end too a child's kit expects what
--- was written to it.
+-- So it is of each child, from what a run may begin with. No kit set anything, no child was found mute, and behind its end too a
+-- child's kit expects what was written to it.
 pub record AreInStep (w : WorldValue) : Type 0 where
   pub begins : MayBegin w.opening
   pub kept : IsKept w.opening.registers
+  pub unset : settings_made w.journal ≡ []
   pub unmuted : (c : ℕ) → is_mute w.journal c ≡ false
   pub expected : (c : ℕ) → IsExpected w.journal c
   pub whole : (c : ℕ) → list_all is_whole (pair_of w.pairs c).taken ≡ true
