@@ -192,14 +192,16 @@ asked_plain past c job line (Some q) h =
 
 -- ---- what is written
 
+pub untagged_text : (past : List Entry) (c : ℕ) (line : List ℕ) → is_tagged past c ≡ false → (addressed past c line).1 ≡ line
+untagged_text past c line untagged =
+    ap (λ (b : Bool). (cond {A = Option ℕ × List ℕ} b (by_tag line (untag line)) (first_of (open_jobs past c), line)).1) untagged
+
 module _ (o : Opening) (past : List Entry) (by c : ℕ) (untagged : is_tagged past c ≡ false) where
   abbrev asked_in : List What → List (List ℕ)
   asked_in ws = requests (written_lines (made_by by ws) c)
 
   plain_text : (child : ℕ) (line : List ℕ) → (child == c) ≡ true → (addressed past child line).1 ≡ line
-  plain_text child line e =
-      ap (λ (b : Bool). (cond {A = Option ℕ × List ℕ} b (by_tag line (untag line)) (first_of (open_jobs past child), line)).1)
-      (ap (is_tagged past) (same_number child c e) ∙ untagged)
+  plain_text child line e = untagged_text past child line (ap (is_tagged past) (same_number child c e) ∙ untagged)
 
   plain_wire : (child job : ℕ) (line : List ℕ) → (child == c) ≡ true → on_wire past child job line ≡ line
   plain_wire child job line e =

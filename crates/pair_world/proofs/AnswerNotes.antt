@@ -115,8 +115,8 @@ noted_pair : (old new : WorldValue) (c : ℕ) (p : PairValue) → is_child old.p
     → p.taken ≡ (pair_of old.pairs c).taken → p.request ≡ (pair_of old.pairs c).request → AreNoted old → AreNoted new
 noted_pair old new c p k answers pairs taken request h =
     noted_kept old new answers
-    (λ d. ap (λ (ps : List PairValue). (pair_of ps d).taken) pairs ∙ same_at (λ q. q.taken) old.pairs c p k taken d)
-    (λ d. ap (λ (ps : List PairValue). (pair_of ps d).request) pairs ∙ same_at (λ q. q.request) old.pairs c p k request d) h
+    (λ d. ap (λ (ps : List PairValue). (pair_of ps d).taken) pairs ∙ same_at (λ (q : PairValue). q.taken) old.pairs c p k taken d)
+    (λ d. ap (λ (ps : List PairValue). (pair_of ps d).request) pairs ∙ same_at (λ (q : PairValue). q.request) old.pairs c p k request d) h
 
 -- ---- a kit takes a line
 
@@ -173,9 +173,9 @@ noted_take old new c m k reads t h d = by_either (c == d) here other
         (message_reads (pair_of old.pairs c).at_kit m reads).1 t.takes (h c)
 
     whole : (e : ℕ) (p : PairValue) → pair_of (with_pair old.pairs c t.pair) e ≡ p → IsNoted e p (old.answers ++ added) → IsNoted e (pair_of new.pairs e) new.answers
-    whole e p is noted =
+    whole e p is kept =
         subst (IsNoted e (pair_of new.pairs e)) (sym answers)
-        (subst (λ (q : PairValue). IsNoted e q (old.answers ++ added)) (sym (ap (λ (ps : List PairValue). pair_of ps e) pairs ∙ is)) noted)
+        (subst (λ (q : PairValue). IsNoted e q (old.answers ++ added)) (sym (ap (λ (ps : List PairValue). pair_of ps e) pairs ∙ is)) kept)
 
     here : (c == d) ≡ true → IsNoted d (pair_of new.pairs d) new.answers
     here eq = subst (λ (x : ℕ). IsNoted x (pair_of new.pairs x) new.answers) (same_number c d eq) (whole c t.pair (set_same old.pairs c t.pair k) its)
@@ -219,8 +219,8 @@ pub noted_moved : (old : WorldValue) (step : Move) (moved : Moved) (new : WorldV
 noted_moved old (EventMove by event) moved new is l h =
     by_made AreNoted (is_barred event || is_odd (reply_to old by event)) old (DoesEvent old by event) moved new is h
     (λ reply b d. noted_kept old new (ap (λ (w : WorldValue). w.answers) d.goes)
-    (λ c. ap (λ (w : WorldValue). (pair_of w.pairs c).taken) d.goes ∙ begun_at (λ p. p.taken) refl old.pairs reply c)
-    (λ c. ap (λ (w : WorldValue). (pair_of w.pairs c).request) d.goes ∙ begun_at (λ p. p.request) refl old.pairs reply c) h)
+    (λ c. ap (λ (w : WorldValue). (pair_of w.pairs c).taken) d.goes ∙ begun_at (λ (p : PairValue). p.taken) refl old.pairs reply c)
+    (λ c. ap (λ (w : WorldValue). (pair_of w.pairs c).request) d.goes ∙ begun_at (λ (p : PairValue). p.request) refl old.pairs reply c) h)
 noted_moved old (Write c) moved new is l h =
     by_made AreNoted (is_empty (unsent old.journal c) || is_ended old.journal c) old (DoesWrite old c) moved new is h
     (λ reply b d. noted_pair old new c (written_to (line_of (unsent old.journal c)) (pair_of old.pairs c))
@@ -258,7 +258,7 @@ noted_empty w pairs answers c = record {
     none g = ap (λ (ps : List PairValue). g (pair_of ps c)) pairs ∙ by_either (c == 0) (λ nought. rw nought refl) (λ some. rw some refl)
 
     taken_none : (pair_of w.pairs c).taken ≡ []
-    taken_none = none (λ p. p.taken)
+    taken_none = none (λ (p : PairValue). p.taken)
 
     request_none : (pair_of w.pairs c).request ≡ []
-    request_none = none (λ p. p.request)
+    request_none = none (λ (p : PairValue). p.request)

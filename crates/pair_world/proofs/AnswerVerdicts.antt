@@ -5,6 +5,7 @@ use Rattle.std.specs.List.{cons_option}
 use Rattle.std.specs.Option.{option_or}
 use Rattle.std.proofs.lemmas.Option.{none-some, same_Some}
 use Rattle.annex_model.specs.declared.final_line.Final.{Final}
+use Rattle.annex_model.specs.declared.final_line.Final.TheVariants.{Done}
 use Rattle.annex_model.specs.Messages.{RemoteMessage, remote_reading}
 use Rattle.annex_model.specs.Talks.{is_aside, said}
 use Rattle.annex_model.specs.Hearings.{Hearing, Aside, Part, Settles, Strange, hearing, hearing_of, request_in}
@@ -37,6 +38,7 @@ pub record Says (past : List Entry) (child : ℕ) (line : List ℕ) (c j at : �
   pub plain : is_aside message ≡ false
 
 placed_at : (f : Final) (n : ℕ) → place_in (verdict_at f n) ≡ Some n
+placed_at Done n = refl
 placed_at f n = refl
 
 -- ---- what a line makes due
@@ -171,7 +173,7 @@ group_settles o past by w may c j at v is place = absurd (none-some v is)
 -- a verdict in what a step appends
 pub step_settles : (o : Opening) (past : List Entry) (by : ℕ) (event : Event) → length past < 2 ^ 64 → (c j at : ℕ) (v : Verdict)
     → verdict_of (step_of o past by event).group c j ≡ Some v → place_in v ≡ Some at
-    → (w : What) × ((step_of o past by event).group ≡ group_of o past by w) × (may_come o past by w ≡ true) × Settling past w c j at
+    → (w : What) × ((step_of o past by event).group ≡ group_of o past by w) × Settling past w c j at
 step_settles o past by event few c j at v is place = go (step_came o past by event few)
   where
     s : Step
@@ -180,11 +182,10 @@ step_settles o past by event few c j at v is place = go (step_came o past by eve
     in_group : (group : List Entry) → s.group ≡ group → verdict_of group c j ≡ Some v
     in_group group e = sym (ap (λ (g : List Entry). verdict_of g c j) e) ∙ is
 
-    go : Came o past by s → (w : What) × (s.group ≡ group_of o past by w) × (may_come o past by w ≡ true) × Settling past w c j at
+    go : Came o past by s → (w : What) × (s.group ≡ group_of o past by w) × Settling past w c j at
     go (inl none) = absurd (none-some v (in_group [] none))
     go (inr (inl some)) =
-        let may = plain_may o past by some.0 some.1 in
-        (some.0, some.2, may, group_settles o past by some.0 may c j at v (in_group (group_of o past by some.0) some.2) place)
+        (some.0, some.2, group_settles o past by some.0 (plain_may o past by some.0 some.1) c j at v (in_group (group_of o past by some.0) some.2) place)
     go (inr (inr l)) = absurd (none-some v (in_group (pair by l.child l.job l.task l.name l.line) l.is))
 
 -- ---- the journal

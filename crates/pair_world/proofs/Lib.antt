@@ -6,3 +6,12 @@ mod Kits
 mod Taking
 mod Journals
 mod Linking
+mod PaceKits
+mod PaceSaid
+mod PaceTexts
+mod PaceHeard
+mod AnswerNotes
+mod AnswerKits
+mod AnswerAsks
+mod AnswerVerdicts
+mod AnswerMoves

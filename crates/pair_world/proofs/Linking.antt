@@ -431,7 +431,7 @@ links_work old c (Some m) reply new e d k h =
     (linked_taken old.journal c old.keys old.files (pair_of old.pairs c) t.pair m t.asked t.line r.0 r.1 t.takes (h.linked c k))
 
 -- where something is at the host's side and its first line isn't too long, the line is whole
-not_silent : (side : List ℕ) → is_silent side ≡ false → is_long side ≡ false → has_newline side ≡ true
+pub not_silent : (side : List ℕ) → is_silent side ≡ false → is_long side ≡ false → has_newline side ≡ true
 not_silent side some short = go (has_newline side) refl
   where
     go : (b : Bool) → has_newline side ≡ b → b ≡ true
