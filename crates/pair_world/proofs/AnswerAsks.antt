@@ -1,7 +1,7 @@
 -- What a legal journal writes to a child without tags: its requests are the lines of its Asks, in the order of its jobs.
-use Rattle.std.proofs.Common.{ℕ, ◌≡◌, zero, suc, Bool, true, false, not, cond, List, [], ◌∷◌, ◌++◌, length, map, Option, Some, None, refl, sym, ap, subst, ◌∙◌, arith, append-nil}
+use Rattle.std.proofs.Common.{ℕ, ◌≡◌, zero, suc, Bool, true, false, not, cond, List, [], ◌∷◌, ◌++◌, length, map, Option, Some, None, refl, sym, ap, ◌∙◌, arith, append-nil}
 use Rattle.std.specs.Prelude.{◌||◌, ◌&&◌, ◌==◌, filter, slice_get, bytes_eq}
-use Rattle.std.specs.List.{list_any, list_all, cons_option}
+use Rattle.std.specs.List.{list_any, cons_option}
 use Rattle.std.specs.Option.{option_or}
 use Rattle.std.proofs.lemmas.Bool.Decides.{nat_tests}
 use Rattle.std.proofs.lemmas.List.{map-append}
@@ -21,7 +21,7 @@ use Rattle.journal_model.specs.Journal.{each_of, first_of, asks as asks_of, writ
 use Rattle.journal_model.specs.Registers.{values_at}
 use Rattle.journal_model.specs.Replies.{Values, mixed_at, lower_at, value_line, creds_line, replies_by}
 use Rattle.journal_model.specs.Room.{is_ask}
-use Rattle.journal_model.specs.Due.{replies_said, replying, ending, due_by, due_by_got, due_after, made_by}
+use Rattle.journal_model.specs.Due.{replies_said, replying, due_by_got, due_after, made_by}
 use Rattle.journal_model.specs.Legality.{Legal, may_come, may_ask, may_lead, is_in_turn, asks_in_turn, says_name, suits_child}
 use Rattle.journal_model.proofs.Growing.{Legal-induction, none_asks, due_none_asks, no_request}
 use Rattle.journal_model.proofs.Looks.{entry, both, same_number, true_not_false, either_left, either_right, each_of-append, first_of-append, or_none}

@@ -1,24 +1,22 @@
 -- Which requests a kit has answered when it took lines that it expects: all of them, but for one that still awaits a VALUE.
-use Rattle.std.proofs.Common.{ℕ, ◌≡◌, ◌+◌, ◌≤◌, zero, suc, Bool, true, false, not, cond, List, [], ◌∷◌, ◌++◌, length, map, Option, Some, None, option_map, refl, sym, ap, subst, ◌∙◌, arith, append_assoc, append-nil, length-append}
-use Rattle.std.specs.Prelude.{◌||◌, ◌&&◌, filter, filter_map, slice_get, is_some, codes}
-use Rattle.std.specs.List.{list_all}
+use Rattle.std.proofs.Common.{ℕ, ◌≡◌, ◌+◌, suc, Bool, true, false, not, cond, List, [], ◌∷◌, ◌++◌, length, map, Option, Some, None, refl, sym, ap, subst, ◌∙◌, arith, append_assoc, append-nil, length-append}
+use Rattle.std.specs.Prelude.{◌||◌, ◌&&◌, filter, slice_get, is_some, codes}
 use Rattle.std.specs.Str.{is_utf8}
 use Rattle.std.proofs.lemmas.Option.{same_Some}
 use Rattle.std.proofs.lemmas.List.{map-append}
 use Rattle.std.proofs.lemmas.List.Elements.{filter-append}
 use Rattle.std.proofs.lemmas.List.Folds.{list_all-append}
-use Rattle.annex_model.specs.Messages.{RemoteMessage, Getconfig, remote_line}
-use Rattle.annex_model.specs.Messages.{HostMessage, AskExtensions, Prepare, Initremote, Transfer, Checkpresent, Remove, Listconfigs, Getcost, Getavailability, Getinfo, Whereis, Exportsupported, Export, Transferexport, Checkpresentexport, Removeexport, Renameexport, Value, Creds, HostError, host_reading}
-use Rattle.journal_model.proofs.Looks.{both, either_left, either_right, true_not_false}
-use Rattle.kit_core.specs.declared.call.Asked.{Asked}
+use Rattle.annex_model.specs.Messages.{Getconfig, remote_line}
+use Rattle.annex_model.specs.Messages.{HostMessage, Prepare, Initremote, Transfer, Checkpresent, Remove, Export, Value, Creds, HostError, host_reading}
+use Rattle.journal_model.proofs.Looks.{both, either_left, true_not_false}
 use Rattle.kit_core.specs.declared.call.Call.{Call}
-use Rattle.kit_core.specs.Kits.{Heard, messages, is_value, is_error, is_readying, request_of, values_of, next_setting, awaits_value, is_unexpected, ends_kit, is_over, is_prepared, final_line, Due, Silence, Line, Asks, refusal, transfer_asked, readying, work_due, expected_due, live_due, due_of, said_by, asked_by, IsAskedBy, lines_to, IsServed}
-use Rattle.kit_core.specs.Stages.{KitValue, Follows, stage_of, is_free}
+use Rattle.kit_core.specs.Kits.{Heard, messages, is_value, is_error, is_readying, request_of, values_of, next_setting, awaits_value, is_unexpected, ends_kit, is_over, is_prepared, final_line, Due, Silence, Line, Asks, refusal, transfer_asked, readying, work_due, expected_due, live_due, due_of, said_by, IsAskedBy, lines_to, IsServed}
+use Rattle.kit_core.specs.Stages.{stage_of, is_free}
 use Rattle.kit_core.proofs.Behind.{request_pushed, values_pushed, some_behind-push, request_of-push, values_of-push, messages-push}
 use Rattle.kit_core.proofs.Waiting.{free_followed}
 use Rattle.pair_world.specs.declared.taken.Taken.{Taken}
 use Rattle.pair_world.specs.Cues.{settings}
-use Rattle.pair_world.specs.Pairs.{heard, heard_by, is_spelled, are_spelled, taken_lines}
+use Rattle.pair_world.specs.Pairs.{heard, is_spelled, are_spelled, taken_lines}
 use Rattle.pair_world.specs.Works.{request_with, last_said}
 use Rattle.pair_world.specs.Answered.{request_taken, noted, answers_to}
 use Rattle.pair_world.proofs.Taking.{heard_more}
@@ -191,11 +189,11 @@ comes h e ok asked = there (request_of-push ms m) (values_of-push ms m)
 
 -- what holds of no line, and behind one more, holds of all
 pub by_last : {X : Type 0} (P : List X → Type 0) → P [] → ((xs : List X) (x : X) → P xs → P (xs ++ x ∷ [])) → (xs : List X) → P xs
-by_last {X} P base step xs = from [] xs base
+by_last {X} P base step xs = along [] xs base
   where
-    from : (front rest : List X) → P front → P (front ++ rest)
-    from front [] h = subst P (sym (append-nil front)) h
-    from front (x ∷ rest) h = subst P (append_assoc front (x ∷ []) rest) (from (front ++ x ∷ []) rest (step front x h))
+    along : (front rest : List X) → P front → P (front ++ rest)
+    along front [] h = subst P (sym (append-nil front)) h
+    along front (x ∷ rest) h = subst P (append_assoc front (x ∷ []) rest) (along (front ++ x ∷ []) rest (step front x h))
 
 -- a kit took these lines, and expected each
 pub record AreExpected (taken : List Taken) : Type 0 where

@@ -17,7 +17,7 @@ use Rattle.journal_model.specs.declared.entry.What.{What}
 use Rattle.journal_model.specs.declared.entry.What.TheVariants.{Sent, Got, End}
 use Rattle.journal_model.specs.declared.entry.Entry.{Entry}
 use Rattle.journal_model.specs.declared.opening.Opening.{Opening}
-use Rattle.journal_model.specs.Journal.{each_of, first_of, asked_jobs, open_jobs, is_open, is_settled, is_started, is_ended, is_live, is_full, is_tagged, unsent, got_lines, got_line, line_at, verdict_of, addressed}
+use Rattle.journal_model.specs.Journal.{each_of, first_of, open_jobs, is_open, is_settled, is_started, is_ended, is_live, is_full, is_tagged, unsent, got_lines, got_line, line_at, verdict_of, addressed}
 use Rattle.journal_model.specs.Due.{due_after}
 use Rattle.journal_model.specs.Legality.{is_empty}
 use Rattle.journal_model.proofs.Looks.{entry, same, same_number, true_not_false, each_of-append, first_of-append, verdict_of-append}
@@ -39,7 +39,7 @@ use Rattle.pair_world.specs.Works.{is_waiting, next_message, bytes_put, answered
 use Rattle.pair_world.specs.Worlds.{WorldValue, IsLinked, AreLinked}
 use Rattle.pair_world.specs.Moves.{Moves, is_barred, is_odd, is_unended, DoesEvent, DoesWrite, DoesToKit, DoesToHost, DoesWork, DoesHear, DoesEnd, reply_to, is_amiss, is_silent, is_long, heard_event}
 use Rattle.pair_world.specs.Paces.{IsSilent, IsIdle, IsBusy, KeepsStep, AreInStep}
-use Rattle.pair_world.specs.Answered.{place_in, line_for, request_of, answers_of, request_taken, answers_to, shown, IsAnsweredBy, AreAnswered, IsNoted, AreNoted}
+use Rattle.pair_world.specs.Answered.{line_for, request_of, answers_of, request_taken, answers_to, shown, IsAnsweredBy, AreAnswered, AreNoted}
 use Rattle.pair_world.proofs.Lines.{first_false, second_false}
 use Rattle.pair_world.proofs.Journals.{Grows, Starts, Stays, grows_event, quiet_stop}
 use Rattle.pair_world.proofs.Linking.{there, not_silent}

@@ -1,6 +1,6 @@
 -- The answers of the world are those that its kits gave.
-use Rattle.std.proofs.Common.{ℕ, ◌≡◌, ◌-◌, ◌<◌, zero, suc, Bool, true, false, not, cond, List, [], ◌∷◌, ◌++◌, get_or, Option, Some, None, option_map, refl, sym, ap, subst, ◌∙◌, arith, append_assoc, append-nil}
-use Rattle.std.specs.Prelude.{◌||◌, ◌==◌, map, filter, fold}
+use Rattle.std.proofs.Common.{ℕ, ◌≡◌, ◌-◌, ◌<◌, zero, suc, Bool, true, false, List, [], ◌∷◌, ◌++◌, get_or, Option, Some, None, option_map, refl, sym, ap, subst, ◌∙◌, arith, append_assoc, append-nil}
+use Rattle.std.specs.Prelude.{◌||◌, ◌==◌, map}
 use Rattle.std.proofs.lemmas.Bool.Decides.{nat_tests}
 use Rattle.std.proofs.lemmas.List.{map-append}
 use Rattle.std.proofs.lemmas.List.Elements.{filter-append}
@@ -31,7 +31,7 @@ use Rattle.pair_world.specs.Worlds.{WorldValue, AreLinked}
 use Rattle.pair_world.specs.Moves.{Moves, IsMade, is_barred, is_odd, is_unended, DoesEvent, DoesWrite, DoesToKit, DoesToHost, DoesTake, DoesWork, DoesHear, DoesEnd, reply_to, begun_by, line_of, is_amiss, is_silent, left_at}
 use Rattle.pair_world.specs.Answered.{answers_of, request_by, request_after, request_taken, noted, answer_with, answers_behind, answers_to, shown, IsNoted, AreNoted}
 use Rattle.pair_world.proofs.Lines.{first_false, second_false}
-use Rattle.pair_world.proofs.Linking.{child_low, set_same, set_other, no_child, there, none_amiss, none_unsent, message_reads}
+use Rattle.pair_world.proofs.Linking.{child_low, set_same, set_other, there, none_amiss, none_unsent, message_reads}
 
 -- ---- one line more
 

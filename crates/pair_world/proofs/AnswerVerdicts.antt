@@ -1,6 +1,6 @@
 -- A verdict that names a line stands behind that line, and settles a job that was open then.
 use Rattle.std.proofs.Common.{ℕ, ◌≡◌, ◌+◌, ◌<◌, ◌^◌, ◌⊎◌, inl, inr, Bool, true, false, not, cond, List, [], ◌∷◌, ◌++◌, length, map, Option, Some, None, refl, sym, ap, subst, ◌∙◌, arith, length-append}
-use Rattle.std.specs.Prelude.{◌&&◌, ◌||◌, ◌==◌, filter}
+use Rattle.std.specs.Prelude.{◌&&◌, ◌==◌, filter}
 use Rattle.std.specs.List.{cons_option}
 use Rattle.std.specs.Option.{option_or}
 use Rattle.std.proofs.lemmas.Option.{none-some, same_Some}
@@ -14,12 +14,12 @@ use Rattle.journal_model.specs.declared.verdict.Why.TheVariants.{Foul, Error as 
 use Rattle.journal_model.specs.declared.verdict.Verdict.{Verdict}
 use Rattle.journal_model.specs.declared.verdict.Verdict.TheVariants.{Ended, Unsent}
 use Rattle.journal_model.specs.declared.entry.What.{What}
-use Rattle.journal_model.specs.declared.entry.What.TheVariants.{Put, Mute, Got, End, Verdict as Settled}
+use Rattle.journal_model.specs.declared.entry.What.TheVariants.{Mute, Got, End, Verdict as Settled}
 use Rattle.journal_model.specs.declared.entry.Entry.{Entry}
 use Rattle.journal_model.specs.declared.opening.Opening.{Opening}
-use Rattle.journal_model.specs.Journal.{first_of, verdict_of, has_spoken, open_jobs, is_open, is_live, is_unsent, addressed, on_wire}
+use Rattle.journal_model.specs.Journal.{first_of, verdict_of, has_spoken, open_jobs, is_open, is_live, is_unsent, addressed}
 use Rattle.journal_model.specs.Parts.{part}
-use Rattle.journal_model.specs.Due.{verdict_at, ending, foul, replies, replying, due_by, due_by_got, due_after, after_hearing, after_late, after_message, after_line, is_passed, is_error, is_version_one, made_by}
+use Rattle.journal_model.specs.Due.{verdict_at, ending, foul, replies, replying, due_by_got, due_after, after_hearing, after_late, after_message, after_line, is_passed, is_error, is_version_one, made_by}
 use Rattle.journal_model.specs.Legality.{Legal, may_come}
 use Rattle.journal_model.proofs.Growing.{Legal-induction, pair}
 use Rattle.journal_model.proofs.Looks.{entry, same_number, verdict_of-append, settled_all, verdicts_one}
