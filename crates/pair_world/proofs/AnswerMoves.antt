@@ -120,7 +120,7 @@ first_got [] = None
 first_got (e ∷ rest) = got_of e.what
 
 no_got : {A : Type 0} (d : ℕ) (line : List ℕ) → ◌≡◌ {A = Option (ℕ × List ℕ)} None (Some (d, line)) → A
-no_got d line e = absurd (none-some (d, line) e)
+no_got d line e = absurd (none-some {A = ℕ × List ℕ} (d, line) e)
 
 -- the line that is got from the side is its first, and is no longer than it may be
 heard_first : (o : Opening) (past : List Entry) (c : ℕ) (side : List ℕ) (d : ℕ) (line : List ℕ) → first_got (step_of o past 0 (heard_event c side)).group ≡ Some (d, line)
@@ -171,7 +171,7 @@ at_last given before request line j is number =
     (sym (slice_get-map shown given j) ∙ ap (λ (l : List (List ℕ × List ℕ)). slice_get l j) is ∙ ap (slice_get (before ++ (request, line) ∷ [])) number ∙ slice_get-here before (request, line) [])
   where
     go : (o : Option Answer) → slice_get given j ≡ o → option_map shown o ≡ Some (request, line) → (a : Answer) × (slice_get given j ≡ Some a) × (a.request ≡ request) × (a.line ≡ line)
-    go None e h = absurd (none-some (request, line) h)
+    go None e h = absurd (none-some {A = List ℕ × List ℕ} (request, line) h)
     go (Some a) e h =
         let parts = some_pair_parts a.request request a.line line h in
         (a, e, parts.0, parts.1)

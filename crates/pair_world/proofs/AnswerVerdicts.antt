@@ -116,7 +116,7 @@ module _ (o : Opening) (past : List Entry) (by child : ℕ) (line : List ℕ) wh
   only_line None reads = only_ending (Foul (length past))
   only_line (Some m) reads = only_message (addressed past child line).0 m reads
 
-  pub only_got : Only (due_by_got o past child line)
+  only_got : Only (due_by_got o past child line)
   only_got = go (is_error (remote_reading (addressed past child line).1)) (not (has_spoken past child)) (is_version_one (remote_reading line))
     where
       go : (e b v : Bool) → Only (cond e (ending past child (ErrorAt (length past)))

@@ -1,5 +1,5 @@
 -- What a kit of the world says to all messages that it took: as many lines as messages are no names, each one line and none an error.
-use Rattle.std.proofs.Common.{ℕ, ◌≡◌, ◌+◌, Bool, true, false, not, cond, List, [], ◌∷◌, ◌++◌, length, map, filter, filter_map, Option, Some, None, option_map, IsTrue, codes, refl, sym, ap, subst, ◌∙◌, arith, append_assoc, length-append}
+use Rattle.std.proofs.Common.{ℕ, ◌≡◌, ◌+◌, Bool, true, false, not, cond, List, [], ◌∷◌, ◌++◌, length, map, filter, filter_map, Option, Some, None, option_map, IsTrue, codes, refl, sym, ap, subst, ◌∙◌, arith, append_assoc, append-nil, length-append}
 use Rattle.std.specs.Prelude.{◌&&◌, ◌||◌}
 use Rattle.std.specs.List.{list_all, list_any, cons_option}
 use Rattle.std.proofs.lemmas.Bool.{or_parts, or_from, and_parts, not-true}
@@ -137,11 +137,7 @@ front_goes_on ms ks over = go [] ms over
         or_from (ends_kit settings before x) (some_behind (ends_kit settings) (before ++ x ∷ []) xs) t.0 (go (before ++ x ∷ []) xs t.1)
 
 pub served_front : (before h : List Heard) (e : Heard) → IsServedBehind settings before (h ++ e ∷ []) → IsServedBehind settings before h × IsAskedBy (due_of settings (before ++ h) e.message) e.call
-served_front before [] e s = (tt, subst (λ (b : List Heard). IsAskedBy (due_of settings b e.message) e.call) (sym (nil before)) s.0)
-  where
-    nil : (xs : List Heard) → xs ++ [] ≡ xs
-    nil [] = refl
-    nil (x ∷ xs) = ap (λ (l : List Heard). x ∷ l) (nil xs)
+served_front before [] e s = (tt, subst (λ (b : List Heard). IsAskedBy (due_of settings b e.message) e.call) (sym (append-nil before)) s.0)
 served_front before (x ∷ h) e s =
     let t = served_front (before ++ x ∷ []) h e s.1 in
     ((s.0, t.0), subst (λ (b : List Heard). IsAskedBy (due_of settings b e.message) e.call) (append_assoc before (x ∷ []) h) t.1)
