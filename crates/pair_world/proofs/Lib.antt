@@ -21,3 +21,8 @@ pub mod PaceHears
 pub mod PaceMoves
 mod Worked
 mod Shelved
+mod AnswerNotes
+mod AnswerKits
+mod AnswerAsks
+mod AnswerVerdicts
+mod AnswerMoves

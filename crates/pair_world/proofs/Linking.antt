@@ -61,13 +61,13 @@ pair_at pairs c low = go (c == 0) refl
     go false e = refl
     go true e = absurd (grind (arith, nat_tests))
 
-set_same : (pairs : List PairValue) (c : ℕ) (p : PairValue) → is_child pairs c ≡ true → pair_of (with_pair pairs c p) c ≡ p
+pub set_same : (pairs : List PairValue) (c : ℕ) (p : PairValue) → is_child pairs c ≡ true → pair_of (with_pair pairs c p) c ≡ p
 set_same pairs c p k =
     let low = child_low pairs c k in
     let high = child_high pairs c k in
     pair_at (with_pair pairs c p) c low ∙ get_or-set_same pairs (c - 1) p no_pair (omega arith)
 
-set_other : (pairs : List PairValue) (c d : ℕ) (p : PairValue) → 0 < c → 0 < d → (c == d) ≡ false → pair_of (with_pair pairs c p) d ≡ pair_of pairs d
+pub set_other : (pairs : List PairValue) (c d : ℕ) (p : PairValue) → 0 < c → 0 < d → (c == d) ≡ false → pair_of (with_pair pairs c p) d ≡ pair_of pairs d
 set_other pairs c d p low there apart =
     pair_at (with_pair pairs c p) d there
     ∙ get_or-set_other pairs (c - 1) (d - 1) p no_pair (λ e. (let equal : d ≡ c = omega arith in absurd (differ (ap (λ n. c == n) (sym equal) ∙ apart))))
@@ -246,7 +246,7 @@ linked_heard o past c p whole h =
 -- ---- the moves
 
 -- a move of child c can be made only where there is such a child
-none_amiss : (n : ℕ) → is_amiss n [] ≡ true
+pub none_amiss : (n : ℕ) → is_amiss n [] ≡ true
 none_amiss n = grind (arith, nat_tests)
 
 -- with no child of that number, nothing is at its sides
