@@ -6,3 +6,7 @@ mod Kits
 mod Taking
 mod Journals
 mod Linking
+mod Storing
+mod StoredLast
+mod StoredGrants
+mod StoredMoves

@@ -10,5 +10,6 @@ pub mod Answered
 pub mod Paces
 pub mod Peace
 pub mod Stored
+pub mod StoredRows
 pub mod Standing
 pub mod Rows
