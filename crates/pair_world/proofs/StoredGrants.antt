@@ -2,7 +2,7 @@
 use Rattle.std.proofs.Common.{ℕ, ◌≡◌, ◌&&◌, ◌||◌, not, Bool, true, false, cond, List, [], ◌∷◌, ◌++◌, map, Option, Some, None, codes, bytes_eq, is_some, refl, sym, ap, subst, ◌∙◌}
 use Rattle.std.specs.Prelude.{IsTrue}
 use Rattle.std.specs.Str.{is_utf8}
-use Rattle.std.proofs.lemmas.Bool.{and_parts}
+use Rattle.std.proofs.lemmas.Bool.{and_parts, false≢true}
 use Rattle.annex_model.specs.declared.final_line.Final.TheVariants.{Done, Failed}
 use Rattle.annex_model.specs.Messages.{RemoteMessage, TransferSuccess, TransferFailure, RemoveSuccess, RemoveFailure}
 use Rattle.annex_model.specs.Messages.{HostMessage, AskExtensions, Prepare, Initremote, Transfer, Checkpresent, Remove, Listconfigs, Getcost, Getavailability, Getinfo, Whereis, Exportsupported, Export, Transferexport, Checkpresentexport, Removeexport, Renameexport, Value, Creds, HostError}
@@ -22,9 +22,6 @@ use Rattle.pair_world.specs.Cues.{settings}
 use Rattle.pair_world.specs.Works.{found, is_there, call_for, bytes_found, bytes_put, last_said, answered}
 use Rattle.pair_world.specs.Stored.{is_success, granted, granted_by}
 use Rattle.pair_world.proofs.Storing.{same_bytes}
-
-differ : false ≡ true → ⊥
-differ e = cc
 
 -- ---- lines that grant nothing
 
@@ -129,7 +126,7 @@ suits_work next values prepared awaits earlier request read free Prepare is read
 suits_work next values prepared awaits earlier request read free Initremote is ready expected call = suits_ready next values request read free (ap is_readying is)
 suits_work next values prepared true earlier request read free (Value value) is ready expected call =
     suits_ready next values request read free (ap is_readying is ∙ ready refl)
-suits_work next values prepared false earlier request read free (Value value) is ready expected call = absurd (differ (sym expected))
+suits_work next values prepared false earlier request read free (Value value) is ready expected call = absurd (false≢true (sym expected))
 suits_work next values false awaits earlier request read free (Transfer store key file) is ready expected call =
     (refl, (tt, (transfer_key store key file (call refl).askable, tt)))
 suits_work next values true awaits earlier request read free (Transfer store key file) is ready expected call =
@@ -280,7 +277,7 @@ prepare_line : (request : Option HostMessage) → is_readying request ≡ true �
 prepare_line (Some Prepare) ready = (refl, tt)
 prepare_line (Some Initremote) ready = (refl, tt)
 prepare_line None ready = (refl, tt)
-prepare_line (Some m) ready = absurd (differ ready)
+prepare_line (Some m) ready = absurd (false≢true ready)
 
 pub effect : (keys files : Items) (c : ℕ) (text : List ℕ) (request : Option HostMessage) (free : Bool) (due : Due) → Suits request (host_reading text) free due
     → Effect keys files (asked_by due)

@@ -1,5 +1,6 @@
 -- The keys and the files, and what was answered, behind each move.
 use Rattle.std.proofs.Common.{ℕ, ◌≡◌, ◌&&◌, ◌||◌, not, Bool, true, false, cond, fold, List, [], ◌∷◌, ◌++◌, Option, Some, None, Result, Ok, Err, IfOk, OnOk, refl, sym, ap, subst, ◌∙◌, append-nil}
+use Rattle.std.proofs.lemmas.Bool.{false≢true}
 use Rattle.annex_model.specs.Messages.{HostMessage, Transfer, Remove, host_reading}
 use Rattle.annex_model.proofs.Readings.{spelled_of_host, askable_of_spelled}
 use Rattle.wire_line.specs.HeldBytes.{first_line}
@@ -143,9 +144,6 @@ still_retrieve None key still = refl
 still_retrieve (Some (Transfer store k file)) key still = cc
 still_retrieve (Some q) key still = refl
 
-differ : false ≡ true → ⊥
-differ e = cc
-
 -- the answer's content, where it is known what the answer grants
 kept_same : (a : Answer) (key bytes : List ℕ) (q : Option HostMessage) (before : Option (List ℕ)) → granted_by a ≡ q → a.bytes ≡ bytes
     → kept (is_store_of key q) (is_remove_of key q) bytes before ≡ kept (stores key a) (removes key a) a.bytes before
@@ -159,7 +157,7 @@ kept_still answers keys (a ∷ []) still h =
     kept_more answers a keys keys h
     (λ key. sym (ap (λ (s : Bool). kept s (removes key a) a.bytes (content key keys)) (still_store (granted_by a) key still)
     ∙ ap (λ (r : Bool). kept false r a.bytes (content key keys)) (still_remove (granted_by a) key still)))
-    (λ key is. absurd (differ (sym (still_retrieve (granted_by a) key still) ∙ is)))
+    (λ key is. absurd (false≢true (sym (still_retrieve (granted_by a) key still) ∙ is)))
 kept_still answers keys (a ∷ b ∷ added) still h = absurd still
 
 kept_stored : (answers : List Answer) (keys : Items) (key file : List ℕ) (o : Option (List ℕ)) (added : List Answer) → Grants (Transfer true key file) o added → AreKept answers keys
@@ -169,7 +167,7 @@ kept_stored answers keys key file (Some bytes) added one h =
     subst (λ (l : List Answer). AreKept (answers ++ l) (with_item key bytes keys)) (sym one.one)
     (kept_more answers one.answer keys (with_item key bytes keys) h
     (λ k. content-with_item key k bytes keys ∙ kept_same one.answer k bytes (Some (Transfer true key file)) (content k keys) one.grants one.bytes_are)
-    (λ k is. absurd (differ (sym (ap (is_retrieve_of k) one.grants) ∙ is))))
+    (λ k is. absurd (false≢true (sym (ap (is_retrieve_of k) one.grants) ∙ is))))
 
 kept_retrieved : (answers : List Answer) (keys : Items) (key file : List ℕ) (o : Option (List ℕ)) (added : List Answer) → content key keys ≡ o → Grants (Transfer false key file) o added
     → AreKept answers keys → AreKept (answers ++ added) keys
@@ -189,7 +187,7 @@ kept_removed answers keys key added one h =
     subst (λ (l : List Answer). AreKept (answers ++ l) (without key keys)) (sym one.one)
     (kept_more answers one.answer keys (without key keys) h
     (λ k. content-without key k keys ∙ kept_same one.answer k [] (Some (Remove key)) (content k keys) one.grants one.bytes_are)
-    (λ k is. absurd (differ (sym (ap (is_retrieve_of k) one.grants) ∙ is))))
+    (λ k is. absurd (false≢true (sym (ap (is_retrieve_of k) one.grants) ∙ is))))
 
 kept_effect : (answers : List Answer) (keys files : Items) (asked : Option Asked) (added : List Answer) → Effect keys files asked added → AreKept answers keys
     → AreKept (answers ++ added) (keys_after keys files asked)
