@@ -25,6 +25,9 @@ pub no_split : (before later : List Answer) (a : Answer) → [] ≡ before ++ a 
 no_split [] later a e = cc
 no_split (b ∷ before) later a e = cc
 
+no_bytes : (bytes : List ℕ) → None ≡ Some bytes → ⊥
+no_bytes bytes e = cc
+
 -- ---- one answer more
 
 -- the last STORE is that answer, or it is an earlier one and that answer changes nothing
@@ -91,9 +94,6 @@ held_more answers a key bytes before held = go (stores key a) refl (removes key 
     bytes_of : (xs ys : List ℕ) → Some xs ≡ Some ys → xs ≡ ys
     bytes_of xs ys e = cc
 
-    nothing : None ≡ Some bytes → ⊥
-    nothing e = cc
-
     neither : stores key a ≡ false → removes key a ≡ false → changes key a ≡ false
     neither s r = ap (λ (b : Bool). b || removes key a) s ∙ r
 
@@ -111,7 +111,7 @@ held_more answers a key bytes before held = go (stores key a) refl (removes key 
 
     go : (s : Bool) → stores key a ≡ s → (r : Bool) → removes key a ≡ r → (kept s r a.bytes before ≡ Some bytes) ↔ IsLastStored (answers ++ a ∷ []) key bytes
     go true s r e = (λ h. stored_last answers a key bytes s (bytes_of a.bytes bytes h), λ l. by_store s (last_of answers a key bytes l))
-    go false s true r = (λ h. absurd (nothing h), λ l. by_remove s r (last_of answers a key bytes l))
+    go false s true r = (λ h. absurd (no_bytes bytes h), λ l. by_remove s r (last_of answers a key bytes l))
     go false s false r = (λ h. stored_before answers a key bytes (neither s r) (held.0 h), λ l. by_other s (last_of answers a key bytes l))
 
 pub gives_more : (answers : List Answer) (a : Answer) → GiveLastStored answers → ((key : List ℕ) → retrieves key a ≡ true → IsLastStored answers key a.bytes)
@@ -143,8 +143,5 @@ kept_more answers a keys new_keys h does given = (
 pub kept_none : AreKept [] []
 kept_none = (
   λ before later a key splits is. absurd (no_split before later a splits),
-  λ key bytes. (λ h. absurd (nothing bytes h), λ l. absurd (no_split l.before l.later l.store l.splits)),
+  λ key bytes. (λ h. absurd (no_bytes bytes h), λ l. absurd (no_split l.before l.later l.store l.splits)),
 )
-  where
-    nothing : (bytes : List ℕ) → None ≡ Some bytes → ⊥
-    nothing bytes e = cc
