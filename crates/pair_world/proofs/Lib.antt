@@ -26,3 +26,7 @@ mod AnswerKits
 mod AnswerAsks
 mod AnswerVerdicts
 mod AnswerMoves
+mod Storing
+mod StoredLast
+mod StoredGrants
+mod StoredMoves

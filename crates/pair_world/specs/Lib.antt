@@ -9,5 +9,6 @@ pub mod Answered
 pub mod Paces
 pub mod Peace
 pub mod Stored
+pub mod StoredRows
 pub mod Standing
 pub mod Rows
