@@ -6,3 +6,6 @@ mod Kits
 mod Taking
 mod Journals
 mod Linking
+mod Walking
+mod Turns
+mod Summing

@@ -1,8 +1,9 @@
 ghost use Rattle.std.specs.Prelude.{◌≡◌, ◌+◌, ◌++◌, ◌<◌, ◌^◌, ◌||◌, not, [], true, false, length, option_copied, MatchOption, IfOk, OnOk, slice_get, None, Some};
 ghost use Rattle.journal_model.specs.Beginnings.{MayBegin};
 ghost use Rattle.pair_world.specs.Shelves.{content};
-ghost use Rattle.pair_world.specs.Pairs.{is_child};
-ghost use Rattle.pair_world.specs.Worlds.{Stands};
+ghost use Rattle.pair_world.specs.Pairs.{is_child, pair_of};
+ghost use Rattle.pair_world.specs.Standing.{Stands};
+ghost use Rattle.pair_world.specs.Stored.{ChangesFiles};
 ghost use Rattle.pair_world.specs.Moves.{Moves, is_barred, is_silent, is_long, is_gone, heard_event, left_at};
 ghost use Rattle.pair_world.specs.Works.{answered};
 ghost use Rattle.pair_world.specs.Shown.{AreDistinct};
@@ -318,6 +319,7 @@ impl World {
         requires { Stands self.old }
         ensures moves { IfOk result (λ moved. Moves self.old step moved self.new) }
         ensures stands { OnOk result (Stands self.new) }
+        ensures files { OnOk result (ChangesFiles self.old self.new) }
     {
         self.make(step)
     }
@@ -358,6 +360,17 @@ impl World {
         ensures { option_copied result ≡ content name.now self.now.files }
     {
         self.files.find(name.as_bytes())
+    }
+
+    /// How many bytes are on their way to the child's kit, and to the host. It takes no memory.
+    pub(crate) fn on_the_way(&self, child: u32) -> (usize, usize)
+        ensures to_kit { result.0 ≡ length (pair_of self.now.pairs child).to_kit }
+        ensures to_host { result.1 ≡ length (pair_of self.now.pairs child).to_host }
+    {
+        match place(self.pairs.as_slice(), child) {
+            Some(at) => self.pairs[at].on_the_way(),
+            None => (0, 0),
+        }
     }
 
     /// The answer of that number, from 0: the child, the line of its request, the last line that its kit said to it, and the bytes
