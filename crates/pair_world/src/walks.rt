@@ -1,6 +1,7 @@
 // The walk: the tasks of a rehearsal are done in a world of four children, by moves that a seed chooses.
 ghost use Rattle.std.specs.Prelude.{◌≡◌, ◌+◌, ◌*◌, ◌%◌, ◌/◌, ◌<◌, ◌≤◌, ◌^◌, length, option_map, IfOk, OnOk};
 ghost use Rattle.journal_model.specs.Limits.{most_tasks};
+ghost use Rattle.rehearse_plan.specs.Plans.{opening_of};
 ghost use Rattle.rehearse_plan.specs.declared.tasks.TheConstants.{MOST_TASKS};
 ghost use Rattle.pair_world.specs.declared.step.Move.TheVariants.{Event as EventMove};
 ghost use Rattle.pair_world.specs.Standing.{Stands};
@@ -123,6 +124,7 @@ fn make_moves(alloc: Global, world: &mut World, seed: u64) -> Result<(), NoMemor
     requires seed { seed < 2 ^ 32 }
     requires stands { Stands world.old }
     ensures walks { OnOk result (Walks seed world.old world.new) }
+    ensures opening { OnOk result (world.new.opening ≡ world.old.opening) }
     ensures stands { OnOk result (Stands world.new) }
     ensures files { OnOk result (ChangesFiles world.old world.new) }
 {
@@ -155,6 +157,7 @@ pub fn walk(alloc: Global, seed: u64, tasks: u32) -> Result<Walk, NoMemory>
     requires tasks { tasks ≤ MOST_TASKS }
     ensures walked { IfOk result (λ walk. Walked seed tasks walk.world) }
     ensures stands { IfOk result (λ walk. Stands walk.world) }
+    ensures opening { IfOk result (λ walk. walk.world.opening ≡ opening_of seed tasks) }
     ensures files { IfOk result (λ walk. ChangesFiles (first_world seed tasks) walk.world) }
     ensures counts { IfOk result (λ walk. walk.counts ≡ counts_in walk.world) }
     ensures equal { IfOk result (λ walk. walk.equal ≡ equal_in seed tasks walk.world) }
