@@ -16,6 +16,7 @@ use Rattle.journal_model.specs.declared.opening.Opening.{Opening}
 use Rattle.journal_model.proofs.Looks.{same_number}
 use Rattle.rehearse_plan.specs.Plans.{source_of, content_of, file_of, files_of, keys}
 use Rattle.host_core.specs.declared.event.Reply.{Reply}
+use Rattle.pair_world.specs.declared.answer.Answer.{Answer}
 use Rattle.pair_world.specs.declared.step.Move.{Move}
 use Rattle.pair_world.specs.declared.step.Move.TheVariants.{Event as EventMove, Write, ToKit, Work, ToHost, Hear, End}
 use Rattle.pair_world.specs.declared.step.Moved.TheVariants.{Did, Not}
@@ -114,7 +115,7 @@ changes_none w = record { added = []; answers = sym (append-nil w.answers); file
 pub changes_more : (a b c : WorldValue) → ChangesFiles a b → ChangesFiles b c → ChangesFiles a c
 changes_more a b c h k = record {
   added = h.added ++ k.added;
-  answers = k.answers ∙ ap (λ xs. xs ++ k.added) h.answers ∙ append_assoc a.answers h.added k.added;
+  answers = k.answers ∙ ap (λ (xs : List Answer). xs ++ k.added) h.answers ∙ append_assoc a.answers h.added k.added;
   files = k.files ∙ ap (λ (fs : Items). fold filed fs k.added) h.files ∙ sym (fold-append filed a.files h.added k.added);
 }
 

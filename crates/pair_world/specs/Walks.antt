@@ -28,7 +28,7 @@ abbrev pub bytes_moved : ℕ → ℕ → ℕ
 bytes_moved t there = if nat_le there (1 + t % 64) then there else 1 + t % 64
 
 -- of one child: what its worker does, or one of the moves between it and the host
-abbrev pub move_of : WorldValue → ℕ → ℕ → ℕ → Option Move
+unfoldable pub move_of : WorldValue → ℕ → ℕ → ℕ → Option Move
 move_of w t c kind =
     if kind == 0 then option_map (λ event. EventMove 0 event) (next_of w.opening w.journal c)
     else if kind == 1 then Some (Write c)

@@ -111,7 +111,7 @@ behind_turn o past c (Some (Claimed task)) = asking_for c task (task_of o task)
 behind_turn o past c (Some (Asked job task)) = behind_job o past c job task
 
 -- Its next event, where it can do anything: not while a job of the child is open, nor where no task is free.
-abbrev pub next_of : Opening → List Entry → ℕ → Option Event
+unfoldable pub next_of : Opening → List Entry → ℕ → Option Event
 next_of o past c =
     if not (is_started past c) then start_of past c
     else if is_ended past c || not (is_empty (open_jobs past c)) then None

@@ -57,6 +57,7 @@ fn worker_move(alloc: Global, world: &World, child: u32) -> Result<Option<Move>,
 }
 
 // One of the six moves of the child.
+#[tactic(auto, unfolding(crate::specs::Walks::move_of))]
 fn move_of(
     alloc: Global,
     world: &World,

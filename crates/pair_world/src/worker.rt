@@ -240,6 +240,7 @@ fn behind_turn(
 }
 
 /// What the child's worker does next, where it can do anything.
+#[tactic(auto, unfolding(crate::specs::Workers::next_of))]
 pub(crate) fn next_of(alloc: Global, core: &Core, child: u32) -> Result<Option<Event>, NoMemory>
     requires child { 0 < child }
     requires few { length core.now.opening.tasks ≤ most_tasks }

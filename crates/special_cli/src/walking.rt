@@ -14,7 +14,7 @@ use ann_outside::{Desks, Programs};
 use journal_audit::{Audit, audit};
 use journal_look::Journal;
 use journal_model::Answer;
-use pair_world::walk;
+use pair_world::{Walk, walk};
 use rehearse_plan::{Word, count_of, print_counts};
 use run_answers::answers_given;
 use std::alloc::Global;
@@ -33,14 +33,18 @@ fn walked(alloc: Global, seed: u32, tasks: u32) -> Result<Walked, NoMemory>
     requires { tasks ≤ 65536 }
     ensures { IfOk result (λ w. HasWalked seed tasks w.journal.entries w.answers.items w.equal w.found) }
 {
-    let done = walk(alloc, u64::from(seed), tasks)?;
-    let core = done.world.core();
+    let Walk {
+        counts: _,
+        equal,
+        world,
+    } = walk(alloc, u64::from(seed), tasks)?;
+    let core = world.core();
     let answers = answers_given(alloc, core)?;
     let found = audit(alloc, core.opening(), core.journal())?;
     Ok(Walked {
-        journal: journal_of(done.world.close()),
+        journal: journal_of(world.close()),
         answers,
-        equal: done.equal,
+        equal,
         found,
     })
 }
