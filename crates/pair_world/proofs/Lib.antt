@@ -30,3 +30,7 @@ mod Storing
 mod StoredLast
 mod StoredGrants
 mod StoredMoves
+mod Walking
+mod Turns
+mod Summing
+mod Standing

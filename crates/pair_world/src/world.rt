@@ -1,7 +1,9 @@
 ghost use Rattle.std.specs.Prelude.{◌≡◌, ◌+◌, ◌++◌, ◌<◌, ◌^◌, ◌||◌, not, [], true, false, length, option_copied, MatchOption, IfOk, OnOk, slice_get, None, Some};
 ghost use Rattle.journal_model.specs.Beginnings.{MayBegin};
 ghost use Rattle.pair_world.specs.Shelves.{content, items_of};
-ghost use Rattle.pair_world.specs.Pairs.{is_child};
+ghost use Rattle.pair_world.specs.Pairs.{is_child, pair_of};
+ghost use Rattle.pair_world.specs.Standing.{Stands};
+ghost use Rattle.pair_world.specs.Stored.{ChangesFiles};
 ghost use Rattle.pair_world.specs.Worlds.{AreLinked};
 ghost use Rattle.pair_world.specs.Moves.{Moves, is_barred, is_silent, is_long, is_gone, heard_event, left_at};
 ghost use Rattle.pair_world.specs.Works.{answered};
@@ -136,7 +138,7 @@ impl World {
     ) -> Result<World, NoMemory>
         requires { MayBegin opening }
         ensures begun { IfOk result (λ world. world ≡ record { opening = opening; journal = []; shut = false; keys = []; files = items_of files.items; pairs = []; answers = [] }) }
-        ensures stands { IfOk result AreLinked }
+        ensures stands { IfOk result Stands }
     {
         let files = Shelf::of_files(alloc, files)?;
         Ok(World {
@@ -301,9 +303,10 @@ impl World {
 
     /// Makes the move, where it can be made. After `NoMemory` the world isn't used again.
     pub fn step(&mut self, step: Move) -> Result<Moved, NoMemory>
-        requires { AreLinked self.old }
+        requires { Stands self.old }
         ensures moves { IfOk result (λ moved. Moves self.old step moved self.new) }
-        ensures stands { OnOk result (AreLinked self.new) }
+        ensures stands { OnOk result (Stands self.new) }
+        ensures files { OnOk result (ChangesFiles self.old self.new) }
     {
         self.make(step)
     }
@@ -344,6 +347,17 @@ impl World {
         ensures { option_copied result ≡ content name.now self.now.files }
     {
         self.files.find(name.as_bytes())
+    }
+
+    /// How many bytes are on their way to the child's kit, and to the host. It takes no memory.
+    pub(crate) fn on_the_way(&self, child: u32) -> (usize, usize)
+        ensures to_kit { result.0 ≡ length (pair_of self.now.pairs child).to_kit }
+        ensures to_host { result.1 ≡ length (pair_of self.now.pairs child).to_host }
+    {
+        match place(self.pairs.as_slice(), child) {
+            Some(at) => self.pairs[at].on_the_way(),
+            None => (0, 0),
+        }
     }
 
     /// The answer of that number, from 0: the child, the line of its request, the last line that its kit said to it, and the bytes

@@ -37,4 +37,10 @@ pub(crate) enum End {
     Audited(Audit),
     /// The answers of a rehearsal were counted, and this was found of its journal.
     Rehearsed(Audit),
+    /// So many tasks were done in a closed world, so many of them got the content of their keys, and this was found of the journal.
+    Walked {
+        tasks: u32,
+        equal: u64,
+        found: Audit,
+    },
 }
