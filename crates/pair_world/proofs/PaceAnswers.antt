@@ -1,5 +1,5 @@
 -- What a line of a child that keeps step makes due, and that the child keeps step behind it.
-use Rattle.std.proofs.Common.{ℕ, ◌≡◌, ◌+◌, ◌<◌, ◌==◌, ◌⊎◌, inl, inr, Bool, true, false, not, cond, List, [], ◌∷◌, ◌++◌, length, map, filter, filter_map, slice_get, Option, Some, None, is_some, codes, bytes_eq, unwrap_or, refl, sym, ap, subst, ◌∙◌, arith, append-nil, length-append}
+use Rattle.std.proofs.Common.{ℕ, ◌≡◌, ◌+◌, ◌==◌, inl, inr, Bool, true, false, not, cond, List, [], ◌∷◌, ◌++◌, length, map, filter, filter_map, Option, Some, None, is_some, codes, bytes_eq, unwrap_or, refl, sym, ap, subst, ◌∙◌, arith, length-append}
 use Rattle.std.specs.Prelude.{◌&&◌, ◌||◌}
 use Rattle.std.specs.List.{list_all, list_any, cons_option}
 use Rattle.std.specs.Map.{lookup}
@@ -14,7 +14,7 @@ use Rattle.annex_model.specs.Lines.{has_newline}
 use Rattle.annex_model.specs.Messages.{RemoteMessage, Version, Getconfig, HostMessage, Value, host_line, host_reading, remote_reading}
 use Rattle.annex_model.specs.Tags.{tagged_line, names_async}
 use Rattle.annex_model.specs.Talks.{Item, Host, Remote, is_aside, spells_aside, item_is_aside, final_of, awaits, said}
-use Rattle.annex_model.specs.Hearings.{Hearing, Aside, Settles, by_answer, hearing_of, hearing, request_in}
+use Rattle.annex_model.specs.Hearings.{Aside, Settles, by_answer, hearing_of, hearing, request_in}
 use Rattle.annex_model.proofs.FrontsTalk.{said-append}
 use Rattle.annex_model.proofs.Leads.{asked_more}
 use Rattle.annex_model.proofs.Readings.{canonical_read}
@@ -28,7 +28,7 @@ use Rattle.journal_model.specs.declared.entry.Entry.{Entry}
 use Rattle.journal_model.specs.declared.opening.Opening.{Opening}
 use Rattle.journal_model.specs.Journal.{any, each_of, first_of, asks, writes, line_from, got_from, mutes, settles, offers, got_lines, asked_jobs, open_jobs, is_settled, is_open, has_spoken, is_tagged, accepts_async, got_line, verdict_of, addressed}
 use Rattle.journal_model.specs.Parts.{part, part_from, is_for, ends_at}
-use Rattle.journal_model.specs.Due.{due_by_got, after_line, after_hearing, after_late, ending, is_error, is_version_one, verdict_at, replies, replying}
+use Rattle.journal_model.specs.Due.{due_by_got, after_line, after_hearing, after_late, ending, is_error, is_version_one, verdict_at}
 use Rattle.journal_model.specs.Registers.{config_at, last_given, gives_config, settings as settings_made}
 use Rattle.journal_model.proofs.Linking.{got_more}
 use Rattle.journal_model.proofs.Looks.{entry, same, same_number, any-append, each_of-append, verdict_of-append, silent_lines}
@@ -40,10 +40,10 @@ use Rattle.kit_core.specs.Kits.{is_over, request_of as request_of_messages}
 use Rattle.kit_core.specs.Stages.{is_free, stage_of}
 use Rattle.kit_core.proofs.Behind.{request_of-push}
 use Rattle.pair_world.specs.Cues.{settings}
-use Rattle.pair_world.specs.Answered.{line_for, request_of}
-use Rattle.pair_world.specs.Paces.{written_lines, written, replies_to, is_message_line, IsExpected, IsSilent, IsIdle, IsBusy, KeepsStep}
+use Rattle.pair_world.specs.Answered.{line_for}
+use Rattle.pair_world.specs.Paces.{written_lines, written, replies_to, is_message_line, IsSilent, IsBusy}
 use Rattle.pair_world.proofs.PaceAsks.{untagged_line}
-use Rattle.pair_world.proofs.PaceEntries.{ChildInStep, touches, any_same, each_same, open_same, expected_same}
+use Rattle.pair_world.proofs.PaceEntries.{ChildInStep, any_same, each_same, open_same, expected_same}
 use Rattle.pair_world.proofs.PaceKits.{still_expects}
 use Rattle.pair_world.proofs.PaceRequests.{expects_value, value_line_free}
 use Rattle.pair_world.proofs.PaceSaid.{replies_to-append, one_reply}

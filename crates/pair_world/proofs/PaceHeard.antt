@@ -1,6 +1,6 @@
 -- What a line is that the host hears of a child that keeps step. Of a silent child it is its version; of an idle one there is none; and
 -- of a busy one it is what its kit, which took all that was written, says to the last message (`HeardBusy`).
-use Rattle.std.proofs.Common.{ℕ, ◌≡◌, ◌+◌, ◌==◌, ◌⊎◌, inl, inr, Bool, true, false, not, cond, List, [], ◌∷◌, ◌++◌, length, take, drop, map, filter, filter_map, Option, Some, None, is_some, codes, refl, sym, ap, subst, ◌∙◌, arith, append_assoc, append-nil, length-append}
+use Rattle.std.proofs.Common.{ℕ, ◌≡◌, ◌+◌, ◌==◌, ◌⊎◌, Bool, true, false, not, cond, List, [], ◌∷◌, ◌++◌, length, take, drop, map, filter, filter_map, Option, Some, None, is_some, codes, refl, sym, ap, subst, ◌∙◌, arith, append_assoc, append-nil, length-append}
 use Rattle.std.specs.Prelude.{◌&&◌}
 use Rattle.std.specs.List.{list_all, cons_option}
 use Rattle.std.proofs.lemmas.Bool.{and_parts}
@@ -29,7 +29,7 @@ use Rattle.kit_core.proofs.Behind.{messages-push, lines_behind-push}
 use Rattle.pair_world.specs.declared.taken.Taken.{Taken}
 use Rattle.pair_world.specs.Cues.{settings}
 use Rattle.pair_world.specs.Pairs.{PairValue, heard, is_spelled, are_spelled, taken_lines, said_lines}
-use Rattle.pair_world.specs.Worlds.{IsFed, IsRead, IsLinked}
+use Rattle.pair_world.specs.Worlds.{IsRead, IsLinked}
 use Rattle.pair_world.specs.Paces.{written_lines, written, is_name, replies_to, is_message_line, is_line_call, is_whole, IsExpected, IsSilent, IsIdle, IsBusy}
 use Rattle.pair_world.proofs.Lines.{first_split, first_whole}
 use Rattle.pair_world.proofs.Taking.{heard_more}
