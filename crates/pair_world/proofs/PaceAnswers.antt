@@ -4,7 +4,7 @@ use Rattle.std.specs.Prelude.{◌&&◌, ◌||◌}
 use Rattle.std.specs.List.{list_all, list_any, cons_option}
 use Rattle.std.specs.Map.{lookup}
 use Rattle.std.specs.Option.{option_or}
-use Rattle.std.proofs.lemmas.Bool.{and_parts, not-true}
+use Rattle.std.proofs.lemmas.Bool.{and_parts, and_right, not-true}
 use Rattle.std.proofs.lemmas.List.{map-append}
 use Rattle.std.proofs.lemmas.List.Elements.{filter_map-append}
 use Rattle.std.proofs.lemmas.List.Folds.{list_all-append}
@@ -35,6 +35,7 @@ use Rattle.journal_model.proofs.Looks.{entry, same, same_number, any-append, eac
 use Rattle.journal_model.proofs.Named.{filter_alike}
 use Rattle.journal_model.proofs.PartsGrow.{part_from-append}
 use Rattle.journal_model.proofs.Replying.{IsPlaced, slice_get-here, tag_kept}
+use Rattle.journal_model.proofs.Testing.{or_false}
 use Rattle.kit_core.specs.declared.kit.Stage.TheVariants.{Waiting}
 use Rattle.kit_core.specs.Kits.{is_over, request_of as request_of_messages}
 use Rattle.kit_core.specs.Stages.{is_free, stage_of}
@@ -179,14 +180,6 @@ greets_in_step past by c line placed silent untagged h =
 
 -- ---- an answer
 
-or_false : (b : Bool) → (b || false) ≡ b
-or_false true = refl
-or_false false = refl
-
-and_false : (b : Bool) → (b && false) ≡ false
-and_false true = refl
-and_false false = refl
-
 -- a line and the verdict that it gives
 abbrev pub settled_by : ℕ → ℕ → List ℕ → ℕ → Verdict → List Entry
 settled_by by c line j v = entry by (Got c line) ∷ entry by (Settled c j v) ∷ []
@@ -245,7 +238,7 @@ tag_settled past by c line j f placed untagged unsettled plain = by_job (j == 0)
         let here : verdict_of group c 0 ≡ Some (verdict_at f (length past)) = rw (own, e) refl in
         let verdict : verdict_of now c 0 ≡ Some (verdict_at f (length past)) =
         verdict_of-append c 0 past group ∙ ap (λ (v : Option Verdict). option_or v (verdict_of group c 0)) before ∙ here in
-        ap (λ (v : Option Verdict). any (offers c) now && accepts_async now v) verdict ∙ ap (λ (b : Bool). any (offers c) now && b) (names_none f) ∙ and_false (any (offers c) now)
+        ap (λ (v : Option Verdict). any (offers c) now && accepts_async now v) verdict ∙ ap (λ (b : Bool). any (offers c) now && b) (names_none f) ∙ and_right (any (offers c) now) false refl
 
 pub settles_in_step : (past : List Entry) (by c : ℕ) (line : List ℕ) (b : IsBusy past c) (f : Final) → IsPlaced past c → is_tagged past c ≡ false → verdict_of past c b.job ≡ None
     → names_async (remote_reading line) ≡ false → stage_of settings (written past c) ≡ Waiting → ChildInStep past c

@@ -15,6 +15,7 @@ use Rattle.journal_model.proofs.Looks.{entry, any-append, each_of-append}
 use Rattle.journal_model.proofs.Named.{filter_alike}
 use Rattle.journal_model.proofs.PartsGrow.{NamesNoLine, part_from-append}
 use Rattle.journal_model.proofs.Replying.{IsPlaced, tag_kept}
+use Rattle.journal_model.proofs.Testing.{or_false}
 use Rattle.kit_core.specs.Kits.{is_over, request_of as request_of_messages}
 use Rattle.kit_core.specs.Stages.{stage_of}
 use Rattle.pair_world.specs.Cues.{settings}
@@ -259,10 +260,6 @@ apart c (e ∷ more) h =
     }
 
 -- ---- what stays
-
-or_false : (b : Bool) → (b || false) ≡ b
-or_false true = refl
-or_false false = refl
 
 pub any_same : (p : What → Bool) (past more : List Entry) → any p more ≡ false → any p (past ++ more) ≡ any p past
 any_same p past more none = any-append p past more ∙ ap (λ (b : Bool). any p past || b) none ∙ or_false (any p past)

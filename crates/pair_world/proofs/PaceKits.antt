@@ -55,7 +55,7 @@ pub record SaysOne (request : HostMessage) (said : List RemoteMessage) (stage : 
   pub fine : is_fine reply ≡ true
   pub next : GoesOn reply stage ⊎ Finishes request reply stage
 
-some_is : {X : Type 0} (x y : X) → Some x ≡ Some y → x ≡ y
+pub some_is : {X : Type 0} (x y : X) → Some x ≡ Some y → x ≡ y
 some_is x y e = cc
 
 own_says : (m q : HostMessage) (said : List RemoteMessage) (stage : Stage) → Some m ≡ Some q → SaysOne m said stage → SaysOne q said stage
