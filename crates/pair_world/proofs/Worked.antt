@@ -1,4 +1,4 @@
--- A kit's work, and a line that is heard, as moves of the world.
+-- A kit's work as a move of the world.
 use Rattle.std.proofs.Common.{ℕ, ◌≡◌, ◌+◌, ◌-◌, ◌<◌, Bool, true, false, List, ◌++◌, length, set, get_or, Option, Some, None, refl, sym, ap, subst, ◌∙◌, arith}
 use Rattle.std.specs.Prelude.{◌||◌}
 use Rattle.std.proofs.lemmas.List.{get_or_read, set-get_or}
@@ -27,7 +27,7 @@ use Rattle.pair_world.proofs.Linking.{no_child, pair_at}
 
 -- ---- the child at a place
 
-pub pair_there : (pairs : List PairValue) (c at : ℕ) (p : PairValue) → at + 1 ≡ c → at < length pairs → p ≡ get_or pairs at p → p ≡ pair_of pairs c
+pair_there : (pairs : List PairValue) (c at : ℕ) (p : PairValue) → at + 1 ≡ c → at < length pairs → p ≡ get_or pairs at p → p ≡ pair_of pairs c
 pair_there pairs c at p place within read =
     let index : at ≡ c - 1 = omega (arith, place) in
     get_or_read pairs at p within read no_pair ∙ ap (λ (n : ℕ). get_or pairs n no_pair) index ∙ sym (pair_at pairs c (omega (arith, place)))
@@ -37,33 +37,11 @@ set_there pairs c at p place =
     let index : at ≡ c - 1 = omega (arith, place) in
     ap (λ (n : ℕ). set pairs n p) index
 
--- the kit at the place stands where what it heard leaves it
-pub follows_there : (view w : WorldValue) (c at : ℕ) (q : PairValue) → view ≡ w → AreLinked w → is_child view.pairs c ≡ true → at + 1 ≡ c → at < length view.pairs
-    → q ≡ get_or view.pairs at q → Follows settings q.kit (heard q.taken)
-follows_there view w c at q same h k place within read =
-    let linked : AreLinked view = subst AreLinked (sym same) h in
-    subst (λ (x : PairValue). Follows settings x.kit (heard x.taken)) (sym (pair_there view.pairs c at q place within read)) (linked.linked c k).heard.follows
-
--- with no child of that number nothing is taken, and nothing heard
-pub nobody_works : (pairs : List PairValue) (c : ℕ) → is_child pairs c ≡ false → is_waiting (pair_of pairs c).at_kit ≡ true
-nobody_works pairs c none = ap (λ (p : PairValue). is_waiting p.at_kit) (no_child pairs c none)
-
-pub nobody_heard : (pairs : List PairValue) (c : ℕ) (ended : Bool) → is_child pairs c ≡ false → (ended || is_silent (pair_of pairs c).at_host) ≡ true
-nobody_heard pairs c ended none = ap (λ (p : PairValue). ended || is_silent p.at_host) (no_child pairs c none) ∙ or_true ended
-  where
-    or_true : (b : Bool) → (b || true) ≡ true
-    or_true true = refl
-    or_true false = refl
-
 -- ---- moves that are made
 
 made : (b : Bool) (old new : WorldValue) (Does : Reply → WorldValue → Type 0) (reply : Reply) → b ≡ false → Does reply new → IsMade b old Does (Did reply) new
 made true old new Does reply e d = cc
 made false old new Does reply e d = d
-
-either_false : (a b : Bool) → a ≡ false → b ≡ false → (a || b) ≡ false
-either_false true b e f = absurd cc
-either_false false b e f = f
 
 -- ---- a kit's work
 
@@ -77,16 +55,6 @@ still view new at q p k f within read same is =
     ∙ ap (λ (x : Items). let w : WorldValue = record view { files = x; pairs = set view.pairs at p } in w) same.files_stay
     ∙ ap (λ (x : PairValue). let w : WorldValue = record view { pairs = set view.pairs at x } in w) pair
     ∙ ap (λ (ps : List PairValue). let w : WorldValue = record view { pairs = ps } in w) (set-get_or view.pairs at no_pair)
-
--- there is no line to take
-pub works_not : (view w new : WorldValue) (c at : ℕ) (q p : PairValue) (k f : Items) → view ≡ w → at + 1 ≡ c → at < length view.pairs → q ≡ get_or view.pairs at q
-    → (is_waiting q.at_kit ≡ true) × IsSame view.keys view.files q k f p → new ≡ record view { keys = k; files = f; pairs = set view.pairs at p } → Moves w (Work c) Not new
-works_not view w new c at q p k f same place within read worked is =
-    let here = pair_there view.pairs c at q place within read in
-    subst (λ (v : WorldValue). Moves v (Work c) Not new) same
-    (not_made (is_waiting (pair_of view.pairs c).at_kit) view new (DoesWork view c (next_message (pair_of view.pairs c).at_kit))
-    (ap (λ (x : PairValue). is_waiting x.at_kit) (sym here) ∙ worked.0)
-    (still view new at q p k f within read worked.1 is))
 
 -- the kit is over
 pub works_over : (view w new : WorldValue) (c at : ℕ) (q p : PairValue) (k f : Items) → view ≡ w → at + 1 ≡ c → at < length view.pairs → q ≡ get_or view.pairs at q
@@ -116,7 +84,7 @@ does_take view new c at p k f answer bytes answers place t added is =
           ∙ ap (λ (x : Items). let v : WorldValue = record view { keys = x; files = f; pairs = set view.pairs at p; answers = answers } in v) t.serves.keys_are
           ∙ ap (λ (x : Items). let v : WorldValue = record view { keys = keys; files = x; pairs = set view.pairs at p; answers = answers } in v) t.serves.files_are
           ∙ ap (λ (ps : List PairValue). let v : WorldValue = record view { keys = keys; files = files; pairs = ps; answers = answers } in v) (set_there view.pairs c at p place)
-          ∙ ap (λ (as : List Answer). let v : WorldValue = record view { keys = keys; files = files; pairs = with_pair view.pairs c p; answers = as } in v)
+          ∙ ap (λ (more : List Answer). let v : WorldValue = record view { keys = keys; files = files; pairs = with_pair view.pairs c p; answers = more } in v)
           (added ∙ ap (λ (b : List ℕ). view.answers ++ answered c p.request answer b) t.serves.bytes_are);
     }
 
@@ -132,44 +100,3 @@ works_line view w new c at q p k f answer bytes answers same place within read w
     (made (is_waiting (pair_of view.pairs c).at_kit) view new (DoesWork view c (next_message (pair_of view.pairs c).at_kit)) Done
     (ap (λ (x : PairValue). is_waiting x.at_kit) (sym here) ∙ worked.0)
     (subst (λ (m : Option HostMessage). DoesWork view c m Done new) (sym t.next) (refl, does_take view new c at p k f answer bytes answers place t added is)))
-
--- ---- a line that is heard
-
--- nothing is there to hear
-pub hears_not : (view w : WorldValue) (c at : ℕ) (q : PairValue) → view ≡ w → at + 1 ≡ c → at < length view.pairs → q ≡ get_or view.pairs at q → is_silent q.at_host ≡ true
-    → (new : WorldValue) → new ≡ view → Moves w (Hear c) Not new
-hears_not view w c at q same place within read silent new is =
-    let here = pair_there view.pairs c at q place within read in
-    subst (λ (v : WorldValue). Moves v (Hear c) Not new) same
-    (not_made (is_ended view.journal c || is_silent (pair_of view.pairs c).at_host) view new (DoesHear view c)
-    (ap (λ (x : PairValue). is_ended view.journal c || is_silent x.at_host) (sym here) ∙ ap (λ (b : Bool). is_ended view.journal c || b) silent ∙ or_true (is_ended view.journal c)) is)
-  where
-    or_true : (b : Bool) → (b || true) ≡ true
-    or_true true = refl
-    or_true false = refl
-
-pub hears : (view w new : WorldValue) (c at : ℕ) (q p : PairValue) (event : Event) (reply : Reply) → view ≡ w → at + 1 ≡ c → at < length view.pairs → q ≡ get_or view.pairs at q
-    → is_ended view.journal c ≡ false → (is_silent q.at_host ≡ false) × (event ≡ heard_event c q.at_host) → reply ≡ reply_to view 0 event
-    → p ≡ record q { at_host = left_at reply q.at_host } → new.opening ≡ view.opening
-    → new.journal ≡ view.journal ++ (step_of view.opening view.journal 0 event).group → new.shut ≡ shut_by 0 event view.shut
-    → new ≡ record view { opening = new.opening; journal = new.journal; shut = new.shut; pairs = set view.pairs at p } → Moves w (Hear c) (Did reply) new
-hears view w new c at q p event reply same place within read live some told settled opening journal shut is =
-    let here = pair_there view.pairs c at q place within read in
-    let heard_of : Event = heard_event c (pair_of view.pairs c).at_host in
-    let so : event ≡ heard_of = some.1 ∙ ap (λ (x : PairValue). heard_event c x.at_host) here in
-    let left : p ≡ record (pair_of view.pairs c) { at_host = left_at reply (pair_of view.pairs c).at_host } =
-    settled ∙ ap (λ (x : PairValue). let y : PairValue = record x { at_host = left_at reply x.at_host } in y) here in
-    subst (λ (v : WorldValue). Moves v (Hear c) (Did reply) new) same
-    (made (is_ended view.journal c || is_silent (pair_of view.pairs c).at_host) view new (DoesHear view c) reply
-    (either_false (is_ended view.journal c) (is_silent (pair_of view.pairs c).at_host) live (ap (λ (x : PairValue). is_silent x.at_host) (sym here) ∙ some.0))
-    (record {
-      reply_is = told ∙ ap (λ (e : Event). reply_to view 0 e) so;
-      goes =
-          is
-          ∙ ap (λ (o : Opening). let v : WorldValue = record view { opening = o; journal = new.journal; shut = new.shut; pairs = set view.pairs at p } in v) opening
-          ∙ ap (λ (j : List Entry). let v : WorldValue = record view { journal = j; shut = new.shut; pairs = set view.pairs at p } in v) journal
-          ∙ ap (λ (b : Bool). let v : WorldValue = record view { journal = view.journal ++ (step_of view.opening view.journal 0 event).group; shut = b; pairs = set view.pairs at p } in v) shut
-          ∙ ap (λ (e : Event). let v : WorldValue = record (stepped view 0 e) { pairs = set view.pairs at p } in v) so
-          ∙ ap (λ (ps : List PairValue). let v : WorldValue = record (stepped view 0 heard_of) { pairs = ps } in v) (set_there view.pairs c at p place)
-          ∙ ap (λ (x : PairValue). let v : WorldValue = record (stepped view 0 heard_of) { pairs = with_pair view.pairs c x } in v) left;
-    }))

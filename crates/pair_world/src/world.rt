@@ -140,10 +140,12 @@ impl World {
         ensures begun { IfOk result (λ world. world ≡ record { opening = opening; journal = []; shut = false; keys = []; files = items_of files.items; pairs = []; answers = [] }) }
         ensures stands { IfOk result Stands }
     {
+        let _kept = opening.registers.wanted();
         let files = Shelf::of_files(alloc, files)?;
+        let core = Core::new(alloc, opening)?;
         Ok(World {
             alloc,
-            core: Core::new(alloc, opening)?,
+            core,
             keys: Shelf::new(alloc),
             files,
             pairs: Vec::new(alloc),

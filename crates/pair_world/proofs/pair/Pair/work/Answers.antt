@@ -31,5 +31,5 @@ returns c =
     (ap host_reading (sym c.view.ensures) ∙ sym c.in-Some-read_host.ensures.reading) c.in_ok-word.ensures.word c.in_ok-call.ensures c.in_ok-bytes.ensures
     (c.in_ok-answer.ensures ∙ ap (λ (b : Bool). last_said b say) c.is_free.ensures)
     (pair_is view _ c.step_kit.new.kit c.in_ok-request.request (request_with s.request m line) c.drop_line.new.self (after_line s.at_kit) c.push_lines.new.pipe (s.to_host ++ text say)
-    c.push.new.self.items (s.taken.items ++ one ∷ []) refl (c.in_ok-request.ensures ∙ ap (request_with s.request m) c.view.ensures) c.in_ok-push.ensures.items
+    c.push.new.self.items (s.taken.items ++ one ∷ []) refl (c.in_ok-request.ensures ∙ ap (request_with s.request m) c.view-2.ensures) c.in_ok-push.ensures.items
     (c.drop_line.ensures (whole_ends s.at_kit whole.0)) c.in_ok-push_lines.ensures)
