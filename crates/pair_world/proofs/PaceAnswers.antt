@@ -1,10 +1,10 @@
 -- What a line of a child that keeps step makes due, and that the child keeps step behind it.
-use Rattle.std.proofs.Common.{ℕ, ◌≡◌, ◌+◌, ◌<◌, ◌==◌, ◌⊎◌, inl, inr, Bool, true, false, not, cond, List, [], ◌∷◌, ◌++◌, length, map, filter, filter_map, slice_get, Option, Some, None, is_some, codes, bytes_eq, unwrap_or, refl, sym, ap, subst, ◌∙◌, arith, append-nil, length-append}
+use Rattle.std.proofs.Common.{ℕ, ◌≡◌, ◌+◌, ◌==◌, inl, inr, Bool, true, false, not, cond, List, [], ◌∷◌, ◌++◌, length, map, filter, filter_map, Option, Some, None, is_some, codes, bytes_eq, unwrap_or, refl, sym, ap, subst, ◌∙◌, arith, length-append}
 use Rattle.std.specs.Prelude.{◌&&◌, ◌||◌}
 use Rattle.std.specs.List.{list_all, list_any, cons_option}
 use Rattle.std.specs.Map.{lookup}
 use Rattle.std.specs.Option.{option_or}
-use Rattle.std.proofs.lemmas.Bool.{and_parts, not-true}
+use Rattle.std.proofs.lemmas.Bool.{and_parts, and_right, not-true}
 use Rattle.std.proofs.lemmas.List.{map-append}
 use Rattle.std.proofs.lemmas.List.Elements.{filter_map-append}
 use Rattle.std.proofs.lemmas.List.Folds.{list_all-append}
@@ -14,7 +14,7 @@ use Rattle.annex_model.specs.Lines.{has_newline}
 use Rattle.annex_model.specs.Messages.{RemoteMessage, Version, Getconfig, HostMessage, Value, host_line, host_reading, remote_reading}
 use Rattle.annex_model.specs.Tags.{tagged_line, names_async}
 use Rattle.annex_model.specs.Talks.{Item, Host, Remote, is_aside, spells_aside, item_is_aside, final_of, awaits, said}
-use Rattle.annex_model.specs.Hearings.{Hearing, Aside, Settles, by_answer, hearing_of, hearing, request_in}
+use Rattle.annex_model.specs.Hearings.{Aside, Settles, by_answer, hearing_of, hearing, request_in}
 use Rattle.annex_model.proofs.FrontsTalk.{said-append}
 use Rattle.annex_model.proofs.Leads.{asked_more}
 use Rattle.annex_model.proofs.Readings.{canonical_read}
@@ -28,22 +28,23 @@ use Rattle.journal_model.specs.declared.entry.Entry.{Entry}
 use Rattle.journal_model.specs.declared.opening.Opening.{Opening}
 use Rattle.journal_model.specs.Journal.{any, each_of, first_of, asks, writes, line_from, got_from, mutes, settles, offers, got_lines, asked_jobs, open_jobs, is_settled, is_open, has_spoken, is_tagged, accepts_async, got_line, verdict_of, addressed}
 use Rattle.journal_model.specs.Parts.{part, part_from, is_for, ends_at}
-use Rattle.journal_model.specs.Due.{due_by_got, after_line, after_hearing, after_late, ending, is_error, is_version_one, verdict_at, replies, replying}
+use Rattle.journal_model.specs.Due.{due_by_got, after_line, after_hearing, after_late, ending, is_error, is_version_one, verdict_at}
 use Rattle.journal_model.specs.Registers.{config_at, last_given, gives_config, settings as settings_made}
 use Rattle.journal_model.proofs.Linking.{got_more}
 use Rattle.journal_model.proofs.Looks.{entry, same, same_number, any-append, each_of-append, verdict_of-append, silent_lines}
 use Rattle.journal_model.proofs.Named.{filter_alike}
 use Rattle.journal_model.proofs.PartsGrow.{part_from-append}
 use Rattle.journal_model.proofs.Replying.{IsPlaced, slice_get-here, tag_kept}
+use Rattle.journal_model.proofs.Testing.{or_false}
 use Rattle.kit_core.specs.declared.kit.Stage.TheVariants.{Waiting}
 use Rattle.kit_core.specs.Kits.{is_over, request_of as request_of_messages}
 use Rattle.kit_core.specs.Stages.{is_free, stage_of}
 use Rattle.kit_core.proofs.Behind.{request_of-push}
 use Rattle.pair_world.specs.Cues.{settings}
-use Rattle.pair_world.specs.Answered.{line_for, request_of}
-use Rattle.pair_world.specs.Paces.{written_lines, written, replies_to, is_message_line, IsExpected, IsSilent, IsIdle, IsBusy, KeepsStep}
+use Rattle.pair_world.specs.Answered.{line_for}
+use Rattle.pair_world.specs.Paces.{written_lines, written, replies_to, is_message_line, IsSilent, IsBusy}
 use Rattle.pair_world.proofs.PaceAsks.{untagged_line}
-use Rattle.pair_world.proofs.PaceEntries.{ChildInStep, touches, any_same, each_same, open_same, expected_same}
+use Rattle.pair_world.proofs.PaceEntries.{ChildInStep, any_same, each_same, open_same, expected_same}
 use Rattle.pair_world.proofs.PaceKits.{still_expects}
 use Rattle.pair_world.proofs.PaceRequests.{expects_value, value_line_free}
 use Rattle.pair_world.proofs.PaceSaid.{replies_to-append, one_reply}
@@ -179,14 +180,6 @@ greets_in_step past by c line placed silent untagged h =
 
 -- ---- an answer
 
-or_false : (b : Bool) → (b || false) ≡ b
-or_false true = refl
-or_false false = refl
-
-and_false : (b : Bool) → (b && false) ≡ false
-and_false true = refl
-and_false false = refl
-
 -- a line and the verdict that it gives
 abbrev pub settled_by : ℕ → ℕ → List ℕ → ℕ → Verdict → List Entry
 settled_by by c line j v = entry by (Got c line) ∷ entry by (Settled c j v) ∷ []
@@ -245,7 +238,7 @@ tag_settled past by c line j f placed untagged unsettled plain = by_job (j == 0)
         let here : verdict_of group c 0 ≡ Some (verdict_at f (length past)) = rw (own, e) refl in
         let verdict : verdict_of now c 0 ≡ Some (verdict_at f (length past)) =
         verdict_of-append c 0 past group ∙ ap (λ (v : Option Verdict). option_or v (verdict_of group c 0)) before ∙ here in
-        ap (λ (v : Option Verdict). any (offers c) now && accepts_async now v) verdict ∙ ap (λ (b : Bool). any (offers c) now && b) (names_none f) ∙ and_false (any (offers c) now)
+        ap (λ (v : Option Verdict). any (offers c) now && accepts_async now v) verdict ∙ ap (λ (b : Bool). any (offers c) now && b) (names_none f) ∙ and_right (any (offers c) now) false refl
 
 pub settles_in_step : (past : List Entry) (by c : ℕ) (line : List ℕ) (b : IsBusy past c) (f : Final) → IsPlaced past c → is_tagged past c ≡ false → verdict_of past c b.job ≡ None
     → names_async (remote_reading line) ≡ false → stage_of settings (written past c) ≡ Waiting → ChildInStep past c

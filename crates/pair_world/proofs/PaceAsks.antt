@@ -1,16 +1,14 @@
 -- A request that is asked of an idle child makes it busy.
-use Rattle.std.proofs.Common.{ℕ, ◌≡◌, ◌+◌, ◌==◌, ◌⊎◌, inl, inr, Bool, true, false, not, cond, List, [], ◌∷◌, ◌++◌, length, map, filter, filter_map, Option, Some, None, is_some, bytes_eq, refl, sym, ap, subst, ◌∙◌, arith, append-nil, append_assoc, length-append}
+use Rattle.std.proofs.Common.{ℕ, ◌≡◌, ◌==◌, ◌⊎◌, inl, inr, Bool, true, false, not, cond, List, [], ◌∷◌, ◌++◌, length, map, filter, filter_map, Option, Some, None, is_some, bytes_eq, refl, sym, ap, subst, ◌∙◌, arith, append-nil, append_assoc, length-append}
 use Rattle.std.specs.Prelude.{◌&&◌, ◌||◌}
 use Rattle.std.specs.List.{list_all, list_any, cons_option}
-use Rattle.std.proofs.lemmas.Bool.{or_from}
 use Rattle.std.proofs.lemmas.List.{map-append}
 use Rattle.std.proofs.lemmas.List.Elements.{filter-append, filter_map-append}
 use Rattle.std.proofs.lemmas.List.Folds.{list_all-append}
-use Rattle.std.proofs.lemmas.Slice.Eq.{bytes_eq-Decides}
 use Rattle.annex_model.specs.Lines.{has_newline}
-use Rattle.annex_model.specs.Messages.{HostMessage, Export, IsAskable, host_line, host_reading}
+use Rattle.annex_model.specs.Messages.{HostMessage, Export, host_line, host_reading}
 use Rattle.annex_model.specs.Tags.{untag}
-use Rattle.annex_model.specs.Talks.{Item, Host, has_lead, said}
+use Rattle.annex_model.specs.Talks.{Item, Host, said}
 use Rattle.annex_model.specs.Hearings.{asked_by, request_in}
 use Rattle.annex_model.specs.Turns.{turn_of, is_at}
 use Rattle.annex_model.proofs.Leads.{plain_asked}
@@ -19,9 +17,9 @@ use Rattle.journal_model.specs.declared.entry.What.{What}
 use Rattle.journal_model.specs.declared.entry.What.TheVariants.{Lead, Ask}
 use Rattle.journal_model.specs.declared.entry.Entry.{Entry}
 use Rattle.journal_model.specs.declared.opening.Opening.{Opening}
-use Rattle.journal_model.specs.Journal.{any, each_of, first_of, asks, writes, line_from, mutes, settles, got_lines, asked_jobs, open_jobs, is_settled, is_mute, is_live, is_tagged, by_tag, on_wire, addressed}
+use Rattle.journal_model.specs.Journal.{any, each_of, first_of, asks, writes, line_from, mutes, settles, got_lines, asked_jobs, open_jobs, is_settled, is_mute, is_tagged, by_tag, on_wire, addressed}
 use Rattle.journal_model.specs.Parts.{part, part_from}
-use Rattle.journal_model.specs.Legality.{Legal, may_come, may_ask, may_lead, may_work, is_greeted, said_version, is_empty, is_in_turn, asks_in_turn, says_name, is_text, suits_child, is_led, needs_lead}
+use Rattle.journal_model.specs.Legality.{Legal, may_come, is_greeted, said_version, is_empty, is_in_turn, asks_in_turn, says_name, is_text, suits_child, is_led, needs_lead}
 use Rattle.journal_model.proofs.Asking.{asked_text, read_askable}
 use Rattle.journal_model.proofs.Growing.{Led, pair}
 use Rattle.journal_model.proofs.Keeping.{in_turn_of, named_text, plain_lead}
@@ -33,8 +31,8 @@ use Rattle.journal_model.proofs.Replying.{tag_kept}
 use Rattle.journal_model.proofs.Verdicts.{unasked_none}
 use Rattle.kit_core.specs.Kits.{is_over, request_of as request_of_messages}
 use Rattle.pair_world.specs.Cues.{settings}
-use Rattle.pair_world.specs.Answered.{line_for, request_of}
-use Rattle.pair_world.specs.Paces.{written_lines, written, replies_to, is_message_line, IsExpected, IsSilent, IsIdle, IsBusy, KeepsStep}
+use Rattle.pair_world.specs.Answered.{line_for}
+use Rattle.pair_world.specs.Paces.{written_lines, written, replies_to, is_message_line, IsSilent, IsIdle, IsBusy, KeepsStep}
 use Rattle.pair_world.proofs.PaceEntries.{ChildInStep, touches, any_same, each_same}
 use Rattle.pair_world.proofs.PaceKits.{still_expects}
 use Rattle.pair_world.proofs.PaceRequests.{is_asking, turn_asks, asks_no_name, asks_current, request_line_free, name_line_free, expects_request, expects_name, expects_named}

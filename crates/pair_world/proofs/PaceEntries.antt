@@ -1,25 +1,21 @@
 -- Entries that don't touch a child leave it in step.
-use Rattle.std.proofs.Common.{ℕ, ◌≡◌, ◌+◌, ◌==◌, ◌⊎◌, inl, inr, Bool, true, false, not, cond, List, [], ◌∷◌, ◌++◌, length, map, filter, filter_map, Option, Some, None, refl, sym, ap, subst, ◌∙◌, append-nil}
+use Rattle.std.proofs.Common.{ℕ, ◌≡◌, ◌+◌, ◌==◌, ◌⊎◌, inl, inr, Bool, true, false, not, List, [], ◌∷◌, ◌++◌, length, map, filter, filter_map, Option, None, refl, sym, ap, ◌∙◌, append-nil}
 use Rattle.std.specs.Prelude.{◌&&◌, ◌||◌}
-use Rattle.std.specs.List.{list_all, list_any, cons_option}
+use Rattle.std.specs.List.{list_all}
 use Rattle.std.proofs.lemmas.Bool.{or_parts}
-use Rattle.std.proofs.lemmas.List.{map-append}
 use Rattle.annex_model.specs.Messages.{HostMessage, host_reading}
 use Rattle.annex_model.specs.Talks.{Item, said}
 use Rattle.annex_model.specs.Hearings.{request_in}
-use Rattle.journal_model.specs.declared.verdict.Why.{Why}
-use Rattle.journal_model.specs.declared.verdict.Verdict.{Verdict}
 use Rattle.journal_model.specs.declared.entry.What.{What}
-use Rattle.journal_model.specs.declared.entry.What.TheVariants.{Claim, Start, NoStart, Lead, Ask, Put, Sent, Mute, Got, End, Verdict as Settled, Lost, Answer as Answered, Note as Noted, Again}
+use Rattle.journal_model.specs.declared.entry.What.TheVariants.{Start, Lead, Ask, Put, Mute, Got, End, Verdict as Settled}
 use Rattle.journal_model.specs.declared.entry.Entry.{Entry}
-use Rattle.journal_model.specs.Journal.{any, each_of, first_of, starts, ends, mutes, settles, offers, asks, writes, line_from, verdict_in, got_lines, asked_jobs, open_jobs, is_settled, is_started, is_ended, is_mute, is_live, is_tagged, verdict_of}
-use Rattle.journal_model.specs.Parts.{part, part_from, item_of}
-use Rattle.journal_model.specs.Due.{made_by}
+use Rattle.journal_model.specs.Journal.{any, each_of, first_of, starts, ends, mutes, settles, offers, asks, writes, line_from, got_lines, asked_jobs, open_jobs, is_settled, is_started, is_ended, is_mute, is_live, is_tagged, verdict_of}
+use Rattle.journal_model.specs.Parts.{part, part_from}
 use Rattle.journal_model.proofs.Looks.{entry, any-append, each_of-append}
 use Rattle.journal_model.proofs.Named.{filter_alike}
 use Rattle.journal_model.proofs.PartsGrow.{NamesNoLine, part_from-append}
 use Rattle.journal_model.proofs.Replying.{IsPlaced, tag_kept}
-use Rattle.kit_core.specs.declared.kit.Stage.TheVariants.{Waiting}
+use Rattle.journal_model.proofs.Testing.{or_false}
 use Rattle.kit_core.specs.Kits.{is_over, request_of as request_of_messages}
 use Rattle.kit_core.specs.Stages.{stage_of}
 use Rattle.pair_world.specs.Cues.{settings}
@@ -264,10 +260,6 @@ apart c (e ∷ more) h =
     }
 
 -- ---- what stays
-
-or_false : (b : Bool) → (b || false) ≡ b
-or_false true = refl
-or_false false = refl
 
 pub any_same : (p : What → Bool) (past more : List Entry) → any p more ≡ false → any p (past ++ more) ≡ any p past
 any_same p past more none = any-append p past more ∙ ap (λ (b : Bool). any p past || b) none ∙ or_false (any p past)

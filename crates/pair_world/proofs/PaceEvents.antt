@@ -1,6 +1,6 @@
 -- Each event of the core that the world lets by keeps every child in step.
-use Rattle.std.proofs.Common.{ℕ, ◌≡◌, ◌+◌, ◌<◌, ◌^◌, ◌==◌, ◌⊎◌, inl, inr, Bool, true, false, not, cond, List, [], ◌∷◌, ◌++◌, length, Option, Some, None, refl, sym, ap, subst, ◌∙◌}
-use Rattle.std.specs.Prelude.{◌&&◌, ◌||◌, nat_lt, nat_le}
+use Rattle.std.proofs.Common.{ℕ, ◌≡◌, ◌+◌, ◌<◌, ◌^◌, ◌==◌, inl, inr, Bool, true, false, not, cond, List, [], ◌∷◌, length, Option, Some, None, refl, sym, ap, subst, ◌∙◌}
+use Rattle.std.specs.Prelude.{◌&&◌, nat_lt, nat_le}
 use Rattle.std.proofs.lemmas.Bool.{not-true}
 use Rattle.annex_model.specs.Messages.{HostMessage}
 use Rattle.task_text.specs.declared.task.Task.{Task}
@@ -18,7 +18,7 @@ use Rattle.host_core.specs.declared.event.Event.{Event}
 use Rattle.host_core.specs.declared.event.Event.TheVariants.{Claim as ClaimEvent, Start as StartEvent, NoStart as NoStartEvent, Ask as AskEvent, Lookup, Look, Listen, Fetch, Got as GotEvent, Stop, Sent as SentEvent, Mute as MuteEvent, Answer as AnswerEvent, Note as NoteEvent, Layouts as LayoutsEvent, Shut}
 use Rattle.host_core.specs.declared.event.Reply.{Reply}
 use Rattle.host_core.specs.declared.event.Reply.TheVariants.{Child, Job, Over, Done}
-use Rattle.host_core.specs.Steps.{Step, step_of, group_of, append, odd, only, gone, is_gone, claim, next_job, asking, is_named_well, may_request, may_answer, may_add_note, may_end, is_asked, settled_so, next_line, listening, resting, layouts_for}
+use Rattle.host_core.specs.Steps.{Step, step_of, append, odd, only, gone, is_gone, claim, next_job, asking, is_named_well, may_request, may_answer, may_add_note, may_end, is_asked, settled_so, next_line, listening, resting, layouts_for}
 use Rattle.host_core.proofs.Stepping.{Came, step_came}
 use Rattle.pair_world.specs.Moves.{is_barred}
 use Rattle.pair_world.proofs.PaceGroups.{JournalInStep, Goes, IsNumbered, is_heard, goes_nowhere, led_goes, plain_goes}

@@ -1,6 +1,6 @@
 -- What a line is that the host hears of a child that keeps step. Of a silent child it is its version; of an idle one there is none; and
 -- of a busy one it is what its kit, which took all that was written, says to the last message (`HeardBusy`).
-use Rattle.std.proofs.Common.{ℕ, ◌≡◌, ◌+◌, ◌==◌, ◌⊎◌, inl, inr, Bool, true, false, not, cond, List, [], ◌∷◌, ◌++◌, length, take, drop, map, filter, filter_map, Option, Some, None, is_some, codes, refl, sym, ap, subst, ◌∙◌, arith, append_assoc, append-nil, length-append}
+use Rattle.std.proofs.Common.{ℕ, ◌≡◌, ◌+◌, ◌==◌, ◌⊎◌, Bool, true, false, not, cond, List, [], ◌∷◌, ◌++◌, length, take, drop, map, filter, filter_map, Option, Some, None, is_some, codes, refl, sym, ap, subst, ◌∙◌, arith, append_assoc, append-nil, length-append}
 use Rattle.std.specs.Prelude.{◌&&◌}
 use Rattle.std.specs.List.{list_all, cons_option}
 use Rattle.std.proofs.lemmas.Bool.{and_parts}
@@ -29,7 +29,7 @@ use Rattle.kit_core.proofs.Behind.{messages-push, lines_behind-push}
 use Rattle.pair_world.specs.declared.taken.Taken.{Taken}
 use Rattle.pair_world.specs.Cues.{settings}
 use Rattle.pair_world.specs.Pairs.{PairValue, heard, is_spelled, are_spelled, taken_lines, said_lines}
-use Rattle.pair_world.specs.Worlds.{IsFed, IsRead, IsLinked}
+use Rattle.pair_world.specs.Worlds.{IsRead, IsLinked}
 use Rattle.pair_world.specs.Paces.{written_lines, written, is_name, replies_to, is_message_line, is_line_call, is_whole, IsExpected, IsSilent, IsIdle, IsBusy}
 use Rattle.pair_world.proofs.Lines.{first_split, first_whole}
 use Rattle.pair_world.proofs.Taking.{heard_more}
@@ -67,7 +67,8 @@ has_taken journal c p x h whole =
     sym (ap (map (λ (w : Option ℕ × List ℕ). w.1)) (take-append-drop n W)) ∙ map-append (λ (w : Option ℕ × List ℕ). w.1) (take n W) (drop n W) in
     let all = whole_messages (written_lines journal c) x.lines in
     let sent = (all_front is_one_line (sent_lines journal c) rest (sym (ap (list_all is_one_line) split) ∙ all)).0 in
-    let front = text_front (sent_lines journal c) (taken_lines p.taken) (p.at_kit ++ p.to_kit) sent (whole_taken p.taken whole) h.fed.bytes in
+    let front = text_front (sent_lines journal c) (taken_lines p.taken) (p.at_kit ++ p.to_kit) sent (whole_taken p.taken whole)
+    (h.fed.bytes ∙ append_assoc (text (taken_lines p.taken)) p.at_kit p.to_kit) in
     let later : List (List ℕ) = front.0 ++ rest in
     let lines : written_lines journal c ≡ taken_lines p.taken ++ later =
     split ∙ ap (λ (ls : List (List ℕ)). ls ++ rest) front.1 ∙ append_assoc (taken_lines p.taken) front.0 rest in
@@ -119,11 +120,12 @@ has_heard o journal c p legal r s end =
     let own : list_all is_one_line (line ∷ []) ≡ true = ap (λ (b : Bool). not b && true) (first_whole p.at_host) in
     let single : list_all is_one_line (gots ++ line ∷ []) ≡ true =
     list_all-append is_one_line gots (line ∷ []) ∙ ap (λ (b : Bool). b && list_all is_one_line (line ∷ [])) (gots_whole o journal legal c) ∙ own in
-    let bytes : text (gots ++ line ∷ []) ++ after ++ p.to_host ≡ text (said_lines p.taken) =
-    ap (λ (l : List ℕ). l ++ after ++ p.to_host) (text-append gots (line ∷ []))
+    let bytes : text (gots ++ line ∷ []) ++ (after ++ p.to_host) ≡ text (said_lines p.taken) =
+    ap (λ (l : List ℕ). l ++ (after ++ p.to_host)) (text-append gots (line ∷ []))
     ∙ append_assoc (text gots) (line ++ 10 ∷ []) (after ++ p.to_host)
     ∙ ap (λ (l : List ℕ). text gots ++ l) (sym (append_assoc (line ++ 10 ∷ []) after p.to_host))
-    ∙ ap (λ (l : List ℕ). text gots ++ l ++ p.to_host) (append_assoc line (10 ∷ []) after ∙ sym (first_split p.at_host end))
+    ∙ ap (λ (l : List ℕ). text gots ++ (l ++ p.to_host)) (append_assoc line (10 ∷ []) after ∙ sym (first_split p.at_host end))
+    ∙ sym (append_assoc (text gots) p.at_host p.to_host)
     ∙ r.bytes in
     let front = text_front (said_lines p.taken) (gots ++ line ∷ []) (after ++ p.to_host) s.whole single (sym bytes) in
     record { later = front.0; lines = front.1 }

@@ -1,10 +1,10 @@
 -- A line that the host hears of a child keeps every child in step: it is the child's version, asks for a value, or answers a request.
-use Rattle.std.proofs.Common.{ℕ, ◌≡◌, ◌+◌, ◌==◌, ◌⊎◌, inl, inr, Bool, true, false, not, cond, List, [], ◌∷◌, ◌++◌, length, Option, Some, None, codes, IsTrue, refl, sym, ap, subst, ◌∙◌, append-nil}
+use Rattle.std.proofs.Common.{ℕ, ◌≡◌, ◌==◌, ◌⊎◌, inl, inr, Bool, true, false, not, cond, List, [], ◌∷◌, ◌++◌, length, Option, Some, None, refl, sym, ap, subst, ◌∙◌, append-nil}
 use Rattle.std.specs.Prelude.{◌&&◌, ◌||◌}
 use Rattle.std.specs.List.{list_all, list_any, cons_option}
 use Rattle.std.proofs.lemmas.Bool.{and_parts, not-true}
 use Rattle.annex_model.specs.Lines.{has_newline}
-use Rattle.annex_model.specs.Messages.{RemoteMessage, Version, Getconfig, Value, host_line, remote_reading}
+use Rattle.annex_model.specs.Messages.{RemoteMessage, Version, Value, host_line, remote_reading}
 use Rattle.annex_model.specs.Tags.{names_async}
 use Rattle.annex_model.specs.Talks.{is_aside}
 use Rattle.wire_line.specs.HeldBytes.{first_line}
@@ -12,7 +12,7 @@ use Rattle.journal_model.specs.declared.entry.What.{What}
 use Rattle.journal_model.specs.declared.entry.What.TheVariants.{Got, Put, Verdict as Settled}
 use Rattle.journal_model.specs.declared.entry.Entry.{Entry}
 use Rattle.journal_model.specs.declared.opening.Opening.{Opening}
-use Rattle.journal_model.specs.Journal.{any, is_open, is_live, is_full, open_jobs, addressed, is_tagged}
+use Rattle.journal_model.specs.Journal.{is_open, is_live, is_full, addressed, is_tagged}
 use Rattle.journal_model.specs.Parts.{ends_at}
 use Rattle.journal_model.specs.Due.{due_by_got, is_error, made_by, verdict_at}
 use Rattle.journal_model.specs.Legality.{Legal, may_come}
@@ -28,13 +28,12 @@ use Rattle.pair_world.specs.Cues.{settings}
 use Rattle.pair_world.specs.Pairs.{PairValue}
 use Rattle.pair_world.specs.Worlds.{IsLinked}
 use Rattle.pair_world.specs.Paces.{written, is_whole, IsSilent, IsIdle, IsBusy, KeepsStep}
-use Rattle.pair_world.specs.Peace.{finds_fault}
 use Rattle.pair_world.proofs.PaceAnswers.{due_version, due_value, due_final, value_of_setting, value_free, greets_in_step, settles_in_step, value_in_step}
 use Rattle.pair_world.proofs.PaceAsks.{untagged_line}
-use Rattle.pair_world.proofs.PaceEntries.{ChildInStep, touches}
+use Rattle.pair_world.proofs.PaceEntries.{ChildInStep}
 use Rattle.pair_world.proofs.PaceGroups.{JournalInStep, Goes, child_grows}
 use Rattle.pair_world.proofs.PaceHeard.{HeardBusy, heard_silent, heard_idle, heard_busy}
-use Rattle.pair_world.proofs.PaceKits.{GoesOn, Finishes, is_fine}
+use Rattle.pair_world.proofs.PaceKits.{GoesOn, Finishes}
 
 -- ---- nothing is set
 

@@ -1,5 +1,5 @@
 -- What a kit of the world says to one message that it expects: one line, and nothing to a name.
-use Rattle.std.proofs.Common.{ℕ, ◌≡◌, ◌⊎◌, inl, inr, Bool, true, false, not, cond, List, [], ◌∷◌, ◌++◌, length, map, slice_get, Option, Some, None, option_map, is_some, codes, IsTrue, bytes_eq, refl, sym, ap, subst, ◌∙◌}
+use Rattle.std.proofs.Common.{ℕ, ◌≡◌, ◌⊎◌, inl, inr, Bool, true, false, not, cond, List, [], ◌∷◌, ◌++◌, length, slice_get, Option, Some, None, is_some, codes, IsTrue, bytes_eq, refl, sym, ap, subst, ◌∙◌}
 use Rattle.std.specs.Prelude.{◌&&◌, ◌||◌}
 use Rattle.std.specs.Str.{is_utf8}
 use Rattle.std.proofs.lemmas.Bool.{or_parts}
@@ -7,10 +7,10 @@ use Rattle.std.proofs.lemmas.Slice.Eq.{bytes_eq-Decides}
 use Rattle.annex_model.specs.Lines.{has_newline}
 use Rattle.annex_model.specs.declared.final_line.Final.{Final}
 use Rattle.annex_model.specs.declared.final_line.Final.TheVariants.{Done, Failed, Absent, Unknown, Unsupported}
-use Rattle.annex_model.specs.Messages.{RemoteMessage, Extensions, UnsupportedRequest, Getconfig, PrepareSuccess, PrepareFailure, InitremoteSuccess, InitremoteFailure, TransferSuccess, TransferFailure, CheckpresentSuccess, CheckpresentFailure, CheckpresentUnknown, RemoveSuccess, RemoveFailure, remote_line, IsSayable, IsAskable}
+use Rattle.annex_model.specs.Messages.{RemoteMessage, Extensions, UnsupportedRequest, Getconfig, remote_line, IsSayable, IsAskable}
 use Rattle.annex_model.specs.Messages.{HostMessage, AskExtensions, Prepare, Initremote, Transfer, Checkpresent, Remove, Listconfigs, Getcost, Getavailability, Getinfo, Whereis, Exportsupported, Export, Transferexport, Checkpresentexport, Removeexport, Renameexport, Value, Creds, HostError}
 use Rattle.annex_model.specs.Tags.{names_async}
-use Rattle.annex_model.specs.Talks.{final_of, is_aside, one_line}
+use Rattle.annex_model.specs.Talks.{final_of, is_aside}
 use Rattle.journal_model.specs.Due.{is_error}
 use Rattle.journal_model.specs.Replies.{is_setting}
 use Rattle.kit_core.specs.declared.call.Said.{Said}
@@ -21,7 +21,7 @@ use Rattle.kit_core.specs.declared.call.Call.{Call}
 use Rattle.kit_core.specs.declared.kit.Stage.{Stage}
 use Rattle.kit_core.specs.declared.kit.Stage.TheVariants.{Waiting, Readying}
 use Rattle.kit_core.specs.Calls.{is_line_said}
-use Rattle.kit_core.specs.Kits.{Heard, messages, has_line_fields, is_error as is_host_error, is_readying, is_prepare, is_prepared, is_unexpected, ends_kit, is_over, awaits_value, next_setting, request_of, values_of, final_line, Due, Silence, Line, Asks, refusal, readying, transfer_asked, work_due, expected_due, live_due, due_of, said_by, IsAskedBy}
+use Rattle.kit_core.specs.Kits.{Heard, messages, has_line_fields, is_error as is_host_error, is_readying, is_prepared, is_unexpected, ends_kit, is_over, awaits_value, next_setting, request_of, values_of, final_line, Due, Asks, refusal, readying, transfer_asked, work_due, expected_due, live_due, due_of, said_by, IsAskedBy}
 use Rattle.kit_core.specs.Stages.{is_free, stage_by, stage_of}
 use Rattle.kit_core.proofs.Behind.{request_pushed, values_pushed, some_behind-push, request_of-push, values_of-push}
 use Rattle.kit_core.proofs.Endless.{final_free}
@@ -55,7 +55,7 @@ pub record SaysOne (request : HostMessage) (said : List RemoteMessage) (stage : 
   pub fine : is_fine reply ≡ true
   pub next : GoesOn reply stage ⊎ Finishes request reply stage
 
-some_is : {X : Type 0} (x y : X) → Some x ≡ Some y → x ≡ y
+pub some_is : {X : Type 0} (x y : X) → Some x ≡ Some y → x ≡ y
 some_is x y e = cc
 
 own_says : (m q : HostMessage) (said : List RemoteMessage) (stage : Stage) → Some m ≡ Some q → SaysOne m said stage → SaysOne q said stage

@@ -1,13 +1,13 @@
 -- Each move keeps host and kits in step, and neither finds fault with the other.
-use Rattle.std.proofs.Common.{ℕ, zero, suc, ◌≡◌, ◌+◌, ◌-◌, ◌<◌, ◌≤◌, ◌^◌, ◌==◌, Bool, true, false, not, cond, List, [], ◌∷◌, ◌++◌, length, get_or, set, Option, Some, None, option_map, codes, refl, sym, ap, subst, ◌∙◌, arith, append-nil}
-use Rattle.std.specs.Prelude.{◌&&◌, ◌||◌, nat_le}
+use Rattle.std.proofs.Common.{ℕ, zero, suc, ◌≡◌, ◌+◌, ◌-◌, ◌<◌, ◌^◌, ◌==◌, Bool, true, false, not, cond, List, [], ◌∷◌, ◌++◌, length, get_or, set, Option, Some, None, codes, refl, sym, ap, subst, ◌∙◌, arith, append-nil}
+use Rattle.std.specs.Prelude.{◌&&◌, ◌||◌}
 use Rattle.std.specs.List.{list_all, list_any}
 use Rattle.std.proofs.lemmas.Bool.Decides.{nat_tests}
 use Rattle.std.proofs.lemmas.List.Folds.{list_all-append}
 use Rattle.annex_model.specs.Lines.{has_newline}
 use Rattle.annex_model.specs.Messages.{HostMessage}
 use Rattle.wire_line.specs.HeldBytes.{first_line}
-use Rattle.reg_file.specs.Registers.{IsKept, RegisterFile}
+use Rattle.reg_file.specs.Registers.{IsKept}
 use Rattle.journal_model.specs.declared.verdict.Why.{Why}
 use Rattle.journal_model.specs.declared.verdict.Why.TheVariants.{Eof, LongLine, Full}
 use Rattle.journal_model.specs.declared.entry.What.TheVariants.{Got, End as EndEntry}
@@ -18,30 +18,28 @@ use Rattle.journal_model.specs.Journal.{any, is_started, is_ended, is_mute, is_l
 use Rattle.journal_model.specs.Legality.{is_empty, may_come}
 use Rattle.journal_model.specs.Registers.{settings as settings_made}
 use Rattle.journal_model.proofs.Looks.{any-append}
-use Rattle.kit_core.specs.declared.call.Said.{Said}
 use Rattle.kit_core.specs.declared.call.Asked.{Asked}
 use Rattle.kit_core.specs.declared.call.Asked.TheVariants.{Prepare as AskPrepare, Store as AskStore, Retrieve as AskRetrieve, Check as AskCheck, Remove as AskRemove}
 use Rattle.kit_core.specs.Calls.{is_line_said}
 use Rattle.host_core.specs.declared.event.Event.{Event}
 use Rattle.host_core.specs.declared.event.Event.TheVariants.{Got as GotEvent, Stop as StopEvent, Sent as SentEvent}
 use Rattle.host_core.specs.declared.event.Reply.{Reply}
-use Rattle.host_core.specs.declared.event.Reply.TheVariants.{Child, Done, Gone}
-use Rattle.host_core.specs.Steps.{Step, step_of, group_of, append}
+use Rattle.host_core.specs.declared.event.Reply.TheVariants.{Child}
+use Rattle.host_core.specs.Steps.{Step, step_of, group_of}
 use Rattle.pair_world.specs.Shelves.{Items, content}
 use Rattle.pair_world.specs.declared.taken.Taken.{Taken}
 use Rattle.pair_world.specs.declared.step.Move.{Move}
 use Rattle.pair_world.specs.declared.step.Move.TheVariants.{Event as EventMove, Write, ToKit, Work, ToHost, Hear, End as EndMove}
 use Rattle.pair_world.specs.declared.step.Moved.{Moved}
 use Rattle.pair_world.specs.declared.step.Moved.TheVariants.{Did, Not}
-use Rattle.pair_world.specs.Pairs.{PairValue, new_pair, no_pair, said_lines, is_child, pair_of, with_pair, moved_to_kit, moved_to_host, written_to}
+use Rattle.pair_world.specs.Pairs.{PairValue, no_pair, said_lines, is_child, pair_of, with_pair, moved_to_kit, moved_to_host, written_to}
 use Rattle.pair_world.specs.Works.{found, is_there, word, call_for, is_waiting, next_message}
 use Rattle.pair_world.specs.Worlds.{WorldValue, AreLinked}
 use Rattle.pair_world.specs.Moves.{Moves, IsMade, is_barred, is_odd, is_unended, DoesEvent, DoesWrite, DoesToKit, DoesToHost, DoesTake, DoesWork, DoesHear, DoesEnd, stepped, reply_to, begun_by, line_of, is_amiss, is_silent, is_long, heard_event, left_at}
 use Rattle.pair_world.specs.Paces.{is_line_call, is_whole, IsExpected, KeepsStep, AreInStep}
 use Rattle.pair_world.specs.Peace.{finds_fault, is_error_line, AtPeace}
 use Rattle.pair_world.proofs.Lines.{first_false, second_false, first_whole}
-use Rattle.pair_world.proofs.Linking.{pair_at, no_child, there, message_reads, not_silent, step_got}
-use Rattle.pair_world.proofs.PaceEntries.{ChildInStep}
+use Rattle.pair_world.proofs.Linking.{pair_at, no_child, there, not_silent, step_got}
 use Rattle.pair_world.proofs.PaceEvents.{event_goes, stop_goes, sent_goes}
 use Rattle.pair_world.proofs.PaceGroups.{JournalInStep, Goes, IsNumbered, goes_nowhere, end_goes}
 use Rattle.pair_world.proofs.PaceHeard.{has_taken}

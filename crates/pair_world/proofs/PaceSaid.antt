@@ -1,10 +1,9 @@
 -- What a kit of the world says to all messages that it took: as many lines as messages are no names, each one line and none an error.
-use Rattle.std.proofs.Common.{ℕ, ◌≡◌, ◌+◌, Bool, true, false, not, cond, List, [], ◌∷◌, ◌++◌, length, map, filter, filter_map, Option, Some, None, option_map, IsTrue, codes, refl, sym, ap, subst, ◌∙◌, arith, append_assoc, append-nil, length-append}
+use Rattle.std.proofs.Common.{ℕ, ◌≡◌, ◌+◌, Bool, true, false, not, cond, List, [], ◌∷◌, ◌++◌, length, map, filter, filter_map, Option, Some, None, option_map, IsTrue, refl, sym, ap, subst, ◌∙◌, arith, append_assoc, append-nil, length-append}
 use Rattle.std.specs.Prelude.{◌&&◌, ◌||◌}
 use Rattle.std.specs.List.{list_all, list_any, cons_option}
 use Rattle.std.proofs.lemmas.Bool.{or_parts, or_from, and_parts, not-true}
-use Rattle.std.proofs.lemmas.List.{map-append}
-use Rattle.std.proofs.lemmas.List.Elements.{filter-append, filter_map-append}
+use Rattle.std.proofs.lemmas.List.Elements.{filter-append}
 use Rattle.std.proofs.lemmas.List.Folds.{list_all-append, list_any-append}
 use Rattle.annex_model.specs.Lines.{has_newline}
 use Rattle.annex_model.specs.Messages.{RemoteMessage, HostMessage, IsAskable, host_reading, remote_reading, remote_line}
@@ -13,7 +12,6 @@ use Rattle.annex_model.proofs.Readings.{canonical_remote_read, spelled_of_host}
 use Rattle.journal_model.specs.Due.{is_error}
 use Rattle.journal_model.specs.Replies.{is_setting}
 use Rattle.journal_model.proofs.Asking.{read_askable}
-use Rattle.kit_core.specs.declared.call.Call.{Call}
 use Rattle.kit_core.specs.declared.kit.Stage.{Stage}
 use Rattle.kit_core.specs.Kits.{Heard, messages, has_line_fields, ends_kit, some_behind, is_over, request_of, due_of, said_by, lines_to, lines_behind, IsAskedBy, IsServedBehind}
 use Rattle.kit_core.specs.Stages.{stage_of}
@@ -21,7 +19,7 @@ use Rattle.kit_core.proofs.Behind.{messages-push, some_behind-push}
 use Rattle.kit_core.proofs.Fields.{spelled_fields}
 use Rattle.pair_world.specs.declared.taken.Taken.{Taken}
 use Rattle.pair_world.specs.Cues.{settings}
-use Rattle.pair_world.specs.Pairs.{heard, heard_by, taken_lines, said_lines}
+use Rattle.pair_world.specs.Pairs.{heard, taken_lines, said_lines}
 use Rattle.pair_world.specs.Paces.{is_name, is_line_call, is_whole, replies_to}
 use Rattle.pair_world.specs.Peace.{is_error_line}
 use Rattle.pair_world.proofs.PaceKits.{SaysOne, Expects, expects, is_fine, says, silent, asked_for}

@@ -1,8 +1,9 @@
 -- A child that starts is silent, and one that ends need keep step no longer.
-use Rattle.std.proofs.Common.{ℕ, ◌≡◌, ◌==◌, inl, Bool, true, false, not, cond, List, [], ◌∷◌, ◌++◌, map, filter, filter_map, Option, Some, None, refl, sym, ap, subst, ◌∙◌}
+use Rattle.std.proofs.Common.{ℕ, ◌≡◌, ◌==◌, inl, Bool, true, false, not, cond, List, [], ◌∷◌, ◌++◌, map, Option, Some, None, refl, sym, ap, ◌∙◌}
 use Rattle.std.specs.Prelude.{◌&&◌, ◌||◌}
-use Rattle.std.specs.List.{list_all, list_any, cons_option}
+use Rattle.std.specs.List.{list_any, cons_option}
 use Rattle.std.specs.Option.{option_or}
+use Rattle.std.proofs.lemmas.Bool.{and_right}
 use Rattle.journal_model.specs.declared.verdict.Why.{Why}
 use Rattle.journal_model.specs.declared.verdict.Verdict.{Verdict}
 use Rattle.journal_model.specs.declared.verdict.Verdict.TheVariants.{Ended}
@@ -10,20 +11,16 @@ use Rattle.journal_model.specs.declared.entry.What.{What}
 use Rattle.journal_model.specs.declared.entry.What.TheVariants.{Start, Lead, Ask, Put, End, Verdict as Settled}
 use Rattle.journal_model.specs.declared.entry.Entry.{Entry}
 use Rattle.journal_model.specs.declared.opening.Opening.{Opening}
-use Rattle.journal_model.specs.Journal.{any, each_of, asks, writes, ends, mutes, offers, line_from, got_lines, asked_jobs, open_jobs, is_started, is_ended, is_mute, is_live, is_tagged, accepts_async, verdict_of}
-use Rattle.journal_model.specs.Due.{due_after}
+use Rattle.journal_model.specs.Journal.{any, each_of, asks, writes, ends, mutes, offers, line_from, asked_jobs, open_jobs, is_started, is_ended, is_live, accepts_async, verdict_of}
 use Rattle.journal_model.specs.Legality.{Legal}
 use Rattle.journal_model.proofs.Fresh.{fresh}
 use Rattle.journal_model.proofs.Looks.{entry, same, is_asked, any-append, verdict_of-append, settled_all}
 use Rattle.journal_model.proofs.Soft.{soft_stretch, soft_verdicts}
+use Rattle.journal_model.proofs.Testing.{or_true}
 use Rattle.journal_model.proofs.Verdicts.{unasked_none}
 use Rattle.host_core.specs.Steps.{group_of}
-use Rattle.pair_world.specs.Paces.{written_lines, IsExpected, IsSilent, KeepsStep}
+use Rattle.pair_world.specs.Paces.{written_lines, IsExpected}
 use Rattle.pair_world.proofs.PaceEntries.{ChildInStep, touches, any_same, each_same, expected_same}
-
-and_false : (b : Bool) → (b && false) ≡ false
-and_false true = refl
-and_false false = refl
 
 -- ---- a start
 
@@ -69,7 +66,7 @@ starts_in_step o past by c slot offer legal off =
       unmuted = any_same (mutes c) past one refl ∙ n.mutes;
       expected = nothing_written now c lines;
       steps = λ live. record {
-        untagged = ap (λ (v : Option Verdict). any (offers c) now && accepts_async now v) verdict ∙ and_false (any (offers c) now);
+        untagged = ap (λ (v : Option Verdict). any (offers c) now && accepts_async now v) verdict ∙ and_right (any (offers c) now) false refl;
         turn = inl (record { got = each_same (line_from c) past one refl ∙ n.got; written = lines; asked = asked });
       };
     }
@@ -98,10 +95,6 @@ ends_in_step o past by c why h =
     record {
       unmuted = any_same (mutes c) past group (soft_stretch c by (map (λ (j : ℕ). Settled c j (Ended why)) (open_jobs past c)) (soft_verdicts c (Ended why) (open_jobs past c))).muted ∙ h.unmuted;
       expected = expected_same past now c (ap (map (λ (w : Option ℕ × List ℕ). w.1)) (each_same (writes c) past group (verdicts_write_none c by c (Ended why) (open_jobs past c)))) h.expected;
-      steps = λ live. (let off : is_live now c ≡ false = ap (λ (b : Bool). is_started now c && not b) ended ∙ and_false (is_started now c) in
-      let bad : true ≡ false = sym live ∙ off in absurd cc);
+      steps = λ live. (let off : is_live now c ≡ false = ap (λ (b : Bool). is_started now c && not b) ended ∙ and_right (is_started now c) false refl in
+          let bad : true ≡ false = sym live ∙ off in absurd cc);
     }
-  where
-    or_true : (b : Bool) → (b || true) ≡ true
-    or_true true = refl
-    or_true false = refl
