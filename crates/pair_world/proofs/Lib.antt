@@ -26,7 +26,6 @@ mod AnswerKits
 mod AnswerAsks
 mod AnswerVerdicts
 mod AnswerMoves
-mod Storing
 mod StoredLast
 mod StoredGrants
 mod StoredMoves

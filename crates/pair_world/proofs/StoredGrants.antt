@@ -3,6 +3,7 @@ use Rattle.std.proofs.Common.{ℕ, ◌≡◌, ◌&&◌, ◌||◌, not, Bool, tru
 use Rattle.std.specs.Prelude.{IsTrue}
 use Rattle.std.specs.Str.{is_utf8}
 use Rattle.std.proofs.lemmas.Bool.{and_parts, false≢true}
+use Rattle.std.proofs.lemmas.Slice.Eq.{bytes_eq-Decides}
 use Rattle.annex_model.specs.declared.final_line.Final.TheVariants.{Done, Failed}
 use Rattle.annex_model.specs.Messages.{RemoteMessage, TransferSuccess, TransferFailure, RemoveSuccess, RemoveFailure}
 use Rattle.annex_model.specs.Messages.{HostMessage, AskExtensions, Prepare, Initremote, Transfer, Checkpresent, Remove, Listconfigs, Getcost, Getavailability, Getinfo, Whereis, Exportsupported, Export, Transferexport, Checkpresentexport, Removeexport, Renameexport, Value, Creds, HostError}
@@ -21,7 +22,6 @@ use Rattle.pair_world.specs.Shelves.{Items, content}
 use Rattle.pair_world.specs.Cues.{settings}
 use Rattle.pair_world.specs.Works.{found, is_there, call_for, bytes_found, bytes_put, last_said, answered}
 use Rattle.pair_world.specs.Stored.{is_success, granted, granted_by}
-use Rattle.pair_world.proofs.Storing.{same_bytes}
 
 -- ---- lines that grant nothing
 
@@ -71,11 +71,11 @@ same_way false = refl
 
 transfer_granted : (store : Bool) (key file : List ℕ) → granted (Some (Transfer store key file)) (Some (TransferSuccess store key)) ≡ Some (Transfer store key file)
 transfer_granted store key file =
-    let both : (is_same store store && bytes_eq key key) ≡ true = ap (λ (b : Bool). b && bytes_eq key key) (same_way store) ∙ same_bytes key in
+    let both : (is_same store store && bytes_eq key key) ≡ true = ap (λ (b : Bool). b && bytes_eq key key) (same_way store) ∙ (bytes_eq-Decides key key).1 refl in
     ap (λ (b : Bool). cond (is_success (cond b (Some Done) None)) (Some (Transfer store key file)) None) both
 
 remove_granted : (key : List ℕ) → granted (Some (Remove key)) (Some (RemoveSuccess key)) ≡ Some (Remove key)
-remove_granted key = ap (λ (b : Bool). cond (is_success (cond b (Some Done) None)) (Some (Remove key)) None) (same_bytes key)
+remove_granted key = ap (λ (b : Bool). cond (is_success (cond b (Some Done) None)) (Some (Remove key)) None) ((bytes_eq-Decides key key).1 refl)
 
 -- ---- what is due, and what is known of it
 

@@ -1,6 +1,7 @@
 -- The keys and the files, and what was answered, behind each move.
 use Rattle.std.proofs.Common.{ℕ, ◌≡◌, ◌&&◌, ◌||◌, not, Bool, true, false, cond, fold, List, [], ◌∷◌, ◌++◌, Option, Some, None, Result, Ok, Err, IfOk, OnOk, refl, sym, ap, subst, ◌∙◌, append-nil}
 use Rattle.std.proofs.lemmas.Bool.{false≢true}
+use Rattle.std.proofs.lemmas.Slice.Eq.{bytes_eq-Decides}
 use Rattle.annex_model.specs.Messages.{HostMessage, Transfer, Remove, host_reading}
 use Rattle.annex_model.proofs.Readings.{spelled_of_host, askable_of_spelled}
 use Rattle.wire_line.specs.HeldBytes.{first_line}
@@ -26,7 +27,7 @@ use Rattle.pair_world.specs.Worlds.{WorldValue}
 use Rattle.pair_world.specs.Moves.{IsMade, is_barred, is_odd, is_amiss, is_silent, is_unended, reply_to, DoesEvent, DoesWrite, DoesToKit, DoesToHost, DoesWork, DoesHear, DoesEnd, Moves}
 use Rattle.pair_world.specs.Stored.{granted_by, is_store_of, is_retrieve_of, is_remove_of, stores, removes, file_after, filed, IsLastStored, Keeps, ChangesFiles}
 use Rattle.pair_world.proofs.Taking.{heard_more}
-use Rattle.pair_world.proofs.Storing.{bytes_same, content-without, content-with_item}
+use Rattle.pair_world.proofs.Shelved.{content-without, content-with_item}
 use Rattle.pair_world.proofs.StoredLast.{kept, AreKept, kept_more, kept_none}
 use Rattle.pair_world.proofs.StoredGrants.{is_still, is_call, IsCall, AreStill, IsOne, Grants, Effect, effect, suits_due, call_request, call_value, call_free}
 
@@ -177,7 +178,7 @@ kept_retrieved answers keys key file (Some bytes) added found one h =
     (kept_more answers one.answer keys keys h
     (λ k. kept_same one.answer k bytes (Some (Transfer false key file)) (content k keys) one.grants one.bytes_are)
     (λ k is.
-    (let same : key ≡ k = bytes_same key k (sym (ap (is_retrieve_of k) one.grants) ∙ is) in
+    (let same : key ≡ k = (bytes_eq-Decides key k).0 (sym (ap (is_retrieve_of k) one.grants) ∙ is) in
     subst (λ (b : List ℕ). IsLastStored answers k b) (sym one.bytes_are)
     (subst (λ (n : List ℕ). IsLastStored answers n bytes) same ((h.1 key bytes).0 found)))))
 

@@ -1,29 +1,19 @@
 -- A kit's work as a move of the world.
-use Rattle.std.proofs.Common.{ℕ, ◌≡◌, ◌+◌, ◌-◌, ◌<◌, Bool, true, false, List, ◌++◌, length, set, get_or, Option, Some, None, refl, sym, ap, subst, ◌∙◌, arith}
-use Rattle.std.specs.Prelude.{◌||◌}
+use Rattle.std.proofs.Common.{ℕ, ◌≡◌, ◌+◌, ◌-◌, ◌<◌, Bool, true, false, List, ◌++◌, length, set, get_or, Option, None, refl, sym, ap, subst, ◌∙◌, arith}
 use Rattle.std.proofs.lemmas.List.{get_or_read, set-get_or}
 use Rattle.annex_model.specs.Messages.{HostMessage}
-use Rattle.journal_model.specs.declared.entry.Entry.{Entry}
-use Rattle.journal_model.specs.declared.opening.Opening.{Opening}
-use Rattle.journal_model.specs.Journal.{is_ended}
-use Rattle.kit_core.specs.Stages.{Follows}
-use Rattle.host_core.specs.declared.event.Event.{Event}
 use Rattle.host_core.specs.declared.event.Reply.{Reply}
 use Rattle.host_core.specs.declared.event.Reply.TheVariants.{Done}
-use Rattle.host_core.specs.Steps.{step_of, shut_by}
 use Rattle.pair_world.specs.declared.answer.Answer.{Answer}
-use Rattle.pair_world.specs.declared.step.Move.TheVariants.{Work, Hear}
-use Rattle.pair_world.specs.declared.step.Moved.{Moved}
-use Rattle.pair_world.specs.declared.step.Moved.TheVariants.{Did, Not}
+use Rattle.pair_world.specs.declared.step.Move.TheVariants.{Work}
+use Rattle.pair_world.specs.declared.step.Moved.TheVariants.{Did}
 use Rattle.pair_world.specs.Shelves.{Items}
-use Rattle.pair_world.specs.Cues.{settings}
-use Rattle.pair_world.specs.Pairs.{PairValue, heard, no_pair, is_child, pair_of, with_pair}
-use Rattle.pair_world.specs.Works.{is_waiting, next_message, keys_after, files_after, bytes_put, answered}
+use Rattle.pair_world.specs.Pairs.{PairValue, no_pair, pair_of, with_pair}
+use Rattle.pair_world.specs.Works.{is_waiting, next_message, keys_after, files_after, answered}
 use Rattle.pair_world.specs.Outcomes.{IsSame, TakesOne}
-use Rattle.pair_world.specs.Worlds.{WorldValue, AreLinked}
-use Rattle.pair_world.specs.Moves.{Moves, IsMade, DoesWork, DoesTake, DoesHear, stepped, reply_to, is_silent, heard_event, left_at}
-use Rattle.pair_world.proofs.Made.{not_made}
-use Rattle.pair_world.proofs.Linking.{no_child, pair_at}
+use Rattle.pair_world.specs.Worlds.{WorldValue}
+use Rattle.pair_world.specs.Moves.{Moves, IsMade, DoesWork, DoesTake}
+use Rattle.pair_world.proofs.Linking.{pair_at}
 
 -- ---- the child at a place
 

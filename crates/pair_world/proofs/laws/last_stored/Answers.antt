@@ -1,8 +1,8 @@
-use Rattle.std.proofs.Common.{ℕ, ◌≡◌, true, false, List, [], ◌∷◌, codes, bytes_eq, refl, sym, ap, subst, inl, inr}
+use Rattle.std.proofs.Common.{ℕ, List, [], ◌∷◌, codes, bytes_eq, refl, sym, ap, subst, inl, inr}
 use Rattle.std.proofs.lemmas.Bool.{false≢true}
+use Rattle.std.proofs.lemmas.Slice.Eq.{bytes_eq-Decides}
 use Rattle.pair_world.specs.Stored.{IsLastStored}
 use Rattle.pair_world.specs.StoredRows.{stored, retrieved, removed}
-use Rattle.pair_world.proofs.Storing.{bytes_same}
 use Rattle.pair_world.proofs.StoredLast.{IsLastWith, last_of, gives_more, kept_none}
 use Rattle.pair_world.proofs.laws.last_stored.Goals as goal
 
@@ -12,7 +12,7 @@ returns-clause-given c =
     (gives_more (stored (codes "one") ∷ []) (removed (codes "WORM--b"))
     (gives_more [] (stored (codes "one")) kept_none.0 (λ key is. absurd (false≢true is)))
     (λ key is. absurd (false≢true is)))
-    (λ key is. subst (λ (k : List ℕ). IsLastStored (stored (codes "one") ∷ removed (codes "WORM--b") ∷ []) k (codes "one")) (bytes_same (codes "WORM--a") key is) last)
+    (λ key is. subst (λ (k : List ℕ). IsLastStored (stored (codes "one") ∷ removed (codes "WORM--b") ∷ []) k (codes "one")) ((bytes_eq-Decides (codes "WORM--a") key).0 is) last)
   where
     last : IsLastStored (stored (codes "one") ∷ removed (codes "WORM--b") ∷ []) (codes "WORM--a") (codes "one")
     last = record { before = []; store = stored (codes "one"); later = removed (codes "WORM--b") ∷ []; splits = refl; is_store = refl; bytes_are = refl; is_last = refl }

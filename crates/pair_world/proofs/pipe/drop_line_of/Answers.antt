@@ -17,4 +17,4 @@ returns-in_default c h =
     let items = c.args.bytes.now.items in
     let is : IsFirstByte (is_byte 10) items None = subst (λ (l : List ℕ). IsFirstByte (is_byte 10) l None) c.as_slice.ensures.value c.in_default.ensures in
     let bad : true ≡ false = sym h ∙ lacks_of items (found_none items is) in
-    absurd cc
+    cc
