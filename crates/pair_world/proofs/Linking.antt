@@ -1,6 +1,6 @@
 -- Each move leaves the world standing.
 use Rattle.std.proofs.Common.{ℕ, ◌≡◌, ◌+◌, ◌-◌, ◌<◌, ◌≤◌, ◌^◌, zero, suc, Bool, true, false, not, cond, List, [], ◌∷◌, ◌++◌, length, take, drop, get_or, Option, Some, None, refl, sym, ap, subst, ◌∙◌, arith, append_assoc, append-nil, length-append}
-use Rattle.std.specs.Prelude.{◌||◌, ◌&&◌, ◌==◌, nat_le, nat_lt, map, filter, codes, is_some, Result, Ok, Err, IfOk, OnOk}
+use Rattle.std.specs.Prelude.{◌||◌, ◌&&◌, ◌==◌, nat_le, map, filter, codes, is_some, Result, Ok, Err, IfOk, OnOk}
 use Rattle.std.proofs.Math.Seq.{get_or-append_seam}
 use Rattle.std.proofs.lemmas.Bool.Decides.{nat_tests}
 use Rattle.std.proofs.lemmas.List.{map-append, take-append-drop, length-set, get_or_append_left, get_or-set_same, get_or-set_other, get_or_past}
@@ -24,7 +24,6 @@ use Rattle.journal_model.proofs.Mouths.{lines_same, covered_more}
 use Rattle.journal_model.proofs.Fresh.{fresh}
 use Rattle.kit_core.specs.declared.call.Asked.{Asked}
 use Rattle.kit_core.specs.Kits.{Heard, lines_said, lines_to}
-use Rattle.kit_core.specs.Stages.{Follows}
 use Rattle.kit_core.proofs.Behind.{lines_behind-push}
 use Rattle.host_core.specs.declared.event.Event.{Event}
 use Rattle.host_core.specs.declared.event.Event.TheVariants.{Got as GotEvent, Stop as StopEvent, Sent as SentEvent}
@@ -41,8 +40,8 @@ use Rattle.pair_world.specs.declared.step.Moved.TheVariants.{Did, Not}
 use Rattle.pair_world.specs.declared.taken.Taken.{Taken}
 use Rattle.pair_world.specs.Pairs.{PairValue, heard, is_spelled, are_spelled, taken_lines, said_lines, new_pair, no_pair, is_child, pair_of, with_pair, moved_to_kit, moved_to_host, written_to}
 use Rattle.pair_world.specs.Works.{call_for, is_waiting, next_message, Takes}
-use Rattle.pair_world.specs.Worlds.{WorldValue, HasHeard, IsFed, IsRead, IsLinked, AreLinked}
-use Rattle.pair_world.specs.Moves.{Moves, IsMade, is_barred, is_odd, is_unended, DoesEvent, DoesWrite, DoesToKit, DoesToHost, DoesTake, DoesWork, DoesHear, DoesEnd, stepped, reply_to, begun_by, line_of, is_amiss, is_silent, is_long, heard_event, left_at}
+use Rattle.pair_world.specs.Worlds.{WorldValue, IsLinked, AreLinked}
+use Rattle.pair_world.specs.Moves.{Moves, IsMade, is_barred, is_odd, is_unended, DoesEvent, DoesWrite, DoesToKit, DoesToHost, DoesWork, DoesHear, DoesEnd, stepped, reply_to, begun_by, line_of, is_amiss, is_silent, is_long, heard_event, left_at}
 use Rattle.pair_world.proofs.Journals.{Calm, calm_none, calm_end, calm_got, calm_sent, quiet_stop, Grows, Starts, Stays, grows_event, fed_on, read_on, sent_one, got_one}
 use Rattle.pair_world.proofs.Taking.{heard_more}
 
