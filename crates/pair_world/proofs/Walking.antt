@@ -1,31 +1,23 @@
 -- Tries of moves, one after the other, and what they keep.
-use Rattle.std.proofs.Common.{ℕ, zero, suc, ◌≡◌, ◌+◌, ◌-◌, ◌*◌, ◌/◌, ◌%◌, ◌<◌, ◌≤◌, ◌^◌, Bool, true, false, List, [], ◌∷◌, ◌++◌, length, take, drop, Option, Some, None, cond, refl, sym, ap, subst, inl, inr, ◌∙◌, arith, append_assoc, append-nil}
-use Rattle.std.specs.Prelude.{◌==◌, ◌||◌, map, fold, bytes_eq, codes, decimal}
-use Rattle.std.specs.List.{range_with_len}
+use Rattle.std.proofs.Common.{ℕ, zero, suc, ◌≡◌, ◌+◌, ◌*◌, ◌%◌, ◌<◌, ◌^◌, Bool, true, false, List, [], ◌++◌, Option, Some, None, refl, sym, ap, subst, inl, inr, ◌∙◌, arith, append_assoc, append-nil}
+use Rattle.std.specs.Prelude.{◌==◌, ◌||◌, fold}
 use Rattle.std.proofs.lemmas.Bool.Decides.{nat_tests}
 use Rattle.std.proofs.lemmas.Nat.{mul-mod}
-use Rattle.std.proofs.lemmas.List.{drop_at}
 use Rattle.std.proofs.lemmas.List.Sums.{fold-append}
-use Rattle.ann_key.specs.Numbers.{value_of}
-use Rattle.ann_key.proofs.Unique.{decimal_is_numeral}
-use Rattle.reg_file.proofs.Tables.{same_bytes}
 use Rattle.annex_model.specs.Messages.{HostMessage}
 use Rattle.journal_model.specs.Journal.{is_ended, unsent}
 use Rattle.journal_model.specs.Legality.{is_empty}
-use Rattle.journal_model.specs.declared.opening.Opening.{Opening}
 use Rattle.journal_model.proofs.Looks.{same_number}
-use Rattle.rehearse_plan.specs.Plans.{source_of, content_of, file_of, files_of, keys}
 use Rattle.host_core.specs.declared.event.Reply.{Reply}
 use Rattle.pair_world.specs.declared.answer.Answer.{Answer}
 use Rattle.pair_world.specs.declared.step.Move.{Move}
 use Rattle.pair_world.specs.declared.step.Move.TheVariants.{Event as EventMove, Write, ToKit, Work, ToHost, Hear, End}
 use Rattle.pair_world.specs.declared.step.Moved.TheVariants.{Did, Not}
-use Rattle.pair_world.specs.Shelves.{Items, content}
+use Rattle.pair_world.specs.Shelves.{Items}
 use Rattle.pair_world.specs.Pairs.{pair_of}
 use Rattle.pair_world.specs.Works.{is_waiting, next_message}
 use Rattle.pair_world.specs.Worlds.{WorldValue}
 use Rattle.pair_world.specs.Moves.{Moves, IsMade, DoesEvent, DoesWrite, DoesToKit, DoesWork, DoesToHost, DoesHear, DoesEnd, is_barred, is_odd, reply_to, is_amiss, is_silent, is_unended}
-use Rattle.pair_world.specs.Shown.{AreDistinct}
 use Rattle.pair_world.specs.Stored.{ChangesFiles, filed}
 use Rattle.pair_world.specs.Walks.{AllRest, AreMade, MakesCandidate, MakesOne, Rests, Tries, TriesAll, Walks, candidate, place}
 
@@ -151,39 +143,3 @@ opens_all seed (suc n) first last (w, made, one) = opens_so w last one.makes.mov
 
 pub opens_walk : (seed : ℕ) (first last : WorldValue) → Walks seed first last → last.opening ≡ first.opening
 opens_walk seed first last walks = opens_all seed walks.moves first last walks.made
-
--- ---- the files of the plan
-
--- two keys have two files
-source_apart : (low high : ℕ) → low < high → high < 2 ^ 64 → bytes_eq (source_of high) (source_of low) ≡ false
-source_apart low high less few = go (bytes_eq (source_of high) (source_of low)) refl
-  where
-    go : (b : Bool) → bytes_eq (source_of high) (source_of low) ≡ b → b ≡ false
-    go false e = refl
-    go true e =
-        let same : source_of high ≡ source_of low = same_bytes (source_of high) (source_of low) e in
-        let digits : decimal high ≡ decimal low =
-        sym (drop_at (codes "src/") (decimal high) 4 refl) ∙ ap (λ (bs : List ℕ). drop 4 bs) same ∙ drop_at (codes "src/") (decimal low) 4 refl in
-        let number : high ≡ low =
-        sym (decimal_is_numeral high few).value ∙ ap value_of digits ∙ (decimal_is_numeral low (omega (arith, less, few))).value in
-        absurd (omega (arith, number, less))
-
-passed : (b : Bool) (bytes : List ℕ) (behind : Option (List ℕ)) → b ≡ false → behind ≡ None → cond b (Some bytes) behind ≡ None
-passed true bytes behind e none = cc
-passed false bytes behind e none = none
-
-none_behind : (key from n : ℕ) → key < from → from + n < 2 ^ 64 → content (source_of key) (map file_of (range_with_len from n)) ≡ None
-none_behind key from zero low few = refl
-none_behind key from (suc n) low few =
-    passed (bytes_eq (source_of from) (source_of key)) (content_of from) (content (source_of key) (map file_of (range_with_len (from + 1) n)))
-    (source_apart key from low (omega (arith, few))) (none_behind key (from + 1) n (omega (arith, low)) (omega (arith, few)))
-
-distinct_from : (from n : ℕ) → from + n < 2 ^ 64 → AreDistinct (map file_of (range_with_len from n))
-distinct_from from zero few = tt
-distinct_from from (suc n) few =
-    (none_behind from (from + 1) n (omega arith) (omega (arith, few)), distinct_from (from + 1) n (omega (arith, few)))
-
-pub distinct_files : (tasks : ℕ) → tasks ≤ 65536 → AreDistinct (files_of tasks)
-distinct_files tasks few =
-    let most : keys tasks ≤ 16385 = omega (arith, few) in
-    distinct_from 0 (keys tasks) (omega (arith, most))

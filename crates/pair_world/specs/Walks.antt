@@ -11,7 +11,7 @@ use Rattle.host_core.specs.declared.event.Reply.{Reply}
 use Rattle.pair_world.specs.declared.step.Move.{Move}
 use Rattle.pair_world.specs.declared.step.Move.TheVariants.{Event as EventMove, Write, ToKit, Work, ToHost, Hear}
 use Rattle.pair_world.specs.declared.step.Moved.TheVariants.{Did, Not}
-use Rattle.pair_world.specs.Shelves.{content}
+use Rattle.pair_world.specs.Shelves.{content, items_of}
 use Rattle.pair_world.specs.Pairs.{pair_of}
 use Rattle.pair_world.specs.Worlds.{WorldValue}
 use Rattle.pair_world.specs.Moves.{Moves}
@@ -19,7 +19,7 @@ use Rattle.pair_world.specs.Workers.{next_of}
 
 -- no child is started yet, and the files are those of the plan
 abbrev pub first_world : ℕ → ℕ → WorldValue
-first_world seed tasks = record { opening = opening_of seed tasks; journal = []; shut = false; keys = []; files = files_of tasks; pairs = []; answers = [] }
+first_world seed tasks = record { opening = opening_of seed tasks; journal = []; shut = false; keys = []; files = items_of (files_of tasks); pairs = []; answers = [] }
 
 -- ---- the 24 moves that there may be
 
