@@ -84,7 +84,7 @@ calm_sent o past c by child apart = record { got = refl; sent = rw apart refl; s
 -- ---- events that neither hear nor cover
 
 -- the step starts no child, and is calm for each
-abbrev pub Quiet : Step → Type 0
+abbrev Quiet : Step → Type 0
 Quiet s = (begun_by s.reply ≡ []) × ((c : ℕ) → Calm c s.group)
 
 quiet_if : (b : Bool) (x y : Step) → Quiet x → Quiet y → Quiet (cond b x y)

@@ -103,9 +103,6 @@ work_done keys files k f view old new m call say line bytes answer word same fol
 pub of_some : {X : Type 0} (o : Option X) (x : X) (P : Type 0) (Q : X → Type 0) → o ≡ Some x → MatchOption o P Q → Q x
 of_some {X = X} o x P Q e m = subst (λ (y : Option X). MatchOption y P Q) e m
 
-pub of_none : {X : Type 0} (o : Option X) (P : Type 0) (Q : X → Type 0) → o ≡ None → MatchOption o P Q → P
-of_none {X = X} o P Q e m = subst (λ (y : Option X). MatchOption y P Q) e m
-
 pub whole_ends : (side : List ℕ) → has_whole side ≡ true → has_newline side ≡ true
 whole_ends side h = go (has_newline side) (nat_le (length (first_line side)) 131072) h
   where
