@@ -9,7 +9,7 @@ pub said_front : (word : Said) (xs ys : List Call) → AreSaid word (xs ++ ys) �
 said_front word [] ys h = tt
 said_front word (x ∷ xs) ys h = (h.0, said_front word xs ys h.1)
 
-pub said_last : (word : Said) (xs : List Call) (x : Call) → AreSaid word (xs ++ x ∷ []) → x.said ≡ word
+said_last : (word : Said) (xs : List Call) (x : Call) → AreSaid word (xs ++ x ∷ []) → x.said ≡ word
 said_last word [] x h = h.0
 said_last word (y ∷ xs) x h = said_last word xs x h.1
 

@@ -1,9 +1,8 @@
 -- What an event of the core adds to the journal, as a child of the world sees it.
-use Rattle.std.proofs.Common.{ℕ, ◌≡◌, ◌+◌, ◌<◌, ◌≤◌, ◌⊎◌, inl, inr, zero, suc, Bool, true, false, not, cond, List, [], ◌∷◌, ◌++◌, length, take, drop, Option, Some, None, refl, sym, ap, subst, ◌∙◌, arith, append_assoc, append-nil, length-append, length-drop}
-use Rattle.std.specs.Prelude.{◌||◌, ◌&&◌, ◌==◌, nat_le, nat_lt, map, filter}
-use Rattle.std.specs.List.{list_all, cons_option}
+use Rattle.std.proofs.Common.{ℕ, ◌≡◌, ◌+◌, ◌≤◌, Bool, true, false, not, cond, List, [], ◌∷◌, ◌++◌, length, take, Option, Some, None, refl, sym, ap, ◌∙◌, arith, append-nil, length-drop}
+use Rattle.std.specs.Prelude.{◌||◌, ◌&&◌, ◌==◌, nat_le, nat_lt, map}
+use Rattle.std.specs.List.{list_all}
 use Rattle.std.proofs.Math.Seq.{take-add}
-use Rattle.std.proofs.lemmas.List.Elements.{filter-append}
 use Rattle.std.proofs.lemmas.List.{map-append}
 use Rattle.annex_model.specs.Lines.{text, has_newline}
 use Rattle.annex_model.specs.Messages.{HostMessage}
@@ -17,13 +16,13 @@ use Rattle.journal_model.specs.declared.entry.What.TheVariants.{Claim, Start, No
 use Rattle.journal_model.specs.declared.entry.Entry.{Entry}
 use Rattle.journal_model.specs.declared.opening.Opening.{Opening}
 use Rattle.journal_model.specs.declared.answer.Answer.{Answer}
-use Rattle.journal_model.specs.Journal.{each_of, sends, writes, is_started, is_ended, is_mute, is_full, got_lines, unsent, open_jobs, verdict_of}
+use Rattle.journal_model.specs.Journal.{each_of, writes, is_started, is_ended, is_mute, is_full, got_lines, unsent, open_jobs, verdict_of}
 use Rattle.journal_model.specs.Legality.{is_empty, count, is_start, is_claimed_by, is_run_again, is_prepared, least_free, task_of, turn_of_task}
 use Rattle.journal_model.specs.Due.{due_by, due_by_got, made_by}
 use Rattle.journal_model.specs.Wires.{sent_lines}
-use Rattle.journal_model.proofs.Looks.{same, either_left, either_right, each_of-append, any-append}
+use Rattle.journal_model.proofs.Looks.{same, each_of-append}
 use Rattle.journal_model.proofs.Soft.{is_soft, soft_verdicts, soft_got, soft_stretch}
-use Rattle.journal_model.proofs.Linking.{sent_count, sent_count-append, got_more, text-append}
+use Rattle.journal_model.proofs.Linking.{sent_count, sent_count-append, got_more}
 use Rattle.journal_model.proofs.Mouths.{lines_same, covered_more}
 use Rattle.journal_model.proofs.Fresh.{other_child}
 use Rattle.talk_serial.specs.Requests.{message_of, name_of}
@@ -85,7 +84,7 @@ calm_sent o past c by child apart = record { got = refl; sent = rw apart refl; s
 -- ---- events that neither hear nor cover
 
 -- the step starts no child, and is calm for each
-abbrev pub Quiet : Step → Type 0
+abbrev Quiet : Step → Type 0
 Quiet s = (begun_by s.reply ≡ []) × ((c : ℕ) → Calm c s.group)
 
 quiet_if : (b : Bool) (x y : Step) → Quiet x → Quiet y → Quiet (cond b x y)
@@ -378,8 +377,7 @@ sent_one past by c w ws next covered =
     let w' : each_of (writes c) (past ++ one) ≡ W = each_of-append (writes c) past one ∙ append-nil W in
     let covers : sent_count one c ≡ 1 = rw (same c) refl in
     let n : sent_count (past ++ one) c ≡ S + 1 = omega (arith, sent_count-append past one c, covers) in
-    let first : take (S + 1) W ≡ take S W ++ w ∷ [] = take-add S 1 W ∙ ap (λ (x : Written). take S W ++ take 1 x) next in
-    (
+    let first : take (S + 1) W ≡ take S W ++ w ∷ [] = take-add S 1 W ∙ ap (λ (x : Written). take S W ++ take 1 x) next in (
       ap (λ (m : ℕ). texts (take m (each_of (writes c) (past ++ one)))) n ∙ ap (λ (x : Written). texts (take (S + 1) x)) w' ∙ ap texts first
           ∙ map-append (λ (y : Option ℕ × List ℕ). y.1) (take S W) (w ∷ []),
       omega (arith, n, ap (λ (x : Written). length x) w', length-drop S W, ap (λ (x : Written). length x) next, covered),

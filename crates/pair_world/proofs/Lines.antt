@@ -69,7 +69,7 @@ first_whole (x ∷ xs) = go (x == 10) refl (first_whole xs)
 
 -- ---- the text of lines that are gone through
 
-pub text_next : (ls : List (List ℕ)) (i : ℕ) (line : List ℕ) → i < length ls → get_or ls i [] ≡ line → text (take i ls) ++ (line ++ 10 ∷ []) ≡ text (take (i + 1) ls)
+text_next : (ls : List (List ℕ)) (i : ℕ) (line : List ℕ) → i < length ls → get_or ls i [] ≡ line → text (take i ls) ++ (line ++ 10 ∷ []) ≡ text (take (i + 1) ls)
 text_next ls i line within is =
     ap (λ (l : List ℕ). text (take i ls) ++ (l ++ 10 ∷ [])) (sym is)
     ∙ sym (ap text (take_more ls i [] within) ∙ text-append (take i ls) (get_or ls i [] ∷ []))

@@ -1,6 +1,6 @@
--- Each move leaves the world standing.
+-- Each move leaves the world linked.
 use Rattle.std.proofs.Common.{ℕ, ◌≡◌, ◌+◌, ◌-◌, ◌<◌, ◌≤◌, ◌^◌, zero, suc, Bool, true, false, not, cond, List, [], ◌∷◌, ◌++◌, length, take, drop, get_or, Option, Some, None, refl, sym, ap, subst, ◌∙◌, arith, append_assoc, append-nil, length-append}
-use Rattle.std.specs.Prelude.{◌||◌, ◌&&◌, ◌==◌, nat_le, nat_lt, map, filter, codes, is_some, Result, Ok, Err, IfOk, OnOk}
+use Rattle.std.specs.Prelude.{◌||◌, ◌&&◌, ◌==◌, nat_le, map, filter, codes, is_some}
 use Rattle.std.proofs.Math.Seq.{get_or-append_seam}
 use Rattle.std.proofs.lemmas.Bool.Decides.{nat_tests}
 use Rattle.std.proofs.lemmas.List.{map-append, take-append-drop, length-set, get_or_append_left, get_or-set_same, get_or-set_other, get_or_past}
@@ -24,7 +24,6 @@ use Rattle.journal_model.proofs.Mouths.{lines_same, covered_more}
 use Rattle.journal_model.proofs.Fresh.{fresh}
 use Rattle.kit_core.specs.declared.call.Asked.{Asked}
 use Rattle.kit_core.specs.Kits.{Heard, lines_said, lines_to}
-use Rattle.kit_core.specs.Stages.{Follows}
 use Rattle.kit_core.proofs.Behind.{lines_behind-push}
 use Rattle.host_core.specs.declared.event.Event.{Event}
 use Rattle.host_core.specs.declared.event.Event.TheVariants.{Got as GotEvent, Stop as StopEvent, Sent as SentEvent}
@@ -41,8 +40,8 @@ use Rattle.pair_world.specs.declared.step.Moved.TheVariants.{Did, Not}
 use Rattle.pair_world.specs.declared.taken.Taken.{Taken}
 use Rattle.pair_world.specs.Pairs.{PairValue, heard, is_spelled, are_spelled, taken_lines, said_lines, new_pair, no_pair, is_child, pair_of, with_pair, moved_to_kit, moved_to_host, written_to}
 use Rattle.pair_world.specs.Works.{call_for, is_waiting, next_message, Takes}
-use Rattle.pair_world.specs.Worlds.{WorldValue, HasHeard, IsFed, IsRead, IsLinked, AreLinked}
-use Rattle.pair_world.specs.Moves.{Moves, IsMade, is_barred, is_odd, is_unended, DoesEvent, DoesWrite, DoesToKit, DoesToHost, DoesTake, DoesWork, DoesHear, DoesEnd, stepped, reply_to, begun_by, line_of, is_amiss, is_silent, is_long, heard_event, left_at}
+use Rattle.pair_world.specs.Worlds.{WorldValue, IsLinked, AreLinked}
+use Rattle.pair_world.specs.Moves.{Moves, IsMade, is_barred, is_odd, is_unended, DoesEvent, DoesWrite, DoesToKit, DoesToHost, DoesWork, DoesHear, DoesEnd, stepped, reply_to, begun_by, line_of, is_amiss, is_silent, is_long, heard_event, left_at}
 use Rattle.pair_world.proofs.Journals.{Calm, calm_none, calm_end, calm_got, calm_sent, quiet_stop, Grows, Starts, Stays, grows_event, fed_on, read_on, sent_one, got_one}
 use Rattle.pair_world.proofs.Taking.{heard_more}
 
@@ -51,7 +50,7 @@ use Rattle.pair_world.proofs.Taking.{heard_more}
 pub child_low : (pairs : List PairValue) (c : ℕ) → is_child pairs c ≡ true → 0 < c
 child_low pairs c h = grind (arith, nat_tests)
 
-pub child_high : (pairs : List PairValue) (c : ℕ) → is_child pairs c ≡ true → c ≤ length pairs
+child_high : (pairs : List PairValue) (c : ℕ) → is_child pairs c ≡ true → c ≤ length pairs
 child_high pairs c h = grind (arith, nat_tests)
 
 pub pair_at : (pairs : List PairValue) (c : ℕ) → 0 < c → pair_of pairs c ≡ get_or pairs (c - 1) no_pair
@@ -543,12 +542,7 @@ links_moved old (EndMove c) moved new is h few =
     by_made (is_unended old c) old (DoesEnd old c) moved new is h
     (λ reply b d. links_stop old new c Eof (ap (λ (w : WorldValue). w.journal) d.goes) (ap (λ (w : WorldValue). w.opening) d.goes) (ap (λ (w : WorldValue). w.pairs) d.goes) h few)
 
-pub links_ok : {E : Type 0} (old new : WorldValue) (step : Move) (r : Result Moved E) → IfOk r (λ moved. Moves old step moved new) → OnOk r (length new.journal < 2 ^ 64)
-    → AreLinked old → OnOk r (AreLinked new)
-links_ok old new step (Ok moved) m few h = links_moved old step moved new m h few
-links_ok old new step (Err e) m few h = tt
-
--- a world with no child stands
+-- a world with no child is linked
 pub links_empty : (w : WorldValue) → w.journal ≡ [] → w.pairs ≡ [] → AreLinked w
 links_empty w journal pairs = record {
   legal = subst (Legal w.opening) (sym journal) (record { stands = tt; nothing_due = refl });

@@ -25,7 +25,7 @@ not_made true old new Does e is = is
 not_made false old new Does e is = cc
 
 -- an odd event leaves the world as it was
-pub odd_not_made : (old new : WorldValue) (by : ℕ) (event : Event) → is_odd (reply_to old by event) ≡ true
+odd_not_made : (old new : WorldValue) (by : ℕ) (event : Event) → is_odd (reply_to old by event) ≡ true
     → new ≡ record old { journal = old.journal ++ (step_of old.opening old.journal by event).group; shut = shut_by by event old.shut }
     → IsMade (is_barred event || is_odd (reply_to old by event)) old (DoesEvent old by event) Not new
 odd_not_made old new by event odd is =

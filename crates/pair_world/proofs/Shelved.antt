@@ -1,9 +1,8 @@
 -- What stands under a name, where bytes were put or taken away.
-use Rattle.std.proofs.Common.{ℕ, ◌≡◌, Bool, true, false, cond, List, [], ◌∷◌, ◌++◌, Option, Some, None, bytes_eq, refl, sym, ap, ◌∙◌}
-use Rattle.std.proofs.lemmas.List.Sums.{fold-append}
+use Rattle.std.proofs.Common.{ℕ, ◌≡◌, Bool, true, false, cond, List, Some, None, bytes_eq, refl, sym, ap, ◌∙◌}
 use Rattle.std.proofs.lemmas.Slice.Eq.{bytes_eq-Decides}
 use Rattle.reg_file.proofs.Tables.{value_at-put, value_at-without}
-use Rattle.pair_world.specs.Shelves.{Items, content, without, with_item, items_of}
+use Rattle.pair_world.specs.Shelves.{Items, content, without, with_item}
 
 swapped : (xs ys : List ℕ) → bytes_eq xs ys ≡ bytes_eq ys xs
 swapped xs ys = go (bytes_eq xs ys) refl (bytes_eq ys xs) refl
@@ -19,7 +18,3 @@ content-without name key items = value_at-without items name key ∙ ap (λ (b :
 
 pub content-with_item : (name key bytes : List ℕ) (items : Items) → content key (with_item name bytes items) ≡ cond (bytes_eq name key) (Some bytes) (content key items)
 content-with_item name key bytes items = value_at-put items name bytes key ∙ ap (λ (b : Bool). cond b (Some bytes) (content key items)) (swapped key name)
-
--- one file more
-pub items_of-more : (files : Items) (name bytes : List ℕ) → items_of (files ++ (name, bytes) ∷ []) ≡ with_item name bytes (items_of files)
-items_of-more files name bytes = fold-append (λ (items : Items) (pair : List ℕ × List ℕ). with_item pair.0 pair.1 items) [] files ((name, bytes) ∷ [])

@@ -1,5 +1,5 @@
 -- Each move leaves the world standing.
-use Rattle.std.proofs.Common.{ℕ, ◌≡◌, ◌<◌, ◌^◌, List, [], length}
+use Rattle.std.proofs.Common.{◌≡◌, ◌<◌, ◌^◌, [], length}
 use Rattle.std.specs.Prelude.{Result, Ok, Err, IfOk, OnOk}
 use Rattle.reg_file.specs.Registers.{IsKept}
 use Rattle.journal_model.specs.Beginnings.{MayBegin}

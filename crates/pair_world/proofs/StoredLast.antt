@@ -43,7 +43,7 @@ last_of answers a key bytes l = go (has_end l.later)
         inl (ap (stores key) s.1 ∙ l.is_store, ap (λ (x : Answer). x.bytes) s.1 ∙ l.bytes_are)
     go (inr e) =
         let s = same_from_push answers (l.before ++ l.store ∷ e.0) a e.1
-            (l.splits ∙ ap (λ (x : List Answer). l.before ++ l.store ∷ x) e.2 ∙ sym (append_assoc l.before (l.store ∷ e.0) (e.1 ∷ []))) in
+        (l.splits ∙ ap (λ (x : List Answer). l.before ++ l.store ∷ x) e.2 ∙ sym (append_assoc l.before (l.store ∷ e.0) (e.1 ∷ []))) in
         let none : (list_any (changes key) e.0 || (changes key e.1 || false)) ≡ false =
         sym (ap (list_any (changes key)) e.2 ∙ list_any-append (changes key) e.0 (e.1 ∷ [])) ∙ l.is_last in
         inr (
@@ -125,7 +125,7 @@ gives_more answers a gives given before later b key splits is = go (has_end late
         (subst (λ (x : Answer). IsLastStored answers key x.bytes) s.1 (given key (ap (retrieves key) s.1 ∙ is)))
     go (inr e) =
         let s = same_from_push answers (before ++ b ∷ e.0) a e.1
-            (splits ∙ ap (λ (x : List Answer). before ++ b ∷ x) e.2 ∙ sym (append_assoc before (b ∷ e.0) (e.1 ∷ []))) in
+        (splits ∙ ap (λ (x : List Answer). before ++ b ∷ x) e.2 ∙ sym (append_assoc before (b ∷ e.0) (e.1 ∷ []))) in
         gives before e.0 b key s.0 is
 
 -- one answer more, which does to the keys what it says

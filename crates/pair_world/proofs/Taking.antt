@@ -78,30 +78,30 @@ pub work_done : (keys files k f : Items) (view old new : PairValue) (m : HostMes
     }
     → (is_waiting old.at_kit ≡ false) × TakesOne keys files old k f new answer bytes
 work_done keys files k f view old new m call say line bytes answer word same follows some whole reads given steps serves says is =
-    subst (λ (p : PairValue). (is_waiting p.at_kit ≡ false) × TakesOne keys files p k f new answer bytes) same (some, record {
-      message = m;
-      asked = option_map (λ (c : Call). c.asked) call;
-      next = ap (λ (b : Bool). cond b (host_reading (first_line view.at_kit)) None) whole.0 ∙ first;
-      serves = serves;
-      takes = takes keys files view new m call say answer (subst (λ (p : PairValue). Follows settings p.kit (heard p.taken)) (sym same) follows)
-          (subst (λ (w : Said). StepsBy w view.kit new.kit m call say) given steps) first
-          (is ∙ ap (λ (l : List ℕ). let p : PairValue = record view {
-            kit = new.kit;
-            request = request_with view.request m l;
-            taken = view.taken ++ record { line = l; call = call } ∷ [];
-            at_kit = after_line view.at_kit;
-            to_host = view.to_host ++ text say;
-          } in p) whole.1) says;
-    })
+    subst (λ (p : PairValue). (is_waiting p.at_kit ≡ false) × TakesOne keys files p k f new answer bytes) same (
+      some,
+      record {
+        message = m;
+        asked = option_map (λ (c : Call). c.asked) call;
+        next = ap (λ (b : Bool). cond b (host_reading (first_line view.at_kit)) None) whole.0 ∙ first;
+        serves = serves;
+        takes = takes keys files view new m call say answer (subst (λ (p : PairValue). Follows settings p.kit (heard p.taken)) (sym same) follows)
+            (subst (λ (w : Said). StepsBy w view.kit new.kit m call say) given steps) first
+            (is ∙ ap (λ (l : List ℕ). let p : PairValue = record view {
+              kit = new.kit;
+              request = request_with view.request m l;
+              taken = view.taken ++ record { line = l; call = call } ∷ [];
+              at_kit = after_line view.at_kit;
+              to_host = view.to_host ++ text say;
+            } in p) whole.1) says;
+      },
+    )
   where
     first : host_reading (first_line view.at_kit) ≡ Some m
     first = ap host_reading (sym whole.1) ∙ reads
 
 pub of_some : {X : Type 0} (o : Option X) (x : X) (P : Type 0) (Q : X → Type 0) → o ≡ Some x → MatchOption o P Q → Q x
 of_some {X = X} o x P Q e m = subst (λ (y : Option X). MatchOption y P Q) e m
-
-pub of_none : {X : Type 0} (o : Option X) (P : Type 0) (Q : X → Type 0) → o ≡ None → MatchOption o P Q → P
-of_none {X = X} o P Q e m = subst (λ (y : Option X). MatchOption y P Q) e m
 
 pub whole_ends : (side : List ℕ) → has_whole side ≡ true → has_newline side ≡ true
 whole_ends side h = go (has_newline side) (nat_le (length (first_line side)) 131072) h

@@ -1,5 +1,5 @@
 -- What came of a kit's work.
-use Rattle.std.specs.Prelude.{ℕ, ◌≡◌, Bool, true, false, List, Option, Some, None}
+use Rattle.std.specs.Prelude.{ℕ, ◌≡◌, true, false, List, Option, Some, None}
 use Rattle.annex_model.specs.Messages.{HostMessage}
 use Rattle.kit_core.specs.declared.call.Asked.{Asked}
 use Rattle.pair_world.specs.declared.work.Work.{Work}

@@ -1,5 +1,5 @@
 -- A child of the world: its kit, the pipes between it and the host, and what waits at either side.
-use Rattle.std.specs.Prelude.{ℕ, ◌≡◌, ◌+◌, ◌-◌, ◌==◌, ◌&&◌, not, nat_le, Bool, true, false, if◌then◌else◌, List, [], ◌∷◌, ◌++◌, map, filter_map, length, take, drop, slice_index_or, slice_set, Option, Some, None, option_map, is_some, codes, IsTrue}
+use Rattle.std.specs.Prelude.{ℕ, ◌-◌, ◌==◌, ◌&&◌, not, nat_le, Bool, false, if◌then◌else◌, List, [], ◌∷◌, ◌++◌, map, filter_map, length, take, drop, slice_index_or, slice_set, Option, option_map, is_some, codes}
 use Rattle.std.specs.List.{list_all}
 use Rattle.annex_model.specs.Lines.{text}
 use Rattle.annex_model.specs.Messages.{host_reading}

@@ -1,5 +1,5 @@
 -- Worked worlds: a child that was started, says its version and is heard.
-use Rattle.std.specs.Prelude.{ℕ, true, false, List, [], ◌∷◌, codes}
+use Rattle.std.specs.Prelude.{false, List, [], ◌∷◌, codes}
 use Rattle.annex_model.specs.Lines.{text}
 use Rattle.journal_model.specs.declared.entry.What.TheVariants.{Start, Got}
 use Rattle.journal_model.specs.declared.entry.Entry.{Entry}

@@ -8,11 +8,10 @@ use Rattle.kit_core.specs.declared.call.Said.TheVariants.{Yes, No, Failure}
 use Rattle.kit_core.specs.declared.call.Asked.{Asked}
 use Rattle.kit_core.specs.declared.call.Asked.TheVariants.{Prepare as AskPrepare, Store as AskStore, Retrieve as AskRetrieve, Check as AskCheck, Remove as AskRemove}
 use Rattle.kit_core.specs.declared.call.Call.{Call}
-use Rattle.kit_core.specs.Kits.{Heard, Due, due_of, asked_by, lines_to, is_value, IsAskedBy}
+use Rattle.kit_core.specs.Kits.{Heard, due_of, asked_by, lines_to, is_value, IsAskedBy}
 use Rattle.kit_core.specs.Stages.{KitValue, Follows, is_free}
 use Rattle.pair_world.specs.Shelves.{Items, content, without, with_item}
 use Rattle.pair_world.specs.Cues.{CueValue, settings}
-use Rattle.pair_world.specs.declared.taken.Taken.{Taken}
 use Rattle.pair_world.specs.declared.answer.Answer.{Answer}
 use Rattle.pair_world.specs.Pairs.{PairValue, heard}
 

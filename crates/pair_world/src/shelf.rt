@@ -35,10 +35,7 @@ impl Shelf {
     }
 
     /// A shelf with these files, of which the last of a name counts.
-    pub(crate) fn of_files(
-        alloc: Global,
-        files: Vec<(Text, Bytes)>,
-    ) -> Result<Shelf, NoMemory>
+    pub(crate) fn of_files(alloc: Global, files: Vec<(Text, Bytes)>) -> Result<Shelf, NoMemory>
         ensures { IfOk result (λ shelf. shelf ≡ items_of files.items) }
     {
         let mut shelf = Shelf::new(alloc);

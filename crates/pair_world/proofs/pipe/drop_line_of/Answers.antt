@@ -1,8 +1,7 @@
-use Rattle.std.proofs.Common.{ℕ, List, ◌≡◌, ◌+◌, ◌<◌, Bool, true, false, length, drop, sym, ap, subst, ◌∙◌}
+use Rattle.std.proofs.Common.{ℕ, List, ◌≡◌, ◌+◌, true, false, drop, sym, ap, subst, ◌∙◌}
 use Rattle.std.specs.Prelude.{None, Some}
-use Rattle.annex_model.specs.Lines.{has_newline}
 use Rattle.memchr.specs.Find.{IsFirstByte, is_byte}
-use Rattle.wire_line.proofs.Firsts.{end_of, found_at, found_none}
+use Rattle.wire_line.proofs.Firsts.{found_at, found_none}
 use Rattle.pair_world.proofs.Lines.{lacks_of}
 use Rattle.pair_world.proofs.pipe.drop_line_of.Goals as goal
 

@@ -1,4 +1,4 @@
-use Rattle.std.proofs.Common.{◌≡◌, ℕ, Bool, List, ◌++◌, ◌∷◌, [], refl, sym, ap, ◌∙◌}
+use Rattle.std.proofs.Common.{ℕ, Bool, List, ◌++◌, ◌∷◌, [], refl, sym, ap, ◌∙◌}
 use Rattle.annex_model.specs.Lines.{has_newline, text}
 use Rattle.annex_model.specs.Messages.{HostMessage, host_reading}
 use Rattle.wire_msg.specs.Shown.{host_shown}
