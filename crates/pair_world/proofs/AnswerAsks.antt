@@ -7,8 +7,8 @@ use Rattle.std.proofs.lemmas.Bool.Decides.{nat_tests}
 use Rattle.std.proofs.lemmas.List.{map-append}
 use Rattle.std.proofs.lemmas.List.Folds.{list_any-append}
 use Rattle.annex_model.specs.Messages.{RemoteMessage, Dirhash, DirhashLower, Getconfig, Getcreds, Getuuid, Getgitdir, Getgitremotename, Getwanted, Getstate, Geturls, remote_reading}
-use Rattle.annex_model.specs.Messages.{HostMessage, Export, Value, Creds, HostError, host_reading, host_line}
-use Rattle.annex_model.specs.Tags.{untag, tagged_line}
+use Rattle.annex_model.specs.Messages.{HostMessage, Export, Value, host_reading, host_line}
+use Rattle.annex_model.specs.Tags.{tagged_line}
 use Rattle.annex_model.specs.Turns.{turn_of, is_at}
 use Rattle.annex_model.proofs.Readings.{canonical_read}
 use Rattle.journal_model.specs.declared.verdict.Verdict.{Verdict}
@@ -17,7 +17,7 @@ use Rattle.journal_model.specs.declared.entry.What.{What}
 use Rattle.journal_model.specs.declared.entry.What.TheVariants.{Lead, Ask, Put, Mute, Got, End, Verdict as Settled}
 use Rattle.journal_model.specs.declared.entry.Entry.{Entry}
 use Rattle.journal_model.specs.declared.opening.Opening.{Opening}
-use Rattle.journal_model.specs.Journal.{each_of, first_of, asks as asks_of, writes, asked_jobs, open_jobs, is_live, is_mute, is_tagged, is_unsent, on_wire, by_tag, addressed}
+use Rattle.journal_model.specs.Journal.{each_of, first_of, asks, writes, asked_jobs, open_jobs, is_live, is_mute, is_tagged, is_unsent, on_wire, addressed}
 use Rattle.journal_model.specs.Registers.{values_at}
 use Rattle.journal_model.specs.Replies.{Values, mixed_at, lower_at, value_line, creds_line, replies_by}
 use Rattle.journal_model.specs.Room.{is_ask}
@@ -30,7 +30,9 @@ use Rattle.journal_model.proofs.Testing.{by_either}
 use Rattle.journal_model.proofs.Turns.{tagged_on}
 use Rattle.pair_world.specs.Answered.{line_for, request_of}
 use Rattle.pair_world.specs.Paces.{written_lines}
-use Rattle.pair_world.proofs.AnswerKits.{asks, asks_by, is_request, requests, requests-append}
+use Rattle.pair_world.proofs.PaceRequests.{turn_asks}
+use Rattle.pair_world.proofs.PaceAsks.{untagged_line}
+use Rattle.pair_world.proofs.AnswerKits.{asks_by, is_request, requests, requests-append}
 
 -- the lines that ask jobs of the child
 abbrev pub ask_line : ℕ → What → Option (List ℕ)
@@ -48,7 +50,7 @@ asks_counted (e ∷ journal) c = step e.what (asks_counted journal c)
     before = journal
 
     step : (w : What) → length (ask_lines before c) ≡ length (asked_jobs before c)
-        → length (cons_option (ask_line c w) (ask_lines before c)) ≡ length (cons_option (asks_of c w) (asked_jobs before c))
+        → length (cons_option (ask_line c w) (ask_lines before c)) ≡ length (cons_option (asks c w) (asked_jobs before c))
     step (Ask child job task line) r = go (child == c)
       where
         go : (b : Bool) → length (cons_option (cond b (Some line) None) (ask_lines before c)) ≡ length (cons_option (cond b (Some job) None) (asked_jobs before c))
@@ -177,13 +179,6 @@ name_plain past c job line None h = refl
 name_plain past c job line (Some (Export name)) h = refl
 name_plain past c job line (Some m) h = absurd cc
 
-turn_asks : (q : HostMessage) (job : ℕ) → is_at (turn_of q) job ≡ true → asks q ≡ true
-turn_asks (Export name) job h = absurd cc
-turn_asks (Value value) job h = absurd cc
-turn_asks (Creds user password) job h = absurd cc
-turn_asks (HostError text) job h = absurd cc
-turn_asks q job h = refl
-
 asked_plain : (past : List Entry) (c job : ℕ) (line : List ℕ) (r : Option HostMessage) → asks_in_turn past c job line r ≡ true → asks_by r ≡ true
 asked_plain past c job line None h = absurd cc
 asked_plain past c job line (Some q) h =
@@ -192,16 +187,16 @@ asked_plain past c job line (Some q) h =
 
 -- ---- what is written
 
-pub untagged_text : (past : List Entry) (c : ℕ) (line : List ℕ) → is_tagged past c ≡ false → (addressed past c line).1 ≡ line
-untagged_text past c line untagged =
-    ap (λ (b : Bool). (cond {A = Option ℕ × List ℕ} b (by_tag line (untag line)) (first_of (open_jobs past c), line)).1) untagged
+abbrev texts : List (Option ℕ × List ℕ) → List (List ℕ)
+texts ws = map (λ w. w.1) ws
 
 module _ (o : Opening) (past : List Entry) (by c : ℕ) (untagged : is_tagged past c ≡ false) where
   abbrev asked_in : List What → List (List ℕ)
   asked_in ws = requests (written_lines (made_by by ws) c)
 
   plain_text : (child : ℕ) (line : List ℕ) → (child == c) ≡ true → (addressed past child line).1 ≡ line
-  plain_text child line e = untagged_text past child line (ap (is_tagged past) (same_number child c e) ∙ untagged)
+  plain_text child line e =
+      ap (λ (a : Option ℕ × List ℕ). a.1) (untagged_line past child line (ap (is_tagged past) (same_number child c e) ∙ untagged))
 
   plain_wire : (child job : ℕ) (line : List ℕ) → (child == c) ≡ true → on_wire past child job line ≡ line
   plain_wire child job line e =
@@ -221,10 +216,11 @@ module _ (o : Opening) (past : List Entry) (by c : ℕ) (untagged : is_tagged pa
       rest : List (Option ℕ × List ℕ)
       rest = each_of (writes c) (made_by by (replying past child j ls))
 
-      go : (b : Bool) → (child == c) ≡ b → requests (map (λ (w : Option ℕ × List ℕ). w.1) rest) ≡ [] → requests (map (λ (w : Option ℕ × List ℕ). w.1) (cons_option (cond {A = Option (Option ℕ × List ℕ)} b (Some (None, wired)) None) rest)) ≡ []
+      go : (b : Bool) → (child == c) ≡ b → requests (texts rest) ≡ []
+          → requests (texts (cons_option (cond {A = Option (Option ℕ × List ℕ)} b (Some (None, wired)) None) rest)) ≡ []
       go false e r = r
       go true e r =
-          ap (λ (b : Bool). cond b (wired ∷ requests (map (λ (w : Option ℕ × List ℕ). w.1) rest)) (requests (map (λ (w : Option ℕ × List ℕ). w.1) rest)))
+          ap (λ (b : Bool). cond b (wired ∷ requests (texts rest)) (requests (texts rest)))
           (ap is_request (plain_wire child j l e) ∙ either_left (is_request l) (list_any is_request ls) h)
           ∙ r
 
@@ -235,10 +231,10 @@ module _ (o : Opening) (past : List Entry) (by c : ℕ) (untagged : is_tagged pa
       (λ j ls opened for owed. replies_written child j ls (ap (list_any is_request) owed ∙ said_plain o past (remote_reading (addressed past child line).1)))
 
   written_by : (w : What) → may_come o past by w ≡ true
-      → requests (map (λ (x : Option ℕ × List ℕ). x.1) (cons_option (writes c w) (each_of (writes c) (due_after o past (entry by w))))) ≡ cons_option (ask_line c w) []
+      → requests (texts (cons_option (writes c w) (each_of (writes c) (due_after o past (entry by w))))) ≡ cons_option (ask_line c w) []
   written_by (Lead child job line) may = go (child == c) refl
     where
-      go : (b : Bool) → (child == c) ≡ b → requests (map (λ (x : Option ℕ × List ℕ). x.1) (cons_option (cond {A = Option (Option ℕ × List ℕ)} b (Some (None, line)) None) [])) ≡ []
+      go : (b : Bool) → (child == c) ≡ b → requests (texts (cons_option (cond {A = Option (Option ℕ × List ℕ)} b (Some (None, line)) None) [])) ≡ []
       go false e = refl
       go true e =
           let five = of_five (is_live past child) (not (is_mute past child)) (job == length (asked_jobs past child))
@@ -248,7 +244,7 @@ module _ (o : Opening) (past : List Entry) (by c : ℕ) (untagged : is_tagged pa
   written_by (Ask child job task line) may = go (child == c) refl
     where
       go : (b : Bool) → (child == c) ≡ b
-          → requests (map (λ (x : Option ℕ × List ℕ). x.1) (cons_option (cond {A = Option (Option ℕ × List ℕ)} b (Some (Some job, line)) None) [])) ≡ cons_option (cond b (Some line) None) []
+          → requests (texts (cons_option (cond {A = Option (Option ℕ × List ℕ)} b (Some (Some job, line)) None) [])) ≡ cons_option (cond b (Some line) None) []
       go false e = refl
       go true e =
           let five = of_five (is_live past child) (not (is_mute past child)) (job == length (asked_jobs past child))
@@ -268,7 +264,7 @@ module _ (o : Opening) (past : List Entry) (by c : ℕ) (untagged : is_tagged pa
   written_step : (w : What) → may_come o past by w ≡ true → requests (written_lines past c) ≡ ask_lines past c
       → requests (written_lines (past ++ entry by w ∷ due_after o past (entry by w)) c) ≡ ask_lines (past ++ entry by w ∷ due_after o past (entry by w)) c
   written_step w may before =
-      ap (λ (ws : List (Option ℕ × List ℕ)). requests (map (λ (x : Option ℕ × List ℕ). x.1) ws)) (each_of-append (writes c) past more)
+      ap (λ (ws : List (Option ℕ × List ℕ)). requests (texts ws)) (each_of-append (writes c) past more)
       ∙ ap requests (map-append (λ (x : Option ℕ × List ℕ). x.1) (each_of (writes c) past) (each_of (writes c) more))
       ∙ requests-append (written_lines past c) (written_lines more c)
       ∙ ap (λ (l : List (List ℕ)). l ++ requests (written_lines more c)) before

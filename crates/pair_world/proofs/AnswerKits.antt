@@ -20,22 +20,17 @@ use Rattle.pair_world.specs.Pairs.{heard, is_spelled, are_spelled, taken_lines}
 use Rattle.pair_world.specs.Works.{request_with, last_said}
 use Rattle.pair_world.specs.Answered.{request_taken, noted, answers_to}
 use Rattle.pair_world.proofs.Taking.{heard_more}
+use Rattle.pair_world.proofs.PaceRequests.{is_asking}
 use Rattle.pair_world.proofs.PaceSaid.{served_front}
+use Rattle.pair_world.proofs.PaceTexts.{heads}
 use Rattle.pair_world.proofs.AnswerNotes.{answers_push, request_push}
 
 -- ---- what a message is to the requests
 
--- the message is a request, to which an answer is said
-abbrev pub asks : HostMessage → Bool
-asks (Export name) = false
-asks (Value value) = false
-asks (Creds user password) = false
-asks (HostError text) = false
-asks m = true
-
+-- whether the message that is read, if one is, is a request, to which an answer is said
 abbrev pub asks_by : Option HostMessage → Bool
 asks_by None = false
-asks_by (Some m) = asks m
+asks_by (Some m) = is_asking m
 
 abbrev pub is_request : List ℕ → Bool
 is_request line = asks_by (host_reading line)
@@ -50,7 +45,7 @@ one_if b line = cond b (line ∷ []) []
 pub requests-append : (xs ys : List (List ℕ)) → requests (xs ++ ys) ≡ requests xs ++ requests ys
 requests-append xs ys = filter-append is_request xs ys
 
-pub requests_push : (lines : List (List ℕ)) (line : List ℕ) (m : HostMessage) → host_reading line ≡ Some m → requests (lines ++ line ∷ []) ≡ requests lines ++ one_if (asks m) line
+pub requests_push : (lines : List (List ℕ)) (line : List ℕ) (m : HostMessage) → host_reading line ≡ Some m → requests (lines ++ line ∷ []) ≡ requests lines ++ one_if (is_asking m) line
 requests_push lines line m reads =
     requests-append lines (line ∷ []) ∙ ap (λ (o : Option HostMessage). requests lines ++ one_if (asks_by o) line) reads
 
@@ -61,10 +56,10 @@ asking_line = remote_line (Getconfig (codes "directory"))
 -- What an expected message does: it brings the value that was awaited, and the request is answered; it is a name, to which nothing
 -- is said; it is a request before which the setting is asked for; or one that is answered at once.
 pub data Comes (m : HostMessage) (before after : Bool) (say : List (List ℕ)) : Type 0 where
-  Brings : (line : List ℕ) → is_value m ≡ true → asks m ≡ false → before ≡ true → after ≡ false → say ≡ line ∷ [] → Comes m before after say
-  Names : is_value m ≡ false → asks m ≡ false → before ≡ false → after ≡ false → say ≡ [] → Comes m before after say
-  Begins : is_value m ≡ false → asks m ≡ true → before ≡ false → after ≡ true → say ≡ asking_line ∷ [] → Comes m before after say
-  Answers : (line : List ℕ) → is_value m ≡ false → asks m ≡ true → before ≡ false → after ≡ false → say ≡ line ∷ [] → Comes m before after say
+  Brings : (line : List ℕ) → is_value m ≡ true → is_asking m ≡ false → before ≡ true → after ≡ false → say ≡ line ∷ [] → Comes m before after say
+  Names : is_value m ≡ false → is_asking m ≡ false → before ≡ false → after ≡ false → say ≡ [] → Comes m before after say
+  Begins : is_value m ≡ false → is_asking m ≡ true → before ≡ false → after ≡ true → say ≡ asking_line ∷ [] → Comes m before after say
+  Answers : (line : List ℕ) → is_value m ≡ false → is_asking m ≡ true → before ≡ false → after ≡ false → say ≡ line ∷ [] → Comes m before after say
 
 -- ---- what is due
 
@@ -103,7 +98,7 @@ and_false : (b : Bool) → (b && false) ≡ false
 and_false true = refl
 and_false false = refl
 
-answers_now : (m : HostMessage) (after : Bool) (due : Due) (request : Option HostMessage) (call : Option Call) → is_value m ≡ false → asks m ≡ true → after ≡ false
+answers_now : (m : HostMessage) (after : Bool) (due : Due) (request : Option HostMessage) (call : Option Call) → is_value m ≡ false → is_asking m ≡ true → after ≡ false
     → is_answering due ≡ true → IsAskedBy due call → Comes m false after (map remote_line (said_by due request call))
 answers_now m after due request call v a none d asked = let l = one_line due request call d asked in Answers l.0 v a refl none l.1
 
@@ -207,7 +202,9 @@ pub record IsLastTaken (before : List Taken) (t : Taken) : Type 0 where
   pub reads : host_reading t.line ≡ Some message
   pub is_more : heard (before ++ t ∷ []) ≡ heard before ++ record { message = message; call = t.call } ∷ []
   pub earlier : AreExpected before
-  pub comes : Comes message (awaits_value settings (messages (heard before))) (awaits_value settings (messages (heard (before ++ t ∷ [])))) (lines_to settings (heard before) (record { message = message; call = t.call }))
+  pub comes :
+      Comes message (awaits_value settings (messages (heard before))) (awaits_value settings (messages (heard (before ++ t ∷ []))))
+      (lines_to settings (heard before) (record { message = message; call = t.call }))
 
 pub last_taken : (before : List Taken) (t : Taken) → AreExpected (before ++ t ∷ []) → IsLastTaken before t
 last_taken before t h = by_reading (host_reading t.line) refl
@@ -247,7 +244,7 @@ AreAskedFor taken = requests (taken_lines taken) ≡ firsts (answers_to taken) +
 
 one_more : (m : HostMessage) (before after : Bool) (say asked : List (List ℕ)) (answers : List (List ℕ × List ℕ)) (request line : List ℕ)
     → Comes m before after say → asked ≡ firsts answers ++ one_if before request
-    → asked ++ one_if (asks m) line
+    → asked ++ one_if (is_asking m) line
     ≡ firsts (answers ++ noted (request_with request m line) (last_said (not after) say)) ++ one_if after (request_with request m line)
 one_more m before after say asked answers request line (Brings said v a b n s) q =
     rw (v, a, n, s)
@@ -300,9 +297,6 @@ pub record IsAnswer (before : List Taken) (t : Taken) (line : List ℕ) : Type 0
   pub answers_are : answers_to (before ++ t ∷ []) ≡ answers_to before ++ (request_taken (before ++ t ∷ []), line) ∷ []
   pub requests_are : requests (taken_lines (before ++ t ∷ [])) ≡ firsts (answers_to (before ++ t ∷ []))
 
-head_same : (x y : List ℕ) → x ∷ [] ≡ y ∷ [] → x ≡ y
-head_same x y e = cc
-
 -- so it is of a line that doesn't ask for the setting
 pub last_answer : (before : List Taken) (t : Taken) (m : HostMessage) (line : List ℕ) → AreExpected (before ++ t ∷ []) → host_reading t.line ≡ Some m
     → lines_to settings (heard before) (record { message = m; call = t.call }) ≡ line ∷ [] → (line ≡ asking_line → ⊥) → IsAnswer before t line
@@ -327,11 +321,12 @@ last_answer before t m line h reads says other = by_comes (last_taken before t h
     go : (a b : Bool) (lines : List (List ℕ)) → lines ≡ line ∷ [] → (b ≡ false → IsAnswer before t line) → Comes m a b lines → IsAnswer before t line
     go a b lines is ends (Brings said v q x n s) = ends n
     go a b lines is ends (Names v q x n s) = absurd (let bad : [] ≡ line ∷ [] = sym s ∙ is in cc)
-    go a b lines is ends (Begins v q x n s) = absurd (other (head_same line asking_line (sym is ∙ s)))
+    go a b lines is ends (Begins v q x n s) = absurd (other (heads line asking_line [] [] (sym is ∙ s)))
     go a b lines is ends (Answers said v q x n s) = ends n
 
     by_comes : IsLastTaken before t → IsAnswer before t line
     by_comes l =
         let same : l.message ≡ m = same_Some l.message m (sym l.reads ∙ reads) in
         go (awaits_value settings (messages (heard before))) (awaits_value settings (messages (heard all))) say says free
-        (subst (λ (x : HostMessage). Comes x (awaits_value settings (messages (heard before))) (awaits_value settings (messages (heard all))) (lines_to settings (heard before) (record { message = x; call = t.call }))) same l.comes)
+        (subst (λ (x : HostMessage). Comes x (awaits_value settings (messages (heard before))) (awaits_value settings (messages (heard all)))
+        (lines_to settings (heard before) (record { message = x; call = t.call }))) same l.comes)

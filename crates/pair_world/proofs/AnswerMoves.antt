@@ -43,10 +43,11 @@ use Rattle.pair_world.specs.Answered.{line_for, request_of, answers_of, request_
 use Rattle.pair_world.proofs.Lines.{first_false, second_false}
 use Rattle.pair_world.proofs.Journals.{Grows, Starts, Stays, grows_event, quiet_stop}
 use Rattle.pair_world.proofs.Linking.{there, not_silent}
+use Rattle.pair_world.proofs.PaceAsks.{untagged_line}
 use Rattle.pair_world.proofs.PaceHeard.{HeardBusy, heard_busy}
 use Rattle.pair_world.proofs.AnswerNotes.{by_made}
 use Rattle.pair_world.proofs.AnswerKits.{AreExpected, IsAnswer, last_answer, asking_line, requests, firsts}
-use Rattle.pair_world.proofs.AnswerAsks.{ask_lines, asks_counted, asks_placed, asks_written, untagged_text}
+use Rattle.pair_world.proofs.AnswerAsks.{ask_lines, asks_counted, asks_placed, asks_written}
 use Rattle.pair_world.proofs.AnswerVerdicts.{Settling, step_settles, places_within}
 
 -- ---- what stays
@@ -133,7 +134,8 @@ heard_first o past c side d line is = by_length (is_long side) refl is
     stop false false e = no_got d line e
 
     got : (odds ended full : Bool)
-        → first_got (cond odds odd (cond ended (only (gone past c)) (cond full (append o past 0 (End c Full) (Gone (Some Full))) (append o past 0 (Got c (first_line side)) Done)))).group ≡ Some (d, line)
+        → first_got (cond odds odd (cond ended (only (gone past c))
+        (cond full (append o past 0 (End c Full) (Gone (Some Full))) (append o past 0 (Got c (first_line side)) Done)))).group ≡ Some (d, line)
         → (c ≡ d) × (first_line side ≡ line)
     got true ended full e = no_got d line e
     got false true full e = no_got d line e
@@ -215,7 +217,7 @@ module _ (w : WorldValue) (c j : ℕ) (line : List ℕ) (m : RemoteMessage) (l :
       its : IsAnswer h.before h.last said
       its =
           last_answer h.before h.last h.message said (subst AreExpected h.ends expected) h.reads h.says
-          (not_asking said m (ap remote_reading (first ∙ sym (untagged_text past c line untagged)) ∙ reads) plain)
+          (not_asking said m (ap remote_reading (first ∙ sym (ap (λ (a : Option ℕ × List ℕ). a.1) (untagged_line past c line untagged))) ∙ reads) plain)
 
       given : map shown (answers_of c w.answers) ≡ answers_to h.before ++ (request, said) ∷ []
       given = (n c).answers_are ∙ ap answers_to h.ends ∙ its.answers_are
