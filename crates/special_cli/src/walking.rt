@@ -29,7 +29,7 @@ struct Walked {
 }
 
 // Does the tasks, and audits their journal.
-fn walked(alloc: Global, seed: u32, tasks: u32) -> Result<Walked, NoMemory>
+fn do_walk(alloc: Global, seed: u32, tasks: u32) -> Result<Walked, NoMemory>
     requires { tasks ≤ 65536 }
     ensures { IfOk result (λ w. HasWalked seed tasks w.journal.entries w.answers.items w.equal w.found) }
 {
@@ -59,7 +59,7 @@ pub(crate) fn walk_tasks<P: Programs, K: Desks>(
     requires { tasks ≤ 65536 }
     ensures { WalksTasks seed tasks outside result }
 {
-    match walked(alloc, seed, tasks) {
+    match do_walk(alloc, seed, tasks) {
         Ok(made) => Ran {
             outside,
             journal: made.journal,
