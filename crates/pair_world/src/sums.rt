@@ -101,12 +101,7 @@ fn is_equal(
 }
 
 /// How many tasks got the content of their keys, as their files have it.
-pub(crate) fn equal_in(
-    alloc: Global,
-    world: &World,
-    seed: u32,
-    tasks: u32,
-) -> Result<u64, NoMemory>
+pub(crate) fn equal_in(alloc: Global, world: &World, seed: u32, tasks: u32) -> Result<u64, NoMemory>
     requires tasks { tasks ≤ MOST_TASKS }
     requires few { length world.now.opening.tasks ≤ most_tasks }
     ensures { IfOk result (λ n. n ≡ equal_in seed tasks world.now) }

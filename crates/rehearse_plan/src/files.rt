@@ -29,12 +29,7 @@ fn content_of(alloc: Global, key: u32) -> Result<Bytes, NoMemory>
 }
 
 /// The content of the key of the task of that number, from 1.
-pub fn content_for(
-    alloc: Global,
-    seed: u32,
-    tasks: u32,
-    task: u32,
-) -> Result<Bytes, NoMemory>
+pub fn content_for(alloc: Global, seed: u32, tasks: u32, task: u32) -> Result<Bytes, NoMemory>
     requires { (task ≤ MOST_TASKS) × (tasks ≤ MOST_TASKS) }
     ensures { IfOk result (λ bytes. bytes ≡ content_of (key_number tasks (number_of seed task))) }
 {

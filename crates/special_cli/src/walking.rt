@@ -91,12 +91,7 @@ pub(crate) fn walk_saying(
 }
 
 // The counts, and what was found of the journal.
-fn walk_text(
-    alloc: Global,
-    answers: &[Answer],
-    equal: u64,
-    found: Audit,
-) -> Result<Bytes, NoMemory>
+fn walk_text(alloc: Global, answers: &[Answer], equal: u64, found: Audit) -> Result<Bytes, NoMemory>
     ensures { IfOk result (λ b. b ≡ walk_text answers.now equal found) }
 {
     let mut text = print_counts(alloc, answers)?.into_vec();
