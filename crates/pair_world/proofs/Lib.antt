@@ -29,7 +29,4 @@ mod AnswerMoves
 mod StoredLast
 mod StoredGrants
 mod StoredMoves
-mod Walking
-mod Turns
-mod Summing
 mod Standing

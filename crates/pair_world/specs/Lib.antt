@@ -11,6 +11,4 @@ pub mod Peace
 pub mod Stored
 pub mod StoredRows
 pub mod Standing
-pub mod Workers
-pub mod Walks
 pub mod Rows

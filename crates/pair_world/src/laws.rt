@@ -1,10 +1,8 @@
-// Worked rows of the table of moves, of what is stored and of the walk, each the contract of a function with nothing to do.
-ghost use Rattle.std.specs.Prelude.{ℕ, ◌≡◌, [], ◌∷◌, codes, false, Some, None};
+// Worked rows of the table of moves and of what is stored, each the contract of a function with nothing to do.
+ghost use Rattle.std.specs.Prelude.{ℕ, ◌≡◌, [], ◌∷◌, codes};
 ghost use Rattle.journal_model.specs.declared.opening.Opening.{Opening};
-ghost use Rattle.host_core.specs.declared.event.Event.TheVariants.{Start, Ask};
 ghost use Rattle.host_core.specs.declared.event.Reply.{Reply};
 ghost use Rattle.host_core.specs.declared.event.Reply.TheVariants.{Done};
-ghost use Rattle.talk_serial.specs.declared.request.Request.TheVariants.{Extensions};
 ghost use Rattle.pair_world.specs.declared.step.Move.TheVariants.{ToHost, Hear, Write, Work, End};
 ghost use Rattle.pair_world.specs.declared.step.Moved.TheVariants.{Did, Not};
 ghost use Rattle.pair_world.specs.Worlds.{WorldValue};
@@ -12,8 +10,6 @@ ghost use Rattle.pair_world.specs.Moves.{Moves};
 ghost use Rattle.pair_world.specs.Rows.{started, arrived, heard};
 ghost use Rattle.pair_world.specs.Stored.{GiveLastStored, filed};
 ghost use Rattle.pair_world.specs.StoredRows.{stored, retrieved, removed};
-ghost use Rattle.pair_world.specs.Walks.{bytes_moved, place};
-ghost use Rattle.pair_world.specs.Workers.{next_of};
 
 /// Nothing is heard before it has come to the host's side, and no more comes than is on its way.
 pub fn hear_not()
@@ -52,23 +48,4 @@ pub fn leaves_in_files()
     ensures retrieve { filed [] (retrieved (codes "one")) ≡ (codes "to", codes "one") ∷ [] }
     ensures store { filed [] (stored (codes "one")) ≡ [] }
     ensures remove { filed [] (removed (codes "WORM--a")) ≡ [] }
-{}
-
-/// Children are started in the order of their numbers, and asked once their version came.
-#[tactic(auto, unfolding(crate::specs::Workers::next_of))]
-pub fn first_events()
-    ensures first { (o : Opening) → next_of o [] 1 ≡ Some (Start 0 false) }
-    ensures later { (o : Opening) → next_of o [] 2 ≡ None }
-    ensures second { (o : Opening) → next_of o (started o).journal 2 ≡ Some (Start 1 false) }
-    ensures silent { (o : Opening) → next_of o (started o).journal 1 ≡ None }
-    ensures greeted { (o : Opening) → next_of o (heard o).journal 1 ≡ Some (Ask 1 0 (Extensions false)) }
-{}
-
-/// Where moves begin, and how many bytes they bring.
-pub fn worked_places()
-    ensures first { place 7 1 ≡ 9 }
-    ensures round { place 7 4 ≡ 3 }
-    ensures far { place 4294967295 9223372036854775807 ≡ 23 }
-    ensures few { bytes_moved 66 2 ≡ 2 }
-    ensures most { bytes_moved 66 100 ≡ 3 }
 {}

@@ -8,15 +8,9 @@ mod pair;
 mod pipe;
 mod shelf;
 mod step;
-mod sums;
 mod taken;
-mod walked;
-mod walks;
 mod work;
-mod worker;
 mod world;
 
 pub use step::{Move, Moved};
-pub use walked::Walk;
-pub use walks::walk;
 pub use world::World;

@@ -352,7 +352,7 @@ impl World {
     }
 
     /// How many bytes are on their way to the child's kit, and to the host. It takes no memory.
-    pub(crate) fn on_the_way(&self, child: u32) -> (usize, usize)
+    pub fn on_the_way(&self, child: u32) -> (usize, usize)
         ensures to_kit { result.0 ≡ length (pair_of self.now.pairs child).to_kit }
         ensures to_host { result.1 ≡ length (pair_of self.now.pairs child).to_host }
     {

@@ -12,6 +12,5 @@ pub mod Sayings
 pub mod Interviews
 pub mod Meetings
 pub mod Tells
-pub mod Walks
 pub mod Wishes
 pub mod Setups

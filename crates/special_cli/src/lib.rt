@@ -16,7 +16,6 @@ mod run;
 mod saying;
 mod telling;
 mod top;
-mod walking;
 
 pub use closing::Closing;
 pub use top::special;
