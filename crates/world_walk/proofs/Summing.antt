@@ -1,11 +1,12 @@
 -- How the tasks that got their content are counted.
-use Rattle.std.proofs.Common.{ℕ, ◌≡◌, ◌+◌, ◌<◌, ◌≤◌, Bool, List, [], ◌∷◌, length, take, get_or, Option, Some, None, cond, refl, sym, ap, ◌∙◌, arith}
-use Rattle.std.specs.Prelude.{map, filter, slice_get}
+use Rattle.std.proofs.Common.{ℕ, ◌≡◌, ◌+◌, ◌<◌, ◌≤◌, Bool, true, false, List, [], ◌∷◌, length, take, get_or, Option, Some, cond, refl, sym, ap, ◌∙◌, arith}
+use Rattle.std.specs.Prelude.{map, filter, slice_get, nat_lt}
 use Rattle.std.specs.List.{range_with_len}
 use Rattle.std.proofs.lemmas.List.{take_all}
 use Rattle.std.proofs.lemmas.List.Filters.{length-filter_more}
 use Rattle.std.proofs.lemmas.List.FromFn.{get_or-map-range_with_len, get_or-range_with_len, length-map-range_with_len, length-range_with_len}
-use Rattle.std.proofs.lemmas.Option.{slice_get-get_or, get_or_from_slice_get}
+use Rattle.std.proofs.lemmas.Bool.Decides.{nat_tests}
+use Rattle.std.proofs.lemmas.Option.{get_or_from_slice_get}
 use Rattle.journal_model.specs.declared.answer.Answer.{Answer}
 use Rattle.journal_model.specs.declared.entry.Entry.{Entry}
 use Rattle.journal_model.specs.declared.opening.Opening.{Opening}
@@ -38,9 +39,10 @@ answer_there o journal answers n a e there within =
 
 -- there is a place for each task
 pub no_gap : (o : Opening) (journal : List Entry) (answers : List (Option Answer)) (n : ℕ)
-    → answers ≡ map (answer_of journal) (numbers_of o) → slice_get answers n ≡ None → n < length o.tasks → ⊥
+    → answers ≡ map (answer_of journal) (numbers_of o) → nat_lt n (length answers) ≡ false → n < length o.tasks → ⊥
 no_gap o journal answers n e none within =
     let long : length answers ≡ length o.tasks =
     ap (λ (xs : List (Option Answer)). length xs) e ∙ length-map-range_with_len (answer_of journal) 1 (length o.tasks) in
-    let bad : None ≡ Some (get_or answers n None) = sym none ∙ slice_get-get_or answers n None (omega (arith, within, long)) in
+    let yes : nat_lt n (length answers) ≡ true = grind (arith, nat_tests) in
+    let bad : true ≡ false = sym yes ∙ none in
     cc
