@@ -1,12 +1,11 @@
 -- How the tasks that got their content are counted.
-use Rattle.std.proofs.Common.{ℕ, ◌≡◌, ◌+◌, ◌<◌, ◌≤◌, Bool, true, false, List, [], ◌∷◌, length, take, get_or, Option, Some, cond, refl, sym, ap, ◌∙◌, arith}
-use Rattle.std.specs.Prelude.{map, filter, slice_get, nat_lt}
+use Rattle.std.proofs.Common.{ℕ, ◌≡◌, ◌+◌, ◌<◌, ◌≤◌, Bool, true, false, List, [], ◌∷◌, length, take, get_or, Option, cond, refl, sym, ap, ◌∙◌, arith}
+use Rattle.std.specs.Prelude.{map, filter, nat_lt}
 use Rattle.std.specs.List.{range_with_len}
 use Rattle.std.proofs.lemmas.List.{take_all}
 use Rattle.std.proofs.lemmas.List.Filters.{length-filter_more}
 use Rattle.std.proofs.lemmas.List.FromFn.{get_or-map-range_with_len, get_or-range_with_len, length-map-range_with_len, length-range_with_len}
 use Rattle.std.proofs.lemmas.Bool.Decides.{nat_tests}
-use Rattle.std.proofs.lemmas.Option.{get_or_from_slice_get}
 use Rattle.journal_model.specs.declared.answer.Answer.{Answer}
 use Rattle.journal_model.specs.declared.entry.Entry.{Entry}
 use Rattle.journal_model.specs.declared.opening.Opening.{Opening}
@@ -32,9 +31,9 @@ sum_all p o n all =
 
 -- each place has the answer of its task
 pub answer_there : (o : Opening) (journal : List Entry) (answers : List (Option Answer)) (n : ℕ) (a : Option Answer)
-    → answers ≡ map (answer_of journal) (numbers_of o) → slice_get answers n ≡ Some a → n < length o.tasks → a ≡ answer_of journal (n + 1)
+    → answers ≡ map (answer_of journal) (numbers_of o) → a ≡ get_or answers n a → n < length o.tasks → a ≡ answer_of journal (n + 1)
 answer_there o journal answers n a e there within =
-    sym (get_or_from_slice_get answers n a a there) ∙ ap (λ (xs : List (Option Answer)). get_or xs n a) e
+    there ∙ ap (λ (xs : List (Option Answer)). get_or xs n a) e
     ∙ get_or-map-range_with_len (answer_of journal) 1 (length o.tasks) n (n + 1) a within (omega arith)
 
 -- there is a place for each task
