@@ -10,6 +10,12 @@ use Rattle.journal_model.specs.declared.opening.Opening.{Opening}
 use Rattle.journal_model.specs.Legality.{numbers_of}
 use Rattle.rehearse_plan.specs.Plans.{opening_of, task_of, tasks_of}
 use Rattle.run_answers.specs.Answers.{answer_of, given}
+use Rattle.journal_audit.specs.Audits.{IsAudit}
+use Rattle.journal_audit.specs.declared.found.Audit.{Audit}
+use Rattle.pair_world.specs.Standing.{Stands}
+use Rattle.pair_world.specs.Stored.{ChangesFiles}
+use Rattle.pair_world.specs.Worlds.{WorldValue}
+use Rattle.world_walk.specs.Walks.{Walked as IsWalked, equal_in, first_world}
 use Rattle.special_cli.specs.Left.{RanValue, IsIdle}
 use Rattle.special_cli.specs.Walks.{EndsWalk, HasWalked, WalksTasks}
 use Rattle.special_cli.specs.declared.end.End.{End}
@@ -40,4 +46,20 @@ pub nothing_walked : (seed tasks : ℕ) (before : OutsideValue) (ran : RanValue)
 nothing_walked seed tasks before ran e idle = record {
   ends = subst (λ (x : End). EndsWalk seed tasks ran.left.journal ran.left.answers x) (sym e) (idle.journal, idle.answers);
   untouched = record { outside = idle.outside; wires = idle.wires; tables = idle.tables };
+}
+
+-- what a walk came to, by what was read of its world's core
+pub has_walked : (seed tasks : ℕ) (w : WorldValue) (o p : Opening) (j k journal : List Entry) (answers : List Answer) (equal : ℕ) (found : Audit)
+    → IsWalked seed tasks w → Stands w → ChangesFiles (first_world seed tasks) w → w.opening ≡ opening_of seed tasks → o ≡ w.opening → p ≡ w.opening → j ≡ w.journal → k ≡ w.journal
+    → journal ≡ w.journal → answers ≡ given o j → equal ≡ equal_in seed tasks w → IsAudit p k found → HasWalked seed tasks journal answers equal found
+has_walked seed tasks w o p j k journal answers equal found walked stands files opened oo pp jj kk is given_are counted audit = record {
+  world = w;
+  walked = walked;
+  stands = stands;
+  files = files;
+  opening_is = opened;
+  journal_is = is;
+  answers_are = given_are ∙ ap (λ (x : Opening). given x j) oo ∙ ap (λ (x : List Entry). given w.opening x) jj;
+  equal_is = counted;
+  audit = subst (λ (x : Opening). IsAudit x w.journal found) pp (subst (λ (x : List Entry). IsAudit p x found) kk audit);
 }
