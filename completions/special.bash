@@ -36,6 +36,7 @@ _special() {
       else _special_programs "$current"; fi ;;
     init:4) _special_offer -f -- "$current" ;;
     audit:2 | rehearse:2) _special_offer -W "--help" -- "$current" ;;
+    rehearse:4) _special_offer -W "world" -- "$current" ;;
   esac
 }
 

@@ -5,6 +5,11 @@ function __special_needs_program
     test (count $words) -eq 2; and contains -- $words[2] check info init
 end
 
+function __special_needs_world
+    set -l words (commandline -opc)
+    test (count $words) -eq 4; and test $words[2] = rehearse
+end
+
 complete -c special -f
 complete -c special -n __fish_use_subcommand -a check -d 'ask whether a remote has the content of a key'
 complete -c special -n __fish_use_subcommand -a info -d 'ask a remote about itself'
@@ -16,6 +21,7 @@ complete -c special -l help -d 'print the help'
 complete -c special -n __fish_use_subcommand -l version -d 'print the version'
 complete -c special -n __special_needs_program -a '(__fish_complete_command)'
 complete -c special -n '__fish_seen_subcommand_from init' -F
+complete -c special -n __special_needs_world -a world -d 'in a closed world, one move after the other'
 
 set -l run '__fish_seen_subcommand_from run'
 complete -c special -n $run -l program -x -a '(__fish_complete_command)' -d 'the program that serves the remote'

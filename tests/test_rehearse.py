@@ -1,4 +1,4 @@
-"""`special rehearse SEED TASKS`: tasks that are made of a number, over remotes in memory."""
+"""`special rehearse SEED TASKS` and `.. world`: tasks that are made of a number, over remotes in memory."""
 
 import os
 
@@ -66,4 +66,47 @@ def case_seed_5_with_20000_tasks(room):
 def case_nothing_outside_is_touched(room):
     folder = room.mkdir("empty")
     done = run([SPECIAL, "rehearse", "1", "8"], cwd=folder, env={"PATH": "/nowhere"})
+    expect((done.status, os.listdir(folder)), (0, []), "the status, and the files")
+
+
+# ---- in a closed world
+
+def walked(room, seed, tasks):
+    """The counts by their words, the tasks whose files are equal to their contents, and the last line."""
+    done = room.special("rehearse", seed, tasks, "world")
+    expect((done.status, done.err), (0, ""), "status and err")
+    lines = [line.split(" ") for line in done.out.splitlines()]
+    expect([line[0] for line in lines], [*WORDS, "equal", "legal"], "the words")
+    return {word: int(count) for word, count in lines[:7]}, int(lines[7][1]), " ".join(lines[8])
+
+
+def case_the_eight_tasks_of_seed_1_in_a_world(room):
+    out = "stored 2\ngot 1\npresent 0\nabsent 1\ndropped 3\nfailed 1\nother 0\nequal 1\nlegal\n"
+    expect(room.special("rehearse", "1", "8", "world"), Done(0, out, ""))
+
+
+@limits(60)
+@table([(f"seed {seed}, {tasks} tasks", seed, tasks) for seed, tasks in
+        (("0", "1"), ("0", "2"), ("3", "4"), ("4294967295", "300"), ("007", "0000000000000000500"), ("12345", "1001"))])
+def a_walk_is_as_worked(room, seed, tasks):
+    counts = worked(int(seed), int(tasks))
+    expect(walked(room, seed, tasks), (counts, counts["got"], "legal"))
+
+
+@limits(120)
+def case_seed_7_with_2000_tasks_in_a_world(room):
+    counts = worked(7, 2000)
+    expect(walked(room, "7", "2000"), (counts, counts["got"], "legal"))
+
+
+@limits(120)
+def case_twenty_other_seeds_in_a_world(room):
+    for seed in range(100, 120):
+        counts = worked(seed, 200)
+        expect(walked(room, str(seed), "200"), (counts, counts["got"], "legal"), f"seed {seed}")
+
+
+def case_a_world_touches_nothing_outside(room):
+    folder = room.mkdir("empty")
+    done = run([SPECIAL, "rehearse", "1", "8", "world"], cwd=folder, env={"PATH": "/nowhere"})
     expect((done.status, os.listdir(folder)), (0, []), "the status, and the files")

@@ -16,7 +16,7 @@ use Rattle.cli_words.specs.Grammar.{is_without, run_grammar, value_at}
 use Rattle.cli_words.specs.Identities.{nobody, IsFit}
 use Rattle.cli_words.specs.Settings.{is_setting, setting_at, settings_in, spells_setting}
 use Rattle.cli_words.specs.Values.{has_end, is_text, is_word_of_command, number_in, padded_number_in, uuid_in}
-use Rattle.cli_words.specs.Words.{are_texts, check_of, command_of, info_of, init_of, init_with, is_help, of_command, page_alone, page_of, most_chunk, most_rehearsed, most_seed, rehearse_of, rehearse_with, run_from, run_of, run_with}
+use Rattle.cli_words.specs.Words.{are_texts, check_of, command_of, info_of, init_of, init_with, is_help, of_command, page_alone, page_of, most_chunk, most_rehearsed, most_seed, rehearse_of, rehearse_with, run_from, run_of, run_with, walk_with}
 use Rattle.cli_words.specs.declared.command.Command.{Command}
 use Rattle.cli_words.specs.declared.command.Command.TheVariants.{Run, Audit, Show}
 use Rattle.cli_words.specs.declared.command.Page.{Page}
@@ -168,7 +168,15 @@ rehearse_fits (seed ∷ tasks ∷ []) = go (padded_number_in 0 most_seed seed) (
     go (Some s) (Some t) = record { settings = refl; identity = nobody_fits }
     go (Some s) None = tt
     go None t = tt
-rehearse_fits (seed ∷ tasks ∷ more ∷ words) = tt
+rehearse_fits (seed ∷ tasks ∷ world ∷ []) =
+    either_fits (bytes_eq world (codes "world")) (walk_with (padded_number_in 0 most_seed seed) (padded_number_in 1 most_rehearsed tasks)) None
+    (go (padded_number_in 0 most_seed seed) (padded_number_in 1 most_rehearsed tasks)) tt
+  where
+    go : (s t : Option ℕ) → Fits (walk_with s t)
+    go (Some s) (Some t) = record { settings = refl; identity = nobody_fits }
+    go (Some s) None = tt
+    go None t = tt
+rehearse_fits (seed ∷ tasks ∷ world ∷ more ∷ words) = tt
 
 pub command_fits : (words : List (List ℕ)) → IfSome (command_of words) IsFit
 command_fits [] = tt

@@ -13,7 +13,7 @@ use Rattle.cli_words.specs.Grammar.{is_without, run_grammar, value_at}
 use Rattle.cli_words.specs.Ranges.{HasRanges}
 use Rattle.cli_words.specs.Values.{has_end, is_text, is_word_of_command, number_in, padded_number_in, uuid_in, IsNumberIn}
 use Rattle.cli_words.specs.Settings.{settings_in}
-use Rattle.cli_words.specs.Words.{are_texts, check_of, command_of, info_of, init_of, init_with, is_help, of_command, page_alone, page_of, most_chunk, most_rehearsed, most_seed, rehearse_of, rehearse_with, run_from, run_of, run_with}
+use Rattle.cli_words.specs.Words.{are_texts, check_of, command_of, info_of, init_of, init_with, is_help, of_command, page_alone, page_of, most_chunk, most_rehearsed, most_seed, rehearse_of, rehearse_with, run_from, run_of, run_with, walk_with}
 use Rattle.cli_words.specs.declared.command.Command.{Command}
 use Rattle.cli_words.specs.declared.command.Command.TheVariants.{Run, Audit, Show}
 use Rattle.cli_words.specs.declared.command.Page.{Page}
@@ -166,7 +166,15 @@ rehearse_ranged (seed ∷ tasks ∷ []) = go (padded_number_in 0 most_seed seed)
     go (Some s) (Some t) h k = let one = k.0 in (h.1, omega arith, k.1)
     go (Some s) None h k = tt
     go None t h k = tt
-rehearse_ranged (seed ∷ tasks ∷ more ∷ words) = tt
+rehearse_ranged (seed ∷ tasks ∷ world ∷ []) =
+    either_ranged (bytes_eq world (codes "world")) (walk_with (padded_number_in 0 most_seed seed) (padded_number_in 1 most_rehearsed tasks)) None
+    (go (padded_number_in 0 most_seed seed) (padded_number_in 1 most_rehearsed tasks) (padded_in 0 most_seed seed) (padded_in 1 most_rehearsed tasks)) tt
+  where
+    go : (s t : Option ℕ) → IsRead 0 most_seed s → IsRead 1 most_rehearsed t → Ranged (walk_with s t)
+    go (Some s) (Some t) h k = let one = k.0 in (h.1, omega arith, k.1)
+    go (Some s) None h k = tt
+    go None t h k = tt
+rehearse_ranged (seed ∷ tasks ∷ world ∷ more ∷ words) = tt
 
 pub command_ranged : (words : List (List ℕ)) → Ranged (command_of words)
 command_ranged [] = tt

@@ -43,3 +43,6 @@ init_words more = codes "init" ∷ codes "p" ∷ sample_uuid ∷ codes "keep" �
 
 abbrev pub rehearse_words : List ℕ → List ℕ → Words
 rehearse_words seed tasks = codes "rehearse" ∷ seed ∷ tasks ∷ []
+
+abbrev pub world_words : List ℕ → List ℕ → Words
+world_words seed tasks = codes "rehearse" ∷ seed ∷ tasks ∷ codes "world" ∷ []

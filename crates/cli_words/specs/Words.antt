@@ -10,7 +10,7 @@ use Rattle.cli_words.specs.Values.{is_text, is_word_of_command, number_in, padde
 use Rattle.cli_words.specs.Settings.{settings_in}
 use Rattle.cli_words.specs.Grammar.{is_without, run_grammar, value_at}
 use Rattle.cli_words.specs.declared.command.Command.{Command}
-use Rattle.cli_words.specs.declared.command.Command.TheVariants.{Check, Info, Init, Run, Audit, Rehearse, Show}
+use Rattle.cli_words.specs.declared.command.Command.TheVariants.{Check, Info, Init, Run, Audit, Rehearse, Walk, Show}
 use Rattle.cli_words.specs.declared.command.Page.{Page}
 use Rattle.cli_words.specs.declared.command.Page.TheVariants.{Overview, Check as CheckPage, Info as InfoPage, Init as InitPage, Run as RunPage, Audit as AuditPage, Rehearse as RehearsePage, Version}
 use Rattle.cli_words.specs.declared.command.RunWords.{RunWords}
@@ -109,8 +109,15 @@ abbrev pub rehearse_with : Option ℕ → Option ℕ → Option Command
 rehearse_with (Some seed) (Some tasks) = Some (Rehearse seed tasks)
 rehearse_with seed tasks = None
 
+abbrev pub walk_with : Option ℕ → Option ℕ → Option Command
+walk_with (Some seed) (Some tasks) = Some (Walk seed tasks)
+walk_with seed tasks = None
+
+-- the two numbers, and perhaps the word `world`
 abbrev pub rehearse_of : List (List ℕ) → Option Command
 rehearse_of (seed ∷ tasks ∷ []) = rehearse_with (padded_number_in 0 most_seed seed) (padded_number_in 1 most_rehearsed tasks)
+rehearse_of (seed ∷ tasks ∷ world ∷ []) =
+    if bytes_eq world (codes "world") then walk_with (padded_number_in 0 most_seed seed) (padded_number_in 1 most_rehearsed tasks) else None
 rehearse_of words = None
 
 -- ---- all words

@@ -16,6 +16,8 @@ pub enum Command {
     Audit,
     /// Does so many tasks, which the seed gives, over remotes in memory, and checks the journal.
     Rehearse { seed: u32, tasks: u32 },
+    /// Does the same tasks in a closed world, one move at a time, and checks the journal.
+    Walk { seed: u32, tasks: u32 },
     /// Prints a text.
     Show(Page),
 }

@@ -1,11 +1,11 @@
 // Laws over the definitions, each the contract of a function with nothing to do.
 ghost use Rattle.std.specs.Prelude.{◌≡◌, ℕ, ◌++◌, ◌∷◌, [], List, Some, None, codes};
 ghost use Rattle.reg_file.specs.Registers.{nothing_set, config_of};
-ghost use Rattle.cli_words.specs.Rows.{braced_uuid, init_words, least_run, plain_uuid, rehearse_words, run_words, sample_uuid, upper_uuid};
+ghost use Rattle.cli_words.specs.Rows.{braced_uuid, init_words, least_run, plain_uuid, rehearse_words, run_words, sample_uuid, upper_uuid, world_words};
 ghost use Rattle.cli_words.specs.Settings.{set_all, settings_in};
 ghost use Rattle.cli_words.specs.Values.{number_in, uuid_in, IsNumberIn};
 ghost use Rattle.cli_words.specs.Words.{command_of};
-ghost use Rattle.cli_words.specs.declared.command.Command.TheVariants.{Audit, Check, Info, Init, Rehearse, Run, Show};
+ghost use Rattle.cli_words.specs.declared.command.Command.TheVariants.{Audit, Check, Info, Init, Rehearse, Run, Show, Walk};
 ghost use Rattle.cli_words.specs.declared.command.Page.TheVariants.{Overview, Version, Check as CheckPage, Run as RunPage, Audit as AuditPage, Rehearse as RehearsePage};
 
 /// The words of `check`, `info` and `audit`.
@@ -37,6 +37,10 @@ pub fn worked_rehearsals()
     ensures sign { command_of (rehearse_words (codes "+1") (codes "1")) ≡ None }
     ensures seed_alone { command_of (codes "rehearse" ∷ codes "1" ∷ []) ≡ None }
     ensures three { command_of (codes "rehearse" ∷ codes "1" ∷ codes "8" ∷ codes "9" ∷ []) ≡ None }
+    ensures world { command_of (world_words (codes "1") (codes "8")) ≡ Some (Walk 1 8) }
+    ensures no_tasks_of_world { command_of (world_words (codes "1") (codes "0")) ≡ None }
+    ensures word_first { command_of (codes "rehearse" ∷ codes "world" ∷ codes "1" ∷ codes "8" ∷ []) ≡ None }
+    ensures four { command_of (codes "rehearse" ∷ codes "1" ∷ codes "8" ∷ codes "world" ∷ codes "world" ∷ []) ≡ None }
     ensures alone { command_of (codes "rehearse" ∷ []) ≡ None }
     ensures help { command_of (codes "rehearse" ∷ codes "--help" ∷ []) ≡ Some (Show RehearsePage) }
 {}

@@ -11,7 +11,7 @@ const OVERVIEW: &str = "special asks external special remotes of git-annex.\n\
     special init PROGRAM UUID KEEP [NAME=VALUE ..]      set a remote up\n\
     special run --program PROGRAM --uuid UUID [OPTIONS] store, get, check and drop by the lines of the input\n\
     special audit                                       check the text of a run, which is the input\n\
-    special rehearse SEED TASKS                         do made-up tasks over remotes in memory\n\
+    special rehearse SEED TASKS [world]                 do made-up tasks over remotes in memory\n\
     special COMMAND --help                              more on that command\n\
     special --help                                      this text\n\
     special --version                                   the version\n\
@@ -122,7 +122,7 @@ const AUDIT: &str = "special audit\n\
     where entries are missing at the end, the number of entries and 0.\n\
     The status is 0 where the journal is legal. A line that can't stand in such a text is refused with status 3.\n";
 
-const REHEARSE: &str = "special rehearse SEED TASKS\n\
+const REHEARSE: &str = "special rehearse SEED TASKS [world]\n\
     \n\
     Does TASKS tasks, which are made of the number SEED, by four workers over remotes in memory, and audits the journal\n\
     of that. No program is started, and no file is read or written. A line is printed for each of stored, got, present,\n\
@@ -131,8 +131,12 @@ const REHEARSE: &str = "special rehearse SEED TASKS\n\
     \n\
     SEED   0 to 4294967295\n\
     TASKS  1 to 65536\n\
+    world  host, remotes and the pipes between them are one state, which SEED moves on, one move after the other, and\n\
+    \x20      no thread is started. The line before the last one is equal, with the number of tasks that got what their\n\
+    \x20      keys are to have.\n\
     \n\
-    The status is 0 where other is 0 and the journal is legal.\n";
+    The status is 0 where other is 0 and the journal is legal; with world also, each task is answered, and equal is the\n\
+    number of got.\n";
 
 const VERSION: &str = "special 0.1.0\n";
 

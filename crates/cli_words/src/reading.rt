@@ -2,8 +2,8 @@
 ghost use Rattle.std.specs.Prelude.{◌≡◌, ◌<◌, IfOk, IfSome, length, option_map};
 ghost use Rattle.cli_words.specs.Identities.{IsFit};
 ghost use Rattle.cli_words.specs.Ranges.{HasRanges};
-ghost use Rattle.cli_words.specs.Values.{texts_of};
-ghost use Rattle.cli_words.specs.Words.{all_behind, alone, check_of, command_of, info_of, init_of, is_help, of_command, page_alone, page_of, rehearse_of, run_of};
+ghost use Rattle.cli_words.specs.Values.{padded_number_in, texts_of};
+ghost use Rattle.cli_words.specs.Words.{all_behind, alone, check_of, command_of, info_of, init_of, is_help, of_command, most_rehearsed, most_seed, page_alone, page_of, rehearse_of, rehearse_with, run_of, walk_with};
 ghost use Rattle.cli_words.specs.declared.command.Command.TheVariants.{Run, Show};
 
 use crate::command::{Command, InitWords, Page};
@@ -181,16 +181,40 @@ fn run_command(alloc: Global, words: &[String]) -> Result<Option<Command>, NoMem
     }
 }
 
-// The seed and the number of tasks.
+// The seed and the number of tasks, and perhaps the word for a world.
 fn rehearse_of(words: &[String]) -> Option<Command>
     ensures { result ≡ rehearse_of (texts_of words.now) }
 {
-    let [seed, tasks] = words else {
-        return None;
-    };
-    let seed = padded_number_in(seed.as_str(), 0, 4_294_967_295)?;
-    let tasks = padded_number_in(tasks.as_str(), 1, 65_536)?;
+    match words {
+        [seed, tasks] => rehearse_with(seed.as_str(), tasks.as_str()),
+        [seed, tasks, world] => {
+            if world.as_str() == "world" {
+                walk_with(seed.as_str(), tasks.as_str())
+            } else {
+                None
+            }
+        }
+        _ => None,
+    }
+}
+
+fn rehearse_with(seed: &str, tasks: &str) -> Option<Command>
+    ensures { result ≡ rehearse_with (padded_number_in 0 most_seed seed.now) (padded_number_in 1 most_rehearsed tasks.now) }
+{
+    let seed = padded_number_in(seed, 0, 4_294_967_295)?;
+    let tasks = padded_number_in(tasks, 1, 65_536)?;
     Some(Command::Rehearse {
+        seed: seed as u32,
+        tasks: tasks as u32,
+    })
+}
+
+fn walk_with(seed: &str, tasks: &str) -> Option<Command>
+    ensures { result ≡ walk_with (padded_number_in 0 most_seed seed.now) (padded_number_in 1 most_rehearsed tasks.now) }
+{
+    let seed = padded_number_in(seed, 0, 4_294_967_295)?;
+    let tasks = padded_number_in(tasks, 1, 65_536)?;
+    Some(Command::Walk {
         seed: seed as u32,
         tasks: tasks as u32,
     })

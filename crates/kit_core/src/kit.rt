@@ -3,6 +3,8 @@ ghost use Rattle.annex_model.specs.Lines.{has_newline};
 ghost use Rattle.annex_model.specs.Messages.{Transfer, Checkpresent, Remove, Error, is_sent_key, IsAskable, IsSayable, remote_line};
 ghost use Rattle.ann_key.specs.KeyRefs.{text_of};
 ghost use Rattle.wire_msg.specs.Shown.{host_shown, remote_shown};
+ghost use Rattle.std.specs.Borrow.{Lends, sem};
+ghost use Rattle.kit_core.specs.contracts.kit.Kit.{the_row};
 ghost use Rattle.kit_core.specs.declared.call.Said.TheVariants.{Failure};
 ghost use Rattle.kit_core.specs.declared.call.Asked.TheVariants.{Prepare as AskPrepare};
 ghost use Rattle.kit_core.specs.declared.kit.Stage.TheVariants.{Readying};
@@ -347,6 +349,14 @@ impl<R: Remote> Kit<R> {
         ensures { result.now ≡ self.now.remote }
     {
         &self.remote
+    }
+
+    /// The remote, lent to be changed. All else of the kit stays. It takes no memory.
+    pub fn remote_mut(&mut self) -> &mut R
+        ensures* lends { sem 𝓛 (Lends (the_row R.row R.Remote) R.row self.entry result (λ r. record self.old { remote = r })) }
+        ensures shows { result.now ≡ self.old.remote }
+    {
+        &mut self.remote
     }
 
     /// What is said to the next message. No line ends in a field of it, and each is of its class. After `NoMemory` the kit is

@@ -1,6 +1,4 @@
 pub mod DescribedVoices
-pub mod Fields
-pub mod KeyLines
 pub mod KitVoices
 pub mod Talks
 pub mod Texts

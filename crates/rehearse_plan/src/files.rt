@@ -1,9 +1,9 @@
 // The files that a rehearsal begins with.
 ghost use Rattle.std.specs.Prelude.{◌≡◌, ◌≤◌, IfOk};
-ghost use Rattle.rehearse_plan.specs.Plans.{byte_of, content_of, files_of};
+ghost use Rattle.rehearse_plan.specs.Plans.{byte_of, content_of, files_of, key_number, number_of};
 ghost use Rattle.rehearse_plan.specs.declared.tasks.TheConstants.{MOST_TASKS};
 
-use crate::tasks::{keys, size_of, source_of};
+use crate::tasks::{key_number, keys, number_of, size_of, source_of};
 use ann_key::{Bytes, NoMemory, Text};
 use std::alloc::Global;
 
@@ -26,6 +26,14 @@ fn content_of(alloc: Global, key: u32) -> Result<Bytes, NoMemory>
         bytes.push(byte_of(key, at))?;
     }
     Ok(Bytes::from_vec(bytes))
+}
+
+/// The content of the key of the task of that number, from 1.
+pub fn content_for(alloc: Global, seed: u32, tasks: u32, task: u32) -> Result<Bytes, NoMemory>
+    requires { (task ≤ MOST_TASKS) × (tasks ≤ MOST_TASKS) }
+    ensures { IfOk result (λ bytes. bytes ≡ content_of (key_number tasks (number_of seed task))) }
+{
+    content_of(alloc, key_number(tasks, number_of(seed, task)))
 }
 
 /// The files that a rehearsal of so many tasks begins with: the content of each key, in the file of its number.

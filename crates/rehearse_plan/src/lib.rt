@@ -7,7 +7,7 @@ mod opening;
 mod tally;
 mod tasks;
 
-pub use files::files_of;
+pub use files::{content_for, files_of};
 pub use opening::opening_of;
 pub use tally::{Word, count_of, print_counts};
 pub use tasks::{MOST_TASKS, tasks_of};

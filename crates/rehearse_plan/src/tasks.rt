@@ -17,13 +17,23 @@ pub(crate) fn keys(tasks: u32) -> u32
     tasks / 4 + 1
 }
 
-// The number that the task is made of.
-fn number_of(seed: u32, task: u32) -> u64
+/// The number that the task is made of.
+pub(crate) fn number_of(seed: u32, task: u32) -> u64
     requires { task ≤ MOST_TASKS }
     ensures { result ≡ number_of seed task }
 {
     let task = u64::from(task);
     u64::from(seed) + 30 * task + task * task
+}
+
+/// The number of the key that a task has which is made of that number.
+#[tactic(auto, using(crate::proofs::Planned::few_keys))]
+pub(crate) fn key_number(tasks: u32, number: u64) -> u32
+    requires { tasks ≤ MOST_TASKS }
+    ensures value { result ≡ key_number tasks number }
+    ensures few { result ≤ MOST_TASKS }
+{
+    (number % u64::from(keys(tasks))) as u32
 }
 
 fn work_of(number: u64) -> Work
@@ -95,14 +105,13 @@ fn task_file(alloc: Global, work: Work, key: u32, task: u32) -> Result<Text, NoM
 }
 
 // The task of that number, from 1.
-#[tactic(auto, using(crate::proofs::Planned::few_keys))]
 fn task_of(alloc: Global, seed: u32, tasks: u32, task: u32) -> Result<Task, NoMemory>
     requires { (task ≤ MOST_TASKS) × (tasks ≤ MOST_TASKS) }
     ensures { IfOk result (λ t. t ≡ task_of seed tasks task) }
 {
     let number = number_of(seed, task);
     let work = work_of(number);
-    let key = (number % u64::from(keys(tasks))) as u32;
+    let key = key_number(tasks, number);
     Ok(Task {
         work,
         key: key_of(alloc, key)?,

@@ -1,5 +1,5 @@
 -- How the answers are taken from the journal: one place for each task, which takes the first answer that comes.
-use Rattle.std.specs.Prelude.{ℕ, ◌≡◌, ◌++◌, ◌∷◌, [], true, List, map, Option, is_some}
+use Rattle.std.specs.Prelude.{ℕ, ◌≡◌, ◌++◌, ◌∷◌, [], true, List, map, Option, Some, None, is_some}
 use Rattle.std.specs.List.{list_all, range_with_len}
 use Rattle.journal_model.specs.declared.answer.Answer.{Answer}
 use Rattle.journal_model.specs.declared.entry.Entry.{Entry}
@@ -18,3 +18,8 @@ TakesUp e old new = (count : ℕ) (past : List Entry) → HoldsAnswers count pas
 -- the entries answer each task
 abbrev pub AreAllAnswered : Opening → List Entry → Type 0
 AreAllAnswered o journal = list_all (λ t. is_some (answer_of journal t)) (numbers_of o) ≡ true
+
+-- the answer that a place holds, if it holds one
+abbrev pub held_by : Option Answer → List Answer
+held_by None = []
+held_by (Some answer) = answer ∷ []

@@ -1,5 +1,5 @@
 -- The answers of a run's tasks.
-use Rattle.std.specs.Prelude.{ℕ, ◌≡◌, ◌==◌, if◌then◌else◌, List, map, Option, Some, None}
+use Rattle.std.specs.Prelude.{ℕ, ◌≡◌, ◌==◌, if◌then◌else◌, List, map, filter_map, Option, Some, None}
 use Rattle.journal_model.specs.declared.answer.Answer.{Answer}
 use Rattle.journal_model.specs.declared.entry.What.{What}
 use Rattle.journal_model.specs.declared.entry.What.TheVariants.{Answer as Answered}
@@ -20,3 +20,7 @@ answer_of journal t = first_of (each_of (answer_for t) journal)
 -- there is one answer for each task, in their order: the journal's
 abbrev pub AreAnswers : Opening → List Entry → List Answer → Type 0
 AreAnswers o journal answers = map (λ answer. Some answer) answers ≡ map (answer_of journal) (numbers_of o)
+
+-- the answers of the tasks that have one, in the order of the tasks
+abbrev pub given : Opening → List Entry → List Answer
+given o journal = filter_map (answer_of journal) (numbers_of o)

@@ -1,9 +1,10 @@
 // The answers of a run, taken from its journal in one pass.
-ghost use Rattle.std.specs.Prelude.{◌≡◌, ◌<◌, ◌∷◌, [], IfOk, Some, is_some, map, slice_get, length, true};
+ghost use Rattle.std.specs.Prelude.{◌≡◌, ◌<◌, ◌∷◌, ◌++◌, [], IfOk, OnOk, Some, is_some, map, filter_map, slice_get, length, true};
 ghost use Rattle.std.specs.List.{list_all};
+ghost use Rattle.journal_model.specs.Legality.{numbers_of};
 ghost use Rattle.journal_look.specs.Shown.{entry_shown};
-ghost use Rattle.run_answers.specs.Answering.{AreAllAnswered, HoldsAnswers, TakesUp};
-ghost use Rattle.run_answers.specs.Answers.{AreAnswers};
+ghost use Rattle.run_answers.specs.Answering.{AreAllAnswered, HoldsAnswers, TakesUp, held_by};
+ghost use Rattle.run_answers.specs.Answers.{AreAnswers, answer_of, given};
 
 use ann_key::NoMemory;
 use host_core::Core;
@@ -69,4 +70,42 @@ pub fn answers_of(alloc: Global, core: &Core) -> Result<Vec<Answer>, NoMemory>
     let tasks = core.opening().tasks.view().len();
     let places = first_answers(alloc, core.journal(), tasks)?;
     all_of(alloc, places.as_slice())
+}
+
+/// The answer of each task, where it has one, in the order of the tasks.
+pub fn answers_by_task(alloc: Global, core: &Core) -> Result<Vec<Option<Answer>>, NoMemory>
+    ensures { IfOk result (λ answers. answers.items ≡ map (answer_of core.now.journal) (numbers_of core.now.opening)) }
+{
+    let tasks = core.opening().tasks.view().len();
+    first_answers(alloc, core.journal(), tasks)
+}
+
+// Adds the answer of a place, where it has one.
+fn push_some(answers: &mut Vec<Answer>, place: Option<Answer>) -> Result<(), NoMemory>
+    ensures { OnOk result (answers.new.items ≡ answers.old.items ++ held_by place) }
+{
+    if let Some(answer) = place {
+        answers.push(answer)?;
+    }
+    Ok(())
+}
+
+// The answers of the places that have one.
+fn some_of(alloc: Global, places: &[Option<Answer>]) -> Result<Vec<Answer>, NoMemory>
+    ensures { IfOk result (λ answers. answers.items ≡ filter_map (λ place. place) places.now) }
+{
+    let mut answers = Vec::with_capacity(alloc, places.len())?;
+    for place in places {
+        push_some(&mut answers, *place)?;
+    }
+    Ok(answers)
+}
+
+/// The answers of the tasks that have one, in the order of the tasks.
+#[tactic(auto, using(crate::proofs::Giving::given_of))]
+pub fn answers_given(alloc: Global, core: &Core) -> Result<Vec<Answer>, NoMemory>
+    ensures { IfOk result (λ answers. answers.items ≡ given core.now.opening core.now.journal) }
+{
+    let answers = answers_by_task(alloc, core)?;
+    some_of(alloc, answers.as_slice())
 }

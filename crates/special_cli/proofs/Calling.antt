@@ -13,7 +13,7 @@ use Rattle.journal_model.proofs.Looks.{same_number}
 use Rattle.journal_model.specs.Output.{answer_line}
 use Rattle.info_run.specs.Infos.{info_lines, is_informed}
 use Rattle.special_cli.specs.declared.end.End.{End}
-use Rattle.special_cli.specs.declared.end.End.TheVariants.{Usage, Shown, Refused, Memory, Answered, Informed, BadKept, KeptTooLarge, FileFailed, InputFailed, SetUp, NotSetUp, Done, Audited, Rehearsed}
+use Rattle.special_cli.specs.declared.end.End.TheVariants.{Usage, Shown, Refused, Memory, Answered, Informed, BadKept, KeptTooLarge, FileFailed, InputFailed, SetUp, NotSetUp, Done, Audited, Rehearsed, Walked}
 use Rattle.cli_words.specs.declared.refusals.Reason.{Reason}
 use Rattle.cli_words.specs.declared.command.Page.{Page}
 use Rattle.ann_outside.specs.Files.{Files}
@@ -46,6 +46,8 @@ use Rattle.special_cli.proofs.Few.{few_done}
 use Rattle.special_cli.proofs.Rehearsed.{few_rehearsed, nothing_rehearsed}
 use Rattle.special_cli.specs.Rehearsals.{HasRehearsed, end_of_rehearsal, rehearsal_text}
 use Rattle.special_cli.specs.Audits.{found_status}
+use Rattle.special_cli.specs.Walks.{EndsWalk, WalksTasks, is_walk_well}
+use Rattle.special_cli.proofs.Walked.{few_walked, nothing_walked}
 use Rattle.rehearse_plan.specs.Tallies.{count_of}
 use Rattle.rehearse_plan.specs.declared.tally.Word.TheVariants.{Other}
 use Rattle.rehearse_run.specs.declared.made.RehearsalEnd.{RehearsalEnd}
@@ -55,7 +57,7 @@ use Rattle.special_cli.proofs.Informed.{nothing_informed}
 use Rattle.special_cli.proofs.Leaving.{leaves_as, leaves_nothing}
 use Rattle.special_cli.specs.Tells.{Flow, IsSilent, IsWritten, IsPrintedOr, IsSaidThen, IsUnkeptTold, IsToldOf, answer_lines, answers_status}
 use Rattle.cli_words.specs.declared.command.Command.{Command}
-use Rattle.cli_words.specs.declared.command.Command.TheVariants.{Check, Info, Init, Run, Audit as AuditWord, Rehearse, Show}
+use Rattle.cli_words.specs.declared.command.Command.TheVariants.{Check, Info, Init, Run, Audit as AuditWord, Rehearse, Walk, Show}
 
 -- ---- the statuses
 
@@ -79,6 +81,7 @@ wanted_of (SetUp written) = 0 ∷ 6 ∷ []
 wanted_of (NotSetUp answer) = 1 ∷ 7 ∷ []
 wanted_of (Audited found) = 0 ∷ 1 ∷ 7 ∷ []
 wanted_of (Rehearsed found) = 0 ∷ 1 ∷ 7 ∷ []
+wanted_of (Walked tasks equal found) = 0 ∷ 1 ∷ 7 ∷ []
 
 -- it is one of these, or 5 after a write that failed
 EndsWith : List ℕ → ℕ → Flow → Flow → Type 0
@@ -124,6 +127,12 @@ rehearsed_with answers found status out err b e told =
     go true (Wrong entry kind) t = on_either [] false _ status out err t
     go false f t = on_either [] false _ status out err t
 
+walked_with : (written : List ℕ) (found : Audit) (status : ℕ) (out err : Flow) (b : Bool) → IsPrintedOr (cond b (found_status found) 1) written status out err
+    → EndsWith (0 ∷ 1 ∷ 7 ∷ []) status out err
+walked_with written Legal status out err true told = on_either [] true written status out err told
+walked_with written (Wrong entry kind) status out err true told = on_either [] false written status out err told
+walked_with written found status out err false told = on_either [] false written status out err told
+
 ends_with : (left : Left) (status : ℕ) (out err : Flow) (end : End) → IsToldOf left status out err end → EndsWith (wanted_of end) status out err
 unfolding wanted_of
 ends_with left status out err Usage told = on_err (2 ∷ []) 2 _ status out err refl told.0
@@ -150,6 +159,7 @@ ends_with left status out err (Audited Legal) told = on_either [] true _ status 
 ends_with left status out err (Audited (Wrong entry kind)) told = on_either [] false _ status out err told
 ends_with left status out err (Rehearsed Legal) told = rehearsed_with left.answers Legal status out err (count_of Other left.answers == 0) refl told
 ends_with left status out err (Rehearsed (Wrong entry kind)) told = rehearsed_with left.answers (Wrong entry kind) status out err (count_of Other left.answers == 0) refl told
+ends_with left status out err (Walked tasks equal found) told = walked_with _ found status out err (is_walk_well tasks left.answers equal) told
 
 -- another status isn't met
 apart : {A : Type 0} (ws : List ℕ) (status k : ℕ) (out err : Flow) → EndsWith ws status out err → (5 == k) ≡ false → list_any (λ w. w == k) ws ≡ false → status ≡ k → A
@@ -181,6 +191,7 @@ none_five (SetUp written) = refl
 none_five (NotSetUp answer) = refl
 none_five (Audited found) = refl
 none_five (Rehearsed found) = refl
+none_five (Walked tasks equal found) = refl
 
 or_seven : (ws : List ℕ) (status : ℕ) (out err : Flow) → EndsWith ws status out err → EndsWith (7 ∷ ws) status out err
 unfolding EndsWith
@@ -330,6 +341,12 @@ unfolding wanted_of NeitherIn
 rehearsal_wanted M.Memory = (refl, refl)
 rehearsal_wanted (M.Done found) = (refl, refl)
 
+walk_wanted : (seed tasks : ℕ) (journal : List Entry) (answers : List Answer) (end : End) → EndsWalk seed tasks journal answers end → NeitherIn (wanted_of end)
+unfolding wanted_of NeitherIn
+walk_wanted seed tasks journal answers (Walked told equal found) ends = (refl, refl)
+walk_wanted seed tasks journal answers Memory ends = (refl, refl)
+walk_wanted seed tasks journal answers end ends = absurd ends
+
 -- ---- the objects
 
 made_none : (xs : Option (List Made)) → HaveMade xs xs []
@@ -445,7 +462,7 @@ module _ (clock : Option ℕ) (before : OutsideValue) (input : InputFlow) (left 
     words = λ none. two_five_seven status out err (ends_as Usage h.end_is);
     refused = λ s. apart (7 ∷ 2 ∷ []) status 3 out err (ends_as Usage h.end_is) refl refl s;
     key = λ some. never some;
-    early = λ none other. h.idle;
+    early = λ none other still. h.idle;
     output = output;
     checked = tt;
     told = tt;
@@ -455,6 +472,7 @@ module _ (clock : Option ℕ) (before : OutsideValue) (input : InputFlow) (left 
     run = tt;
     audit = λ same. other_words None refl same;
     rehearsal = tt;
+    walk = tt;
     wires = tt;
     starts = tt;
     faults = tt;
@@ -468,7 +486,7 @@ module _ (clock : Option ℕ) (before : OutsideValue) (input : InputFlow) (left 
     words = λ none. some_none (Show page) none;
     refused = λ s. apart (7 ∷ 0 ∷ []) status 3 out err (ends_as (Shown page) h.end_is) refl refl s;
     key = λ some. never some;
-    early = λ none other. h.idle;
+    early = λ none other still. h.idle;
     output = output;
     checked = tt;
     told = tt;
@@ -478,6 +496,7 @@ module _ (clock : Option ℕ) (before : OutsideValue) (input : InputFlow) (left 
     run = tt;
     audit = λ same. other_words (Some (Show page)) refl same;
     rehearsal = tt;
+    walk = tt;
     wires = tt;
     starts = tt;
     faults = tt;
@@ -496,7 +515,7 @@ module _ (clock : Option ℕ) (before : OutsideValue) (input : InputFlow) (left 
             words = λ no. some_none (Check program key) no;
             refused = λ s. apart (wanted_of end) status 3 out err ends refl none.1 s;
             key = λ some. no_reason (reason_refused key) e some;
-            early = λ no other. run_at_all (reason_refused key) program e no;
+            early = λ no other still. run_at_all (reason_refused key) program e no;
             output = output;
             checked = if_fit _ (reason_refused key) (program, key) e h.checked;
             told = if_fit _ (reason_refused key) (program, key) e (check_told left status out err end h.ends told);
@@ -506,6 +525,7 @@ module _ (clock : Option ℕ) (before : OutsideValue) (input : InputFlow) (left 
             run = tt;
             audit = λ same. other_words (Some (Check program key)) refl same;
             rehearsal = tt;
+            walk = tt;
             wires = if_fit _ (reason_refused key) program e h.objects.wired;
             starts = if_fit _ (reason_refused key) program e (started left status out err end program before told h.objects.started);
             faults = if_fit _ (reason_refused key) program e h.objects.faults;
@@ -518,7 +538,7 @@ module _ (clock : Option ℕ) (before : OutsideValue) (input : InputFlow) (left 
             words = λ no. some_none (Check program key) no;
             refused = λ s. inl (some_reason (reason_refused key) reason e);
             key = λ some. three_five_seven status out err refused_so;
-            early = λ none other. h.idle;
+            early = λ none other still. h.idle;
             output = output;
             checked = if_unfit _ (reason_refused key) (program, key) reason e;
             told = if_unfit _ (reason_refused key) (program, key) reason e;
@@ -528,6 +548,7 @@ module _ (clock : Option ℕ) (before : OutsideValue) (input : InputFlow) (left 
             run = tt;
             audit = λ same. other_words (Some (Check program key)) refl same;
             rehearsal = tt;
+            walk = tt;
             wires = if_unfit _ (reason_refused key) program reason e;
             starts = if_unfit _ (reason_refused key) program reason e;
             faults = if_unfit _ (reason_refused key) program reason e;
@@ -546,7 +567,7 @@ module _ (clock : Option ℕ) (before : OutsideValue) (input : InputFlow) (left 
             words = λ no. some_none (Info program key) no;
             refused = λ s. apart (wanted_of end) status 3 out err ends refl none.1 s;
             key = λ some. no_reason (refusal_if key) e some;
-            early = λ no other. run_at_all (refusal_if key) program e no;
+            early = λ no other still. run_at_all (refusal_if key) program e no;
             output = output;
             checked = tt;
             told = tt;
@@ -556,6 +577,7 @@ module _ (clock : Option ℕ) (before : OutsideValue) (input : InputFlow) (left 
             run = tt;
             audit = λ same. other_words (Some (Info program key)) refl same;
             rehearsal = tt;
+            walk = tt;
             wires = if_fit _ (refusal_if key) program e h.objects.wired;
             starts = if_fit _ (refusal_if key) program e (started left status out err end program before told h.objects.started);
             faults = if_fit _ (refusal_if key) program e h.objects.faults;
@@ -568,7 +590,7 @@ module _ (clock : Option ℕ) (before : OutsideValue) (input : InputFlow) (left 
             words = λ no. some_none (Info program key) no;
             refused = λ s. inl (some_reason (refusal_if key) reason e);
             key = λ some. three_five_seven status out err refused_so;
-            early = λ none other. h.idle;
+            early = λ none other still. h.idle;
             output = output;
             checked = tt;
             told = tt;
@@ -578,6 +600,7 @@ module _ (clock : Option ℕ) (before : OutsideValue) (input : InputFlow) (left 
             run = tt;
             audit = λ same. other_words (Some (Info program key)) refl same;
             rehearsal = tt;
+            walk = tt;
             wires = if_unfit _ (refusal_if key) program reason e;
             starts = if_unfit _ (refusal_if key) program reason e;
             faults = if_unfit _ (refusal_if key) program reason e;
@@ -594,7 +617,7 @@ module _ (clock : Option ℕ) (before : OutsideValue) (input : InputFlow) (left 
         words = λ no. some_none (Init words) no;
         refused = λ s. apart (wanted_of end) status 3 out err ends refl none.1 s;
         key = λ some. never some;
-        early = λ no other. some_none words.program no;
+        early = λ no other still. some_none words.program no;
         output = output;
         checked = tt;
         told = tt;
@@ -604,6 +627,7 @@ module _ (clock : Option ℕ) (before : OutsideValue) (input : InputFlow) (left 
         run = tt;
         audit = λ same. other_words (Some (Init words)) refl same;
         rehearsal = tt;
+        walk = tt;
         wires = objects.wired;
         starts = started left status out err end words.program before told objects.started;
         faults = objects.faults;
@@ -630,7 +654,7 @@ module _ (clock : Option ℕ) (before : OutsideValue) (input : InputFlow) (left 
         words = λ no. some_none (Run words) no;
         refused = λ s. inr (inl refl);
         key = λ some. never some;
-        early = λ no other. some_none words.program no;
+        early = λ no other still. some_none words.program no;
         output = output;
         checked = tt;
         told = tt;
@@ -640,6 +664,7 @@ module _ (clock : Option ℕ) (before : OutsideValue) (input : InputFlow) (left 
         run = (e, h, subst (λ (x : End). IsToldOf left status out err x) same told);
         audit = λ same. other_words (Some (Run words)) refl same;
         rehearsal = tt;
+        walk = tt;
         wires = objects.wired;
         starts = started left status out err end words.program before told objects.started;
         faults = objects.faults;
@@ -660,7 +685,7 @@ module _ (clock : Option ℕ) (before : OutsideValue) (input : InputFlow) (left 
     words = λ no. some_none AuditWord no;
     refused = λ s. inr (inr refl);
     key = λ some. never some;
-    early = λ none other. h.idle;
+    early = λ none other still. h.idle;
     output = output;
     checked = tt;
     told = tt;
@@ -669,6 +694,7 @@ module _ (clock : Option ℕ) (before : OutsideValue) (input : InputFlow) (left 
     init = tt;
     run = tt;
     rehearsal = tt;
+    walk = tt;
     audit = λ same. (h.outcome, h.audit, h.idle, subst (λ (x : End). IsToldOf left status out err x) h.end_is told);
     wires = tt;
     starts = tt;
@@ -685,7 +711,7 @@ module _ (clock : Option ℕ) (before : OutsideValue) (input : InputFlow) (left 
         words = λ no. some_none (Rehearse seed tasks) no;
         refused = λ s. apart (wanted_of end) status 3 out err ends refl none.1 s;
         key = λ some. never some;
-        early = λ no other. some_none {X = ℕ × ℕ} (seed, tasks) other;
+        early = λ no other still. some_none {X = ℕ × ℕ} (seed, tasks) other;
         output = output;
         checked = tt;
         told = tt;
@@ -695,6 +721,33 @@ module _ (clock : Option ℕ) (before : OutsideValue) (input : InputFlow) (left 
         run = tt;
         audit = λ same. other_words (Some (Rehearse seed tasks)) refl same;
         rehearsal = (h.end, h.made, h.untouched, unread, subst (λ (x : End). IsToldOf left status out err x) h.end_is told);
+        walk = tt;
+        wires = tt;
+        starts = tt;
+        faults = tt;
+        desks = made_still before.made left.outside.made left.tables (ap (λ (o : OutsideValue). o.made) h.untouched.outside) h.untouched.tables;
+      }
+
+  called_walk : (seed tasks : ℕ) → IsUnread input × WalksTasks seed tasks before whole → Called (Some (Walk seed tasks))
+  unfolding wanted_of NeitherIn
+  called_walk seed tasks (unread, h) =
+      let none : NeitherIn (wanted_of end) = walk_wanted seed tasks left.journal left.answers end h.ends in
+      record {
+        usage = λ s. apart (wanted_of end) status 2 out err ends refl none.0 s;
+        words = λ no. some_none (Walk seed tasks) no;
+        refused = λ s. apart (wanted_of end) status 3 out err ends refl none.1 s;
+        key = λ some. never some;
+        early = λ no other still. some_none {X = ℕ × ℕ} (seed, tasks) still;
+        output = output;
+        checked = tt;
+        told = tt;
+        informed = tt;
+        info_told = tt;
+        init = tt;
+        run = tt;
+        audit = λ same. other_words (Some (Walk seed tasks)) refl same;
+        rehearsal = tt;
+        walk = (end, h.ends, h.untouched, unread, told);
         wires = tt;
         starts = tt;
         faults = tt;
@@ -710,6 +763,7 @@ module _ (clock : Option ℕ) (before : OutsideValue) (input : InputFlow) (left 
   called_left (Some (Run words)) h = called_run words h
   called_left (Some AuditWord) h = called_audit h
   called_left (Some (Rehearse seed tasks)) h = called_rehearsal seed tasks h
+  called_left (Some (Walk seed tasks)) h = called_walk seed tasks h
 
 pub called : (clock : Option ℕ) (before : OutsideValue) (input : InputFlow) (wish : Option Command) (ran : RanValue) (left : Left) (status : ℕ) (out err : Flow) → left ≡ ran.left → Runs clock before input wish ran
     → IsToldOf ran.left status out err ran.end → IsCalled clock before input wish out err status left
@@ -748,6 +802,7 @@ few clock before input (Some (Init words)) ran ranges (inr h) = none_few ran.lef
 few clock before input (Some (Run words)) ran ranges (end, h, same) = few_done words clock before input ran.left.outside (made_in ran.left end) h
 few clock before input (Some AuditWord) ran ranges h = none_few ran.left h.idle.answers
 few clock before input (Some (Rehearse seed tasks)) ran ranges h = few_rehearsed seed tasks ran.left.journal ran.left.answers h.1.end ranges.2 h.1.made
+few clock before input (Some (Walk seed tasks)) ran ranges h = few_walked seed tasks ran.left.journal ran.left.answers ran.end ranges.2 h.1.ends
 
 -- ---- no memory was found for the words
 
@@ -791,3 +846,4 @@ runs_nothing clock before input (Some (Run words)) ran e idle unread =
     (R.Memory, inl (refl, record { outside = idle.outside; unread = unread; journal = idle.journal; answers = idle.answers; wires = idle.wires; tables = idle.tables }), e)
 runs_nothing clock before input (Some AuditWord) ran e idle unread = nothing_audited before input ran e idle unread
 runs_nothing clock before input (Some (Rehearse seed tasks)) ran e idle unread = (unread, nothing_rehearsed seed tasks before ran e idle)
+runs_nothing clock before input (Some (Walk seed tasks)) ran e idle unread = (unread, nothing_walked seed tasks before ran e idle)

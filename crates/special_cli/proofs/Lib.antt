@@ -5,6 +5,7 @@ pub mod Calling
 pub mod Checked
 pub mod Few
 pub mod Rehearsed
+pub mod Walked
 pub mod Informed
 pub mod Leaving
 pub mod Looking

@@ -18,6 +18,7 @@ use Rattle.special_cli.specs.Setups.{HasSetUp}
 use Rattle.special_cli.specs.Doings.{end_of, made_in}
 use Rattle.special_cli.specs.Audits.{IsAuditOf, end_of_audit}
 use Rattle.special_cli.specs.Rehearsals.{IsUntouched, end_of_rehearsal, rehearsal_in}
+use Rattle.special_cli.specs.Walks.{EndsWalk, walk_in}
 use Rattle.rehearse_run.specs.Rehearsals.{HasRehearsed as HasMade}
 use Rattle.rehearse_run.specs.declared.made.RehearsalEnd.{RehearsalEnd}
 use Rattle.run_tasks.specs.Inputs.{InputFlow, IsUnread}
@@ -47,6 +48,11 @@ abbrev pub IsRehearsalCalled : ℕ → ℕ → OutsideValue → InputFlow → �
 IsRehearsalCalled seed tasks before input status out err left =
     (end : RehearsalEnd) × HasMade seed tasks left.journal left.answers end × IsUntouched before left × IsUnread input × IsToldOf left status out err (end_of_rehearsal end)
 
+-- the tasks of a walk were done in a world of its own, nothing that was handed in was touched, and what came of them was told so
+abbrev pub IsWalkCalled : ℕ → ℕ → OutsideValue → InputFlow → ℕ → Flow → Flow → Left → Type 0
+IsWalkCalled seed tasks before input status out err left =
+    (end : End) × EndsWalk seed tasks left.journal left.answers end × IsUntouched before left × IsUnread input × IsToldOf left status out err end
+
 -- what the words ask for was done, and what came of it was told so
 abbrev pub IsDone : Option ℕ → OutsideValue → InputFlow → Option Command → Flow → Flow → ℕ → Left → Type 0
 IsDone clock before input wish out err status left = (end : End) × Runs clock before input wish (record { left = left; end = end }) × IsToldOf left status out err end
@@ -57,7 +63,7 @@ pub record IsCalled (clock : Option ℕ) (before : OutsideValue) (input : InputF
   pub words : wish ≡ None → (status ≡ 2) ⊎ (status ≡ 5) ⊎ (status ≡ 7)
   pub refused : status ≡ 3 → IsSome (refused_in wish) ⊎ IsSome (tasks_in wish) ⊎ (wish ≡ Some AuditWord)
   pub key : IsSome (refused_in wish) → (status ≡ 3) ⊎ (status ≡ 5) ⊎ (status ≡ 7)
-  pub early : run_in wish ≡ None → rehearsal_in wish ≡ None → IsIdle before left
+  pub early : run_in wish ≡ None → rehearsal_in wish ≡ None → walk_in wish ≡ None → IsIdle before left
   pub output : status ≡ 5 → Rose out.faults out.faults' ⊎ Rose err.faults err.faults'
   pub checked : IfSome (check_in wish) (λ c. IsChecked clock c.1 left.journal)
   pub told : IfSome (check_in wish) (λ c. IsTold status (Rose err.faults err.faults') out.taken out.taken' left.journal left.answers)
@@ -67,6 +73,7 @@ pub record IsCalled (clock : Option ℕ) (before : OutsideValue) (input : InputF
   pub run : IfSome (tasks_in wish) (λ words. IsRunCalled words clock before input status out err left)
   pub audit : wish ≡ Some AuditWord → IsAuditCalled before input status out err left
   pub rehearsal : IfSome (rehearsal_in wish) (λ r. IsRehearsalCalled r.0 r.1 before input status out err left)
+  pub walk : IfSome (walk_in wish) (λ w. IsWalkCalled w.0 w.1 before input status out err left)
   pub wires : IfSome (run_in wish) (λ program. AreWires before.programs.starts left.journal 0 (came left.journal) left.wires)
   pub starts : IfSome (run_in wish) (λ program. HaveStarted (LacksMemory status (Rose err.faults err.faults')) program left.journal before.programs.starts left.outside.programs.starts)
   pub faults : IfSome (run_in wish) (λ program. RoseBy (count is_failed_start left.journal) before.programs.faults left.outside.programs.faults)

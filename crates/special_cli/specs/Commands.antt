@@ -16,10 +16,11 @@ use Rattle.special_cli.specs.Setups.{HasSetUp}
 use Rattle.special_cli.specs.Doings.{HasRun}
 use Rattle.special_cli.specs.Audits.{HasAudited}
 use Rattle.special_cli.specs.Rehearsals.{HasRehearsed}
+use Rattle.special_cli.specs.Walks.{WalksTasks}
 use Rattle.run_tasks.specs.Inputs.{InputFlow, IsUnread}
 use Rattle.cli_words.specs.Refusals.{reason_refused, refusal_if}
 use Rattle.cli_words.specs.declared.command.Command.{Command}
-use Rattle.cli_words.specs.declared.command.Command.TheVariants.{Check, Info, Init, Run, Audit, Rehearse, Show}
+use Rattle.cli_words.specs.declared.command.Command.TheVariants.{Check, Info, Init, Run, Audit, Rehearse, Walk, Show}
 
 -- nothing came of it but what is to be told: this, or running out of memory
 pub record ComesToNothing (before : OutsideValue) (ran : RanValue) (end : End) : Type 0 where
@@ -90,3 +91,4 @@ Runs clock before input (Some (Init words)) ran = HasSetUp words before ran
 Runs clock before input (Some (Run words)) ran = HasRun words clock before input ran
 Runs clock before input (Some Audit) ran = HasAudited before input ran
 Runs clock before input (Some (Rehearse seed tasks)) ran = IsUnread input × HasRehearsed seed tasks before ran
+Runs clock before input (Some (Walk seed tasks)) ran = IsUnread input × WalksTasks seed tasks before ran

@@ -12,5 +12,6 @@ pub mod Sayings
 pub mod Interviews
 pub mod Meetings
 pub mod Tells
+pub mod Walks
 pub mod Wishes
 pub mod Setups

@@ -14,11 +14,12 @@ use Rattle.keep_desk.specs.declared.writing.KeptWritten.{KeptWritten}
 use Rattle.keep_desk.specs.declared.writing.KeptWritten.TheVariants as W
 use Rattle.special_cli.specs.Audits.{found_line, found_status}
 use Rattle.special_cli.specs.declared.end.End.{End}
-use Rattle.special_cli.specs.declared.end.End.TheVariants.{Usage, Shown, Refused, Memory, Answered, Informed, BadKept, KeptTooLarge, FileFailed, InputFailed, SetUp, NotSetUp, Done, Audited, Rehearsed}
+use Rattle.special_cli.specs.declared.end.End.TheVariants.{Usage, Shown, Refused, Memory, Answered, Informed, BadKept, KeptTooLarge, FileFailed, InputFailed, SetUp, NotSetUp, Done, Audited, Rehearsed, Walked}
 use Rattle.special_cli.specs.Endings.{is_well}
 use Rattle.special_cli.specs.Informs.{info_status}
 use Rattle.special_cli.specs.Left.{Left}
 use Rattle.special_cli.specs.Rehearsals.{rehearsal_status, rehearsal_text}
+use Rattle.special_cli.specs.Walks.{walk_status, walk_text}
 use Rattle.cli_words.specs.Pages.{page_text}
 use Rattle.cli_words.specs.Texts.{usage_line, memory_line, refused_line, bad_kept_line, keep_large_line, file_line, input_line}
 
@@ -124,6 +125,7 @@ IsEndTold journal answers status out err (Done written) = IsDoneTold journal ans
 IsEndTold journal answers status out err (NotSetUp answer) = IsPrintedOr 1 (setup_text journal (Stopped answer)) status out err
 IsEndTold journal answers status out err (Audited found) = IsPrintedOr (found_status found) (found_line found) status out err
 IsEndTold journal answers status out err (Rehearsed found) = IsPrintedOr (rehearsal_status answers found) (rehearsal_text answers found) status out err
+IsEndTold journal answers status out err (Walked tasks equal found) = IsPrintedOr (walk_status tasks answers equal found) (walk_text answers equal found) status out err
 
 -- the same of what a command left
 abbrev pub IsToldOf : Left → ℕ → Flow → Flow → End → Type 0

@@ -12,7 +12,10 @@ pub(crate) enum End {
     /// A text was asked for.
     Shown(Page),
     /// The line of that number of the input is refused, or the input is cut after it; of a check or an info, line 1 is the key.
-    Refused { line: u64, reason: Reason },
+    Refused {
+        line: u64,
+        reason: Reason,
+    },
     /// No memory was found.
     Memory,
     /// The answers of the tasks.
@@ -37,4 +40,10 @@ pub(crate) enum End {
     Audited(Audit),
     /// The answers of a rehearsal were counted, and this was found of its journal.
     Rehearsed(Audit),
+    /// So many tasks were done in a closed world, so many of them got the content of their keys, and this was found of the journal.
+    Walked {
+        tasks: u32,
+        equal: u64,
+        found: Audit,
+    },
 }

@@ -16,6 +16,7 @@ mod run;
 mod saying;
 mod telling;
 mod top;
+mod walking;
 
 pub use closing::Closing;
 pub use top::special;

@@ -16,6 +16,7 @@ use crate::end::End;
 use crate::ran::Ran;
 use crate::rehearsal::rehearsal_saying;
 use crate::saying::{Saying, Words};
+use crate::walking::walk_saying;
 use ann_key::{Bytes, Key, KeyRef, NoMemory};
 use ann_outside::{Desks, Programs, Sink};
 use cli_words::{bad_kept_line, file_line, input_line, keep_large_line, refused_line, usage_line};
@@ -81,6 +82,11 @@ fn saying_of(alloc: Global, end: &End, journal: &Journal, answers: &[Answer]) ->
         End::NotSetUp(answer) => Saying::on_out(print_line(alloc, answer, journal), 1),
         End::Audited(found) => Saying::on_out(found_line(alloc, *found), found_status(*found)),
         End::Rehearsed(found) => rehearsal_saying(alloc, answers, *found),
+        End::Walked {
+            tasks,
+            equal,
+            found,
+        } => walk_saying(alloc, *tasks, answers, *equal, *found),
     }
 }
 

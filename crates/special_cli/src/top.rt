@@ -18,6 +18,7 @@ use crate::ran::Ran;
 use crate::rehearsal::rehearse_tasks;
 use crate::run::run;
 use crate::telling::tell;
+use crate::walking::walk_tasks;
 use ann_key::NoMemory;
 use ann_outside::{Clock, Desks, Programs, Sink, Source};
 use cli_words::{Command, command_of};
@@ -119,6 +120,7 @@ where
         Some(Command::Rehearse { seed, tasks }) => {
             rehearse_tasks(rt, alloc, *seed, *tasks, outside)
         }
+        Some(Command::Walk { seed, tasks }) => walk_tasks(alloc, *seed, *tasks, outside),
         None => Ran::nothing(alloc, outside, End::Usage),
     }
 }

@@ -5,7 +5,7 @@ use Rattle.wire_msg.specs.Shown.{host_shown}
 use Rattle.kit_core.specs.Descriptions.{aside_lines}
 use Rattle.kit_core.specs.Described.{is_about}
 use Rattle.kit_core.specs.Stages.{KitValue, Steps, is_free}
-use Rattle.kit_serve.proofs.Fields.{spelled_fields}
+use Rattle.kit_core.proofs.Fields.{spelled_fields}
 use Rattle.kit_serve.proofs.DescribedVoices.{aside_utters, kit_describes, free_live}
 use Rattle.kit_serve.proofs.described.DescribedVoice.answer.Goals as goal
 

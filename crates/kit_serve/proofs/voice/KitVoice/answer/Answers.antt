@@ -1,6 +1,6 @@
 use Rattle.std.proofs.Common.{sym}
 use Rattle.wire_msg.specs.Shown.{host_shown}
-use Rattle.kit_serve.proofs.Fields.{spelled_fields}
+use Rattle.kit_core.proofs.Fields.{spelled_fields}
 use Rattle.kit_serve.proofs.KitVoices.{kit_utters}
 use Rattle.kit_serve.proofs.voice.KitVoice.answer.Goals as goal
 

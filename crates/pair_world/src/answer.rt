@@ -1,0 +1,11 @@
+use ann_key::Bytes;
+
+/// An answer of a kit: the child, the line of its request, the last line that it said to it, and the bytes that the call behind
+/// that line put under a key or in a file. Lines are without byte 10.
+#[derive(Drop)]
+pub(crate) struct Answer {
+    pub(crate) child: u32,
+    pub(crate) request: Bytes,
+    pub(crate) line: Bytes,
+    pub(crate) bytes: Bytes,
+}
