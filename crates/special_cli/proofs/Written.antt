@@ -12,7 +12,7 @@ use Rattle.chunk_log.specs.ChunkLines.{IsWrittenUuid}
 use Rattle.cli_words.proofs.Ranging.{run_uuid}
 use Rattle.cli_words.specs.Settings.{settings_in}
 use Rattle.cli_words.specs.Values.{is_word_of_command, padded_number_in, uuid_in}
-use Rattle.cli_words.specs.Words.{check_of, command_of, info_of, init_of, init_with, is_help, of_command, page_alone, page_of, most_rehearsed, most_seed, rehearse_of, rehearse_with, run_of}
+use Rattle.cli_words.specs.Words.{check_of, command_of, info_of, init_of, init_with, is_help, of_command, page_alone, page_of, most_rehearsed, most_seed, rehearse_of, rehearse_with, run_of, walk_with}
 use Rattle.cli_words.specs.declared.command.Command.{Command}
 use Rattle.cli_words.specs.declared.command.Command.TheVariants.{Run, Audit, Show}
 use Rattle.cli_words.specs.declared.command.Page.{Page}
@@ -142,7 +142,15 @@ rehearse_written (seed ∷ tasks ∷ []) = go (padded_number_in 0 most_seed seed
     go (Some s) (Some t) = tt
     go (Some s) None = tt
     go None t = tt
-rehearse_written (seed ∷ tasks ∷ more ∷ words) = tt
+rehearse_written (seed ∷ tasks ∷ world ∷ []) =
+    either_written (bytes_eq world (codes "world")) (walk_with (padded_number_in 0 most_seed seed) (padded_number_in 1 most_rehearsed tasks)) None
+    (go (padded_number_in 0 most_seed seed) (padded_number_in 1 most_rehearsed tasks)) tt
+  where
+    go : (s t : Option ℕ) → HasWrittenUuid (walk_with s t)
+    go (Some s) (Some t) = tt
+    go (Some s) None = tt
+    go None t = tt
+rehearse_written (seed ∷ tasks ∷ world ∷ more ∷ words) = tt
 
 pub command_written : (words : List (List ℕ)) → HasWrittenUuid (command_of words)
 command_written [] = tt
