@@ -129,13 +129,6 @@ unclaimed_more past e top are = record {
         rw no refl
     last w t high = refl
 
-pub unclaimed_next : (entries : List Entry) (n : ℕ) (e : Entry) (top more : ℕ) → n < length entries → e ≡ get_or entries n e → more ≡ top_after e.what top → AreUnclaimed (take n entries) top
-    → AreUnclaimed (take (n + 1) entries) more
-unclaimed_next entries n e top more long at is are =
-    let value : more ≡ top_after (get_or entries n e).what top = is ∙ ap (λ (d : Entry). top_after d.what top) at in
-    subst (λ (es : List Entry). AreUnclaimed es more) (sym (take_more entries n e long))
-    (subst (AreUnclaimed (take n entries ++ get_or entries n e ∷ [])) (sym value) (unclaimed_more (take n entries) (get_or entries n e) top are))
-
 -- ---- the start
 
 pub none_held : AreHeld [] []
