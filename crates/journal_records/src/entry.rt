@@ -80,77 +80,80 @@ pub struct EntryRef<'a> {
     pub what: WhatRef<'a>,
 }
 
-fn what_of(what: &What) -> WhatRef<'_>
-    ensures { what_shown result ≡ what.entry.now }
-{
-    match what {
-        What::Claim { task, child } => WhatRef::Claim {
-            task: *task,
-            child: *child,
-        },
-        What::Start { child, slot, offer } => WhatRef::Start {
-            child: *child,
-            slot: *slot,
-            offer: *offer,
-        },
-        What::NoStart { slot } => WhatRef::NoStart { slot: *slot },
-        What::Lead { child, job, line } => WhatRef::Lead {
-            child: *child,
-            job: *job,
-            line: line.view(),
-        },
-        What::Ask {
-            child,
-            job,
-            task,
-            line,
-        } => WhatRef::Ask {
-            child: *child,
-            job: *job,
-            task: *task,
-            line: line.view(),
-        },
-        What::Put { child, job, line } => WhatRef::Put {
-            child: *child,
-            job: *job,
-            line: line.view(),
-        },
-        What::Sent { child } => WhatRef::Sent { child: *child },
-        What::Mute { child } => WhatRef::Mute { child: *child },
-        What::Got { child, line } => WhatRef::Got {
-            child: *child,
-            line: line.view(),
-        },
-        What::End { child, why } => WhatRef::End {
-            child: *child,
-            why: *why,
-        },
-        What::Verdict {
-            child,
-            job,
-            verdict,
-        } => WhatRef::Verdict {
-            child: *child,
-            job: *job,
-            verdict: *verdict,
-        },
-        What::Lost { child, task } => WhatRef::Lost {
-            child: *child,
-            task: *task,
-        },
-        What::Answer { task, answer } => WhatRef::Answer {
-            task: *task,
-            answer: *answer,
-        },
-        What::Note { task, chunk, count } => WhatRef::Note {
-            task: *task,
-            chunk: *chunk,
-            count: *count,
-        },
-        What::Again { task, answer } => WhatRef::Again {
-            task: *task,
-            answer: *answer,
-        },
+impl<'a> WhatRef<'a> {
+    /// What happened, lent. It takes no memory.
+    pub fn of(what: &'a What) -> WhatRef<'a>
+        ensures { what_shown result ≡ what.entry.now }
+    {
+        match what {
+            What::Claim { task, child } => WhatRef::Claim {
+                task: *task,
+                child: *child,
+            },
+            What::Start { child, slot, offer } => WhatRef::Start {
+                child: *child,
+                slot: *slot,
+                offer: *offer,
+            },
+            What::NoStart { slot } => WhatRef::NoStart { slot: *slot },
+            What::Lead { child, job, line } => WhatRef::Lead {
+                child: *child,
+                job: *job,
+                line: line.view(),
+            },
+            What::Ask {
+                child,
+                job,
+                task,
+                line,
+            } => WhatRef::Ask {
+                child: *child,
+                job: *job,
+                task: *task,
+                line: line.view(),
+            },
+            What::Put { child, job, line } => WhatRef::Put {
+                child: *child,
+                job: *job,
+                line: line.view(),
+            },
+            What::Sent { child } => WhatRef::Sent { child: *child },
+            What::Mute { child } => WhatRef::Mute { child: *child },
+            What::Got { child, line } => WhatRef::Got {
+                child: *child,
+                line: line.view(),
+            },
+            What::End { child, why } => WhatRef::End {
+                child: *child,
+                why: *why,
+            },
+            What::Verdict {
+                child,
+                job,
+                verdict,
+            } => WhatRef::Verdict {
+                child: *child,
+                job: *job,
+                verdict: *verdict,
+            },
+            What::Lost { child, task } => WhatRef::Lost {
+                child: *child,
+                task: *task,
+            },
+            What::Answer { task, answer } => WhatRef::Answer {
+                task: *task,
+                answer: *answer,
+            },
+            What::Note { task, chunk, count } => WhatRef::Note {
+                task: *task,
+                chunk: *chunk,
+                count: *count,
+            },
+            What::Again { task, answer } => WhatRef::Again {
+                task: *task,
+                answer: *answer,
+            },
+        }
     }
 }
 
@@ -161,7 +164,7 @@ impl<'a> EntryRef<'a> {
     {
         EntryRef {
             by: entry.by,
-            what: what_of(&entry.what),
+            what: WhatRef::of(&entry.what),
         }
     }
 }

@@ -20,7 +20,7 @@ use Rattle.host_core.specs.Runs.{AreRuns}
 use Rattle.host_core.specs.Settings.{set_in, registers_after, IsServed}
 use Rattle.host_core.proofs.Sharing.{step_made}
 use Rattle.host_core.proofs.Stepping.{Legal-step}
-use Rattle.host_core.proofs.Pushing.{group_fits, few_entries, free_room, free_first}
+use Rattle.host_core.proofs.Pushing.{group_fits, few_entries, free_bytes, free_room, free_first}
 use Rattle.host_core.proofs.Sparing.{event_free}
 use Rattle.host_core.proofs.Noting.{note_fits, notes_grow}
 use Rattle.host_core.proofs.Running.{runs_fit, runs_grow}
@@ -54,8 +54,8 @@ note-requires c =
     let few = few_entries o past c.self.inside.journal.room c.self.invariant.0 c.self.invariant.2 c.self.invariant.3 in
     runs_fit o past c.args.by c.args.event c.in_ok-step.step.what c.in_ok-step.step.due c.self.inside.runs.items few c.self.invariant.1.again c.self.invariant.6 c.in_ok-step.ensures.step.group_is
 
-pub push_group-requires : goal.push_group-requires
-push_group-requires c =
+pub push_group-requires-clause-room : goal.push_group-requires-clause-room
+push_group-requires-clause-room c =
     let o : Opening = c.self.inside.opening in
     let past : List Entry = c.self.inside.journal.entries in
     let what : Option What = c.in_ok-step.step.what in
@@ -174,7 +174,8 @@ returns-in_err-take_room-clause-free c = λ free. (
     let due : Due = c.in_ok-step.step.due in
     let e : group_made past c.args.by what due ≡ (step_of o past c.args.by c.args.event).group = c.in_ok-step.ensures.step.group_is in
     let f : is_free (step_of o past c.args.by c.args.event) ≡ true = subst (λ (v : CoreValue). is_free (step_of v.opening v.journal c.args.by c.args.event) ≡ true) (sym c.self.view_is) free in
-    let no : false ≡ true = c.in_err-take_room.ensures.free (c.in_ok-more.ensures ∙ free_room o past c.args.by c.args.event what due f e) in
+    let none = free_room o past c.args.by c.args.event what due f e in
+    let no : false ≡ true = c.in_err-take_room.ensures.free (c.in_ok-more.ensures ∙ none) (c.in_ok-bytes.ensures ∙ free_bytes what due none) in
     (cc)
     )
 
@@ -186,7 +187,8 @@ returns-in_err-take_room-clause-free_event c = λ free. (
     let due : Due = c.in_ok-step.step.due in
     let e : group_made past c.args.by what due ≡ (step_of o past c.args.by c.args.event).group = c.in_ok-step.ensures.step.group_is in
     let f : is_free (step_of o past c.args.by c.args.event) ≡ true = event_free o past c.args.by c.args.event free in
-    let no : false ≡ true = c.in_err-take_room.ensures.free (c.in_ok-more.ensures ∙ free_room o past c.args.by c.args.event what due f e) in
+    let none = free_room o past c.args.by c.args.event what due f e in
+    let no : false ≡ true = c.in_err-take_room.ensures.free (c.in_ok-more.ensures ∙ none) (c.in_ok-bytes.ensures ∙ free_bytes what due none) in
     (cc)
     )
 
