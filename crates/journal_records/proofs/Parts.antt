@@ -3,8 +3,8 @@ use Rattle.std.proofs.Common.{◌≡◌, ℕ, zero, suc, ◌+◌, ◌-◌, ◌<�
 use Rattle.std.specs.Prelude.{slice_get, slice_range, Some, None, Option}
 use Rattle.std.proofs.lemmas.List.{length-take-le, take_all, take-take, drop-take, drop-drop}
 
-pub whole_part : {X : Type 0} (xs : List X) → slice_range xs 0 (length xs) ≡ xs
-whole_part xs = take_all (length xs - 0) xs (omega arith)
+pub whole_part : {X : Type 0} (xs : List X) (to : ℕ) → to ≡ length xs → slice_range xs 0 to ≡ xs
+whole_part xs to all = take_all (to - 0) xs (omega (arith, all))
 
 pub length_part : {X : Type 0} (xs : List X) (from to : ℕ) → from ≤ to → to ≤ length xs → length (slice_range xs from to) ≡ to - from
 length_part xs from to low high = length-take-le (to - from) (drop from xs) (omega (arith, length-drop from xs))

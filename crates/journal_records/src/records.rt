@@ -106,12 +106,22 @@ impl Records {
     pub(crate) fn entry(&self, at: usize) -> Option<EntryRef<'_>>
         ensures { option_map entry_shown result ≡ slice_get self.now.entries at }
     {
-        match self.records.get(at) {
+        match record_at(self.records.as_slice(), at) {
             Some(record) => Some(EntryRef {
                 by: record.by,
                 what: record::lent(&self.lines, self.digests.as_slice(), record.what),
             }),
             None => None,
         }
+    }
+}
+
+// The record at a place; None exactly past the end.
+fn record_at(records: &[Record], at: usize) -> Option<Record>
+    ensures { result ≡ slice_get records.now at }
+{
+    match records.get(at) {
+        Some(record) => Some(*record),
+        None => None,
     }
 }
