@@ -23,6 +23,6 @@ EndAt at (end ∷ ends) len = (at ≤ end) × EndAt end ends len
 
 -- the room is there
 pub record IsStored (bytes ends : List ℕ) (room space most_lines most_bytes : ℕ) : Type 0 where
-  pub ends : EndAt 0 ends (length bytes)
-  pub room : room ≤ most_lines
-  pub space : space ≤ most_bytes
+  pub ended : EndAt 0 ends (length bytes)
+  pub for_lines : room ≤ most_lines
+  pub for_bytes : space ≤ most_bytes

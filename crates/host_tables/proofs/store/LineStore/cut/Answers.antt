@@ -19,11 +19,11 @@ invariant_of-self c =
     c.end_of-end.ensures ∙ ap (λ (xs : List ℕ). get_or (0 ∷ xs) c.args.lines 0) c.as_slice.ensures.value in
     let bytes = c.truncate-2.ensures.items ∙ ap (λ (n : ℕ). take n c.self.inside.bytes.items) end in
     record {
-      ends = subst (λ (xs : List ℕ). EndAt 0 xs (length c.truncate-2.new.self.items)) (sym c.truncate.ensures.items)
-      (subst (λ (xs : List ℕ). EndAt 0 (take c.args.lines ends) (length xs)) (sym bytes)
-      (EndAt-bytes c.self.inside.bytes.items 0 ends c.args.lines c.self.invariant.ends few));
-      room = omega (arith, c.truncate.ensures.capacity, c.self.invariant.room);
-      space = omega (arith, c.truncate-2.ensures.capacity, c.self.invariant.space);
+      ended = subst (λ (xs : List ℕ). EndAt 0 xs (length c.truncate-2.new.self.items)) (sym c.truncate.ensures.items)
+          (subst (λ (xs : List ℕ). EndAt 0 (take c.args.lines ends) (length xs)) (sym bytes)
+          (EndAt-bytes c.self.inside.bytes.items 0 ends c.args.lines c.self.invariant.ended few));
+      for_lines = omega (arith, c.truncate.ensures.capacity, c.self.invariant.for_lines);
+      for_bytes = omega (arith, c.truncate-2.ensures.capacity, c.self.invariant.for_bytes);
     }
 
 pub returns-clause-lines : goal.returns-clause-lines
@@ -34,5 +34,5 @@ returns-clause-lines c =
     c.end_of-end.ensures ∙ ap (λ (xs : List ℕ). get_or (0 ∷ xs) c.args.lines 0) c.as_slice.ensures.value in
     let bytes = c.truncate-2.ensures.items ∙ ap (λ (n : ℕ). take n c.self.inside.bytes.items) end in
     (λ i. lines_from (bytes i) 0 (c.truncate.ensures.items i))
-    ∙ lines_from-take c.self.inside.bytes.items 0 ends (length c.self.inside.bytes.items) c.args.lines c.self.invariant.ends few
+    ∙ lines_from-take c.self.inside.bytes.items 0 ends (length c.self.inside.bytes.items) c.args.lines c.self.invariant.ended few
     ∙ ap (λ v. take c.args.lines v.lines) c.self.view_is

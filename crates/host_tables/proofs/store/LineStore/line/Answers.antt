@@ -12,7 +12,7 @@ part-requires-clause-rising c =
     c.end_of.ensures ∙ ap (λ (xs : List ℕ). get_or (0 ∷ xs) c.args.n 0) c.as_slice-ends.ensures.value in
     let end : c.end_of-then-at-ends.result ≡ get_or (0 ∷ ends) (suc c.args.n) 0 =
     c.end_of-then-at-ends.ensures ∙ (λ i. get_or (0 ∷ c.as_slice-ends.ensures.value i) (add-one c.args.n i) 0) in
-    let rising = start-le-end 0 ends (length c.self.inside.bytes.items) c.args.n c.self.invariant.ends (omega (arith, all, here)) in
+    let rising = start-le-end 0 ends (length c.self.inside.bytes.items) c.args.n c.self.invariant.ended (omega (arith, all, here)) in
     omega (arith, start, end, rising)
 
 pub part-requires-clause-within : goal.part-requires-clause-within
@@ -22,7 +22,7 @@ part-requires-clause-within c =
     let here : c.args.n < length c.as_slice-ends.result.now = c.if-at-ends.true in
     let end : c.end_of-then-at-ends.result ≡ get_or (0 ∷ ends) (suc c.args.n) 0 =
     c.end_of-then-at-ends.ensures ∙ (λ i. get_or (0 ∷ c.as_slice-ends.ensures.value i) (add-one c.args.n i) 0) in
-    let within = end-le-length 0 ends (length c.self.inside.bytes.items) (suc c.args.n) c.self.invariant.ends (omega (arith, all, here)) in
+    let within = end-le-length 0 ends (length c.self.inside.bytes.items) (suc c.args.n) c.self.invariant.ended (omega (arith, all, here)) in
     let bytes : length c.as_slice-bytes.result.now ≡ length c.self.inside.bytes.items = ap length c.as_slice-bytes.ensures.value in
     omega (arith, end, within, bytes)
 

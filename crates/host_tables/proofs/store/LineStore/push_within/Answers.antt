@@ -15,13 +15,13 @@ invariant_of-self c =
     let after : length c.extend_from_slice.new.self.items ≡ length old + length c.args.line.now =
     ap length c.in-Ok.ensures.items ∙ length-append old c.args.line.now in
     let ends : c.push.new.self.items ≡ c.self.inside.ends.items ++ (length old + length c.args.line.now) ∷ [] =
-    c.in-Ok-2.ensures.items ∙ (λ i. c.self.inside.ends.items ++ long i ∷ []) in
+    c.in-Ok-push.ensures.items ∙ (λ i. c.self.inside.ends.items ++ long i ∷ []) in
     record {
-      ends = subst (λ (xs : List ℕ). EndAt 0 xs (length c.extend_from_slice.new.self.items)) (sym ends)
-      (subst (λ (n : ℕ). EndAt 0 (c.self.inside.ends.items ++ (length old + length c.args.line.now) ∷ []) n) (sym after)
-      (EndAt-append 0 c.self.inside.ends.items (length old) (length c.args.line.now) c.self.invariant.ends));
-      room = omega (arith, c.push.ensures.capacity, c.self.invariant.room);
-      space = omega (arith, c.extend_from_slice.ensures.capacity, c.self.invariant.space);
+      ended = subst (λ (xs : List ℕ). EndAt 0 xs (length c.extend_from_slice.new.self.items)) (sym ends)
+          (subst (λ (n : ℕ). EndAt 0 (c.self.inside.ends.items ++ (length old + length c.args.line.now) ∷ []) n) (sym after)
+          (EndAt-append 0 c.self.inside.ends.items (length old) (length c.args.line.now) c.self.invariant.ended));
+      for_lines = omega (arith, c.push.ensures.capacity, c.self.invariant.for_lines);
+      for_bytes = omega (arith, c.extend_from_slice.ensures.capacity, c.self.invariant.for_bytes);
     }
 
 pub returns-clause-lines : goal.returns-clause-lines
@@ -30,7 +30,27 @@ returns-clause-lines c =
     let long : length c.as_slice-end.result.now ≡ length old + length c.args.line.now =
     ap length (c.as_slice-end.ensures.value ∙ c.in-Ok.ensures.items) ∙ length-append old c.args.line.now in
     let ends : c.push.new.self.items ≡ c.self.inside.ends.items ++ (length old + length c.args.line.now) ∷ [] =
-    c.in-Ok-2.ensures.items ∙ (λ i. c.self.inside.ends.items ++ long i ∷ []) in
+    c.in-Ok-push.ensures.items ∙ (λ i. c.self.inside.ends.items ++ long i ∷ []) in
     (λ i. lines_from (c.in-Ok.ensures.items i) 0 (ends i))
-    ∙ lines_from-append old c.args.line.now 0 c.self.inside.ends.items c.self.invariant.ends
+    ∙ lines_from-append old c.args.line.now 0 c.self.inside.ends.items c.self.invariant.ended
     ∙ ap (λ v. v.lines ++ c.args.line.now ∷ []) c.self.view_is
+
+pub unreachable-requires : goal.unreachable-requires
+unreachable-requires c =
+    let old = c.self.inside in
+    let fits : total c.args.self.now.lines + length c.args.line.now ≤ old.space = let same = ap (λ v. v.space) c.self.view_is in let roomy = c.requires.space in omega (arith, same, roomy) in
+    let there = bytes_fit old.bytes.items old.ends.items c.args.self.now.lines (length c.args.line.now) old.space _ c.self.invariant.ended (ap (λ v. v.lines) c.self.view_is) fits c.self.invariant.for_bytes in
+    let full = c.in-Err.ensures.full in
+    let long = old.bytes.ok.0 in
+    omega (arith, there, full, long)
+
+pub unreachable-requires-in-Err-push : goal.unreachable-requires-in-Err-push
+unreachable-requires-in-Err-push c =
+    let old = c.self.inside in
+    let many = many_lines old.bytes.items old.ends.items c.args.self.now.lines (ap (λ v. v.lines) c.self.view_is) in
+    let same = ap (λ v. v.room) c.self.view_is in
+    let few = c.requires.room in
+    let full = c.in-Err-push.ensures.full in
+    let long = old.ends.ok.0 in
+    let roomy = c.self.invariant.for_lines in
+    omega (arith, many, same, few, full, long, roomy)
