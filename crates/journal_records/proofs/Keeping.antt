@@ -1,7 +1,7 @@
 -- One more entry is kept, and those before it say what they said.
-use Rattle.std.proofs.Common.{◌≡◌, ℕ, zero, suc, ◌+◌, ◌-◌, ◌<◌, ◌≤◌, List, [], ◌∷◌, ◌++◌, length, map, slice_get, append-nil, Some, refl, sym, ap, subst, ◌∙◌, arith}
+use Rattle.std.proofs.Common.{◌≡◌, ℕ, zero, suc, ◌+◌, ◌-◌, ◌<◌, ◌≤◌, List, [], ◌∷◌, ◌++◌, length, map, slice_get, append-nil, refl, sym, ap, ◌∙◌, arith}
 use Rattle.std.specs.List.{AllByRecursion}
-use Rattle.std.proofs.lemmas.List.{get_or_append_left, get_or_at, length_push, length-map}
+use Rattle.std.proofs.lemmas.List.{get_or_append_left, length_push, length-map}
 use Rattle.std.proofs.lemmas.List.Sums.{sum_by_push}
 use Rattle.ann_digest.specs.declared.digest.Digest.{Digest}
 use Rattle.host_tables.specs.Lines.{LineStoreValue, total}
@@ -157,66 +157,3 @@ few_kept records f entries room all is same few = let long = length-map records 
 
 pub fits_kept : (filled space more spare : ℕ) → filled ≤ space → space - filled ≡ spare → more ≤ spare → filled + more ≤ space
 fits_kept filled space more spare low is fits = omega (arith, low, is, fits)
-
--- ---- what was appended is found
-
-pub line_last : (old new : List (List ℕ)) (line : List ℕ) (n : ℕ) → new ≡ old ++ line ∷ [] → n ≡ length old → (line_kept new n ≡ line) × (n < length new)
-line_last old new line n is at =
-    let long = ap length is in
-    let more = length_push old line in
-    (ap (λ (ls : List (List ℕ)). line_kept ls n) is ∙ get_or_at old line [] [] n (sym at), omega (arith, long, more, at))
-
-get_last : {X : Type 0} (xs : List X) (x : X) (n : ℕ) → length xs ≡ n → slice_get (xs ++ x ∷ []) n ≡ Some x
-get_last [] x n at = ap (slice_get (x ∷ [])) (sym at)
-get_last (y ∷ xs) x zero at = absurd (omega arith)
-get_last (y ∷ xs) x (suc n) at = get_last xs x n (omega arith)
-
-pub digest_last : (old new : List Digest) (digest : Digest) (n : ℕ) → new ≡ old ++ digest ∷ [] → n ≡ length old → (by_digest (slice_get new n) ≡ Hash digest) × (n < length new)
-digest_last old new digest n is at =
-    let long = ap length is in
-    let more = length_push old digest in
-    (ap by_digest (ap (λ (ds : List Digest). slice_get ds n) is ∙ get_last old digest n (sym at)), omega (arith, long, more, at))
-
--- ---- more room for the same entries
-
--- the same records, lines and digests
-pub record IsSame (records records' : List Record) (lines lines' : LineStoreValue) (digests digests' : List Digest) : Type 0 where
-  pub record_is : records' ≡ records
-  pub line_is : lines'.lines ≡ lines.lines
-  pub digest_is : digests' ≡ digests
-  pub space_is : lines.space ≤ lines'.space
-
-within_same : (records records' : List Record) (lines lines' : LineStoreValue) (digests digests' : List Digest) → IsSame records records' lines lines' digests digests'
-    → AllByRecursion (λ r. IsWithin (length lines.lines) (length digests) r.what) records → AllByRecursion (λ r. IsWithin (length lines'.lines) (length digests') r.what) records'
-within_same records records' lines lines' digests digests' same h =
-    let P : List Record → ℕ → ℕ → Type 0 = λ rs n m. AllByRecursion (λ r. IsWithin n m r.what) rs in
-    subst (λ (rs : List Record). P rs (length lines'.lines) (length digests')) (sym same.record_is)
-    (subst (λ (n : ℕ). P records n (length digests')) (sym (ap length same.line_is))
-    (subst (λ (m : ℕ). P records (length lines.lines) m) (sym (ap length same.digest_is)) h))
-
-pub records_roomier : (records records' : List Record) (lines lines' : LineStoreValue) (digests digests' : List Digest) (room room' m n m' n' : ℕ)
-    → AreRecords records lines digests room m n → IsSame records records' lines lines' digests digests'
-    → room' ≤ m' → length lines'.lines + (room' - length records') ≤ lines'.room → length digests' + (room' - length records') ≤ n' → AreRecords records' lines' digests' room' m' n'
-records_roomier records records' lines lines' digests digests' room room' m n m' n' h same for_records for_lines for_digests =
-    let filled : total lines'.lines ≡ total lines.lines = ap total same.line_is in
-    let low = h.bytes in
-    let space = same.space_is in
-    record {
-      within = within_same records records' lines lines' digests digests' same h.within;
-      bytes = omega (arith, filled, low, space);
-      for_records = for_records;
-      for_lines = for_lines;
-      for_digests = for_digests;
-    }
-
--- where the room is as it was, and no capacity fell
-pub records_same : (records records' : List Record) (lines lines' : LineStoreValue) (digests digests' : List Digest) (room m n m' n' : ℕ)
-    → AreRecords records lines digests room m n → IsSame records records' lines lines' digests digests' → lines.room ≤ lines'.room → m ≤ m' → n ≤ n' → AreRecords records' lines' digests' room m' n'
-records_same records records' lines lines' digests digests' room m n m' n' h same le le' le'' =
-    let a : length records' ≡ length records = ap length same.record_is in
-    let b : length lines'.lines ≡ length lines.lines = ap length same.line_is in
-    let d : length digests' ≡ length digests = ap length same.digest_is in
-    let for_records = h.for_records in
-    let for_lines = h.for_lines in
-    let for_digests = h.for_digests in
-    records_roomier records records' lines lines' digests digests' room room m n m' n' h same (omega (arith, for_records, le')) (omega (arith, a, b, for_lines, le)) (omega (arith, a, d, for_digests, le''))
