@@ -13,6 +13,6 @@ returns-in-Some c =
     let at = c.args.at in
     let e : Entry = entry_shown c.in-Some.e in
     c.said_in.ensures
-    ∙ ap (λ (es : List Entry). remote_text (item_of c.args.child c.args.job es e.what c.behind-2.result)) c.front.ensures
-    ∙ ap (λ (es : List Entry). remote_text (item_of c.args.child c.args.job (take at past) e.what es)) (c.behind-2.ensures ∙ ap (λ (es : List Entry). drop 1 es) c.behind.ensures ∙ drop-drop 1 at past)
+    ∙ ap (λ (es : List Entry). remote_text (item_of c.args.child c.args.job es e.what c.behind-in-Some.result)) c.front.ensures
+    ∙ ap (λ (es : List Entry). remote_text (item_of c.args.child c.args.job (take at past) e.what es)) (c.behind-in-Some.ensures ∙ ap (λ (es : List Entry). drop 1 es) c.behind.ensures ∙ drop-drop 1 at past)
     ∙ ap (λ (o : Option Entry). remote_text (option_and_then (λ d. item_of c.args.child c.args.job (take at past) d.what (drop (at + 1) past)) o)) c.in-Some.ensures
