@@ -1,6 +1,6 @@
 -- The lives of the children after one more entry.
-use Rattle.std.proofs.Common.{◌≡◌, ◌≢◌, ◌∙◌, ℕ, zero, suc, ◌+◌, ◌-◌, ◌<◌, List, [], ◌∷◌, ◌++◌, refl, sym, ap, subst, Bool, true, false, cond, Option, Some, None, length, get_or, set, take, ◌≤◌, not, get_or-set_same, get_or-set_other, arith, inl, inr, length-append}
-use Rattle.std.specs.Prelude.{◌==◌, ◌||◌, ◌⊎◌, filter, is_some, slice_get}
+use Rattle.std.proofs.Common.{◌≡◌, ◌≢◌, ◌∙◌, ℕ, ◌+◌, ◌-◌, ◌<◌, List, [], ◌∷◌, ◌++◌, refl, sym, ap, subst, Bool, true, false, cond, Option, Some, None, length, get_or, set, take, ◌≤◌, not, get_or-set_same, get_or-set_other, arith, inl, inr, length-append}
+use Rattle.std.specs.Prelude.{◌==◌, ◌||◌, ◌⊎◌, filter, is_some}
 use Rattle.std.specs.List.{cons_option}
 use Rattle.std.specs.Option.{option_or}
 use Rattle.std.proofs.lemmas.List.{take_more, length-take-le, get_or_default, get_or_past, get_or-append_right}
@@ -256,9 +256,3 @@ few_through entries n c life long is =
       written = omega (arith, short, no_more (written_to c) (take n entries));
       sent = omega (arith, short, counted_no_more (sends c) (take n entries));
     })
-
--- there is an entry at each place within
-pub none_past : (entries : List Entry) (n : ℕ) → n < length entries → None ≡ slice_get entries n → ⊥
-none_past [] n long h = omega (arith, long)
-none_past (e ∷ entries) zero long h = cc
-none_past (e ∷ entries) (suc n) long h = none_past entries n (omega arith) h

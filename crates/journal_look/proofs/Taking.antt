@@ -58,20 +58,20 @@ taken_more past e taken are = record {
 pub record AreTakenBefore (entries rest : List Entry) (taken : List Bool) : Type 0 where
   pub past : List Entry
   pub parts : past ++ rest ≡ entries
-  pub taken : AreTaken past taken
+  pub are : AreTaken past taken
 
 pub taken_first : (entries : List Entry) (taken : List Bool) → AreTaken [] taken → AreTakenBefore entries entries taken
-taken_first entries taken are = record { past = []; parts = refl; taken = are }
+taken_first entries taken are = record { past = []; parts = refl; are = are }
 
 pub taken_next : (entries rest more : List Entry) (e : Entry) (old new : List Bool) → rest ≡ e ∷ more → new ≡ taken_after e.what old → AreTakenBefore entries rest old
     → AreTakenBefore entries more new
 taken_next entries rest more e old new first is before = record {
   past = before.past ++ e ∷ [];
   parts = append_assoc before.past (e ∷ []) more ∙ ap (λ (es : List Entry). before.past ++ es) (sym first) ∙ before.parts;
-  taken = subst (AreTaken (before.past ++ e ∷ [])) (sym is) (taken_more before.past e old before.taken);
+  are = subst (AreTaken (before.past ++ e ∷ [])) (sym is) (taken_more before.past e old before.are);
 }
 
 pub taken_last : (entries rest : List Entry) (taken : List Bool) → rest ≡ [] → AreTakenBefore entries rest taken → AreTaken entries taken
 taken_last entries rest taken none before =
     let whole : before.past ≡ entries = sym (append-nil before.past) ∙ ap (λ (es : List Entry). before.past ++ es) (sym none) ∙ before.parts in
-    subst (λ (es : List Entry). AreTaken es taken) whole before.taken
+    subst (λ (es : List Entry). AreTaken es taken) whole before.are

@@ -56,7 +56,7 @@ fn jobs_child(what: WhatRef<'_>) -> u32
     match what {
         WhatRef::Ask { child, .. }
         | WhatRef::Put { child, .. }
-        | WhatRef::Verdict { child, .. } => child,| WhatRef::Put { child, .. } | WhatRef::Verdict { child, .. } => child,
+        | WhatRef::Verdict { child, .. } => child,
         _ => 0,
     }
 }

@@ -2,7 +2,7 @@ use Rattle.std.proofs.Common.{sym, arith}
 use Rattle.std.proofs.lemmas.Option.{get_or_from_slice_get}
 use Rattle.journal_model.specs.declared.entry.Entry.{Entry}
 use Rattle.journal_records.specs.Shown.{entry_shown}
-use Rattle.journal_look.proofs.Living.{AreFew, few_through, life_next, none_past}
+use Rattle.journal_look.proofs.Living.{AreFew, few_through, life_next}
 use Rattle.journal_look.proofs.life.lived_through.Goals as goal
 
 pub lived-life-requires-clause-asked : goal.lived-life-requires-clause-asked
@@ -19,9 +19,6 @@ pub lived-life-requires-clause-sent : goal.lived-life-requires-clause-sent
 lived-life-requires-clause-sent c =
     let few : AreFew c.loop-at.life c.loop-at.at = few_through c.args.entries.now c.loop-at.at c.args.child c.loop-at.life (omega (arith, c.requires)) c.loop-at.invariant in
     omega (arith, few.sent, c.requires, c.ranges.count.fits)
-
-pub prove-unreachable-requires : goal.prove-unreachable-requires
-prove-unreachable-requires c = none_past c.args.entries.now c.loop-at.at (omega (arith, c.requires)) c.in-None.ensures
 
 pub loop-at-preserved : goal.loop-at-preserved
 loop-at-preserved c =
