@@ -54,9 +54,8 @@ fn jobs_child(what: WhatRef<'_>) -> u32
     ensures { result ≡ jobs_child (what_shown what.entry) }
 {
     match what {
-        WhatRef::Ask { child, .. }
-        | WhatRef::Put { child, .. }
-        | WhatRef::Verdict { child, .. } => child,
+        WhatRef::Ask { child, .. } | WhatRef::Put { child, .. } | WhatRef::Verdict { child, .. } =>
+            child,
         _ => 0,
     }
 }

@@ -60,7 +60,11 @@ pub(super) fn note(tables: &mut Tables, at: usize, entry: EntryRef<'_>)
 }
 
 /// Takes room for so many more entries after these.
-pub(super) fn take_room(tables: &mut Tables, entries: &Entries<'_>, more: usize) -> Result<(), NoMemory>
+pub(super) fn take_room(
+    tables: &mut Tables,
+    entries: &Entries<'_>,
+    more: usize,
+) -> Result<(), NoMemory>
     ensures { AreTabled entries.now tables.old → AreTabled entries.now tables.new }
 {
     life::take_room(&mut tables.lives, more)?;

@@ -82,12 +82,7 @@ pub fn request_text<'a>(
 {
     let at = place(entries, known, child, job);
     match entries.get(at) {
-        Some(e) => Some(text_of(
-            &entries.front(at),
-            plain,
-            child,
-            hosts_line(e.what),
-        )),
+        Some(e) => Some(text_of(&entries.front(at), plain, child, hosts_line(e.what))),
         None => None,
     }
 }
