@@ -103,7 +103,7 @@ pub(super) enum Kept {
     },
 }
 
-/// An entry, and the number of the pass that made it. It has at most 56 bytes.
+/// An entry, and the number of the pass that made it. It has 48 bytes.
 #[derive(Clone, Copy)]
 pub(super) struct Record {
     pub by: u32,
