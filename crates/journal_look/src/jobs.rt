@@ -113,7 +113,8 @@ fn change(jobs: &mut Vec<Open>, at: usize, what: WhatRef<'_>) -> bool
 /// it.
 #[tactic(auto, using(crate::proofs::Opening::open_more))]
 fn note_open(jobs: &mut Vec<Open>, asked: u64, at: usize, what: WhatRef<'_>) -> bool
-    ensures { IsTrue result → (past : List Entry) → (e : Entry) → e.what ≡ what_shown what.entry → length past ≡ at → asked ≡ length (asked_jobs past (jobs_child (what_shown what.entry))) → AreOpen past jobs.old.items → AreOpen (past ++ e ∷ []) jobs.new.items }
+    ensures { IsTrue result → (past : List Entry) → (e : Entry) → e.what ≡ what_shown what.entry → length past ≡ at
+        → asked ≡ length (asked_jobs past (jobs_child (what_shown what.entry))) → AreOpen past jobs.old.items → AreOpen (past ++ e ∷ []) jobs.new.items }
 {
     keeps_numbers(asked, what) && change(jobs, at, what)
 }
