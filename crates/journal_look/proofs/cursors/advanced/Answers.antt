@@ -1,4 +1,4 @@
-use Rattle.std.proofs.Common.{◌∙◌, ap, arith, length-drop, not, List}
+use Rattle.std.proofs.Common.{◌∙◌, ap, arith, length-drop, not}
 use Rattle.std.specs.List.{prefix_len}
 use Rattle.journal_model.specs.declared.entry.Entry.{Entry}
 use Rattle.journal_scan.specs.Looks.{is_written}
