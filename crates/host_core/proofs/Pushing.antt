@@ -1,6 +1,6 @@
 -- A group is pushed entry by entry, into room that is kept.
 use Rattle.std.proofs.Common.{◌≡◌, ◌∙◌, ℕ, subst, zero, suc, ◌+◌, ◌*◌, ◌<◌, ◌≤◌, ◌^◌, List, [], ◌∷◌, ◌++◌, refl, sym, ap, Bool, true, false, not, cond, Option, Some, None, length, length-append, get_or, take, drop, map, append-nil, append_assoc, arith, inl, inr}
-use Rattle.std.specs.Prelude.{◌&&◌, ◌||◌, ◌==◌, nat_lt, nat_le, filter, remove, slice_get, option_and_then}
+use Rattle.std.specs.Prelude.{◌&&◌, ◌||◌, ◌==◌, nat_lt, nat_le, filter, remove, slice_get, option_and_then, sum_by}
 use Rattle.std.specs.List.{list_any}
 use Rattle.std.proofs.lemmas.Bool.Decides.{nat_tests}
 use Rattle.std.proofs.lemmas.List.Sums.{sum_by-cons}
@@ -11,9 +11,9 @@ use Rattle.journal_model.specs.declared.verdict.Verdict.{Verdict}
 use Rattle.journal_model.specs.declared.verdict.Verdict.TheVariants.{Ended, Unsent}
 use Rattle.journal_model.specs.declared.opening.Opening.{Opening}
 use Rattle.journal_model.specs.declared.entry.What.{What}
-use Rattle.journal_model.specs.declared.entry.What.TheVariants.{Put, Verdict as Settled}
+use Rattle.journal_model.specs.declared.entry.What.TheVariants.{Lead, Ask, Put, Got, Verdict as Settled}
 use Rattle.journal_model.specs.declared.entry.Entry.{Entry}
-use Rattle.journal_model.specs.Journal.{asks, asked_jobs, each_of, is_settled, is_unsent, open_jobs}
+use Rattle.journal_model.specs.Journal.{asks, asked_jobs, each_of, is_settled, is_unsent, line_bytes, open_jobs}
 use Rattle.journal_model.specs.Due.{made_by}
 use Rattle.journal_model.specs.Legality.{Legal}
 use Rattle.journal_model.specs.Room.{room_for, room_for_all, room_of}
@@ -24,7 +24,7 @@ use Rattle.host_core.specs.declared.due.Due.TheVariants.{Nothing, Settle, Reques
 use Rattle.host_core.specs.declared.event.Event.{Event}
 use Rattle.host_core.specs.Steps.{step_of, needs_room, needs_memory, is_free}
 use Rattle.journal_scan.specs.Looks.{NoneDue, due_asked, due_job, due_jobs, job_at}
-use Rattle.host_core.specs.Moves.{dues, group_made, first_room, due_room, group_room}
+use Rattle.host_core.specs.Moves.{dues, group_made, first_room, due_room, group_room, due_bytes, group_bytes}
 use Rattle.host_core.proofs.Stepping.{Legal-step}
 
 -- ---- the due jobs are those of the definitions
@@ -170,6 +170,13 @@ reply_pushed by c j es more (y ∷ ys) x some is grown =
     ∙ append_assoc es (made_by by (Put c j x ∷ [])) (made_by by (map (λ line. Put c j line) ys))
     ∙ ap (λ (z : List ℕ). es ++ record { by = by; what = Put c j z } ∷ made_by by (map (λ line. Put c j line) ys)) is
 
+-- without the first line
+pub bytes_less : (xs : List (List ℕ)) (x : List ℕ) → 0 < length xs → x ≡ get_or xs 0 x → sum_by (λ (line : List ℕ). length line) (remove xs 0) + length x ≡ sum_by (λ (line : List ℕ). length line) xs
+bytes_less [] x some is = absurd (let no : ⊥ = omega (arith, some) in no)
+bytes_less (y ∷ ys) x some is =
+    let long : length x ≡ length y = ap length is in
+    omega (arith, long, sum_by-cons (λ (line : List ℕ). length line) y ys)
+
 pub nonzero : (n : ℕ) → false ≡ (n == 0) → 0 < n
 nonzero zero h = absurd cc
 nonzero (suc n) h = omega arith
@@ -247,6 +254,32 @@ pub free_room : (o : Opening) (past : List Entry) (by : ℕ) (event : Event) (wh
     → group_made past by what due ≡ (step_of o past by event).group → group_room what due ≡ 0
 free_room o past by event what due free e =
     sym (made_room past by what due) ∙ ap room_for_all e ∙ no_room_in (step_of o past by event).group (none_needed o past by event free)
+
+-- a line stands only in an entry that needs room
+no_line : (w : What) → room_for w ≡ 0 → line_bytes w ≡ 0
+no_line (Lead child job line) none = absurd (let no : ⊥ = omega (arith, none) in no)
+no_line (Ask child job task line) none = absurd (let no : ⊥ = omega (arith, none) in no)
+no_line (Put child job line) none = absurd (let no : ⊥ = omega (arith, none) in no)
+no_line (Got child line) none = absurd (let no : ⊥ = omega (arith, none) in no)
+no_line _ none = refl
+
+no_lines : (lines : List (List ℕ)) → 2 * length lines ≡ 0 → sum_by (λ (line : List ℕ). length line) lines ≡ 0
+no_lines [] none = refl
+no_lines (l ∷ ls) none = absurd (let no : ⊥ = omega (arith, none) in no)
+
+no_due_lines : (due : Due) → due_room due ≡ 0 → due_bytes due ≡ 0
+no_due_lines (Replies child job lines) none = no_lines lines.items none
+no_due_lines (Request child job task line) none = absurd (let no : ⊥ = omega (arith, none) in no)
+no_due_lines _ none = refl
+
+pub free_bytes : (what : Option What) (due : Due) → group_room what due ≡ 0 → group_bytes what due ≡ 0
+free_bytes None due none = refl
+free_bytes (Some w) due none =
+    let first : room_for w ≡ 0 = omega (arith, none) in
+    let rest : due_room due ≡ 0 = omega (arith, none) in
+    let here = no_line w first in
+    let later = no_due_lines due rest in
+    omega (arith, here, later)
 
 pub free_first : (what : Option What) (due : Due) → group_room what due ≡ 0 → first_room what ≡ 0
 free_first None due h = refl

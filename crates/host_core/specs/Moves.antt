@@ -1,6 +1,6 @@
 -- Words for the core's code: an entry's due entries in short, and what is said in an open job.
 use Rattle.std.specs.Prelude.{ℕ, ◌≡◌, ◌+◌, ◌*◌, not, Bool, true, false, if◌then◌else◌, List, [], ◌∷◌, length, Option, Some, None, map, filter, filter_map}
-use Rattle.std.specs.List.{range_with_len}
+use Rattle.std.specs.List.{range_with_len, sum_by}
 use Rattle.journal_model.specs.declared.verdict.Why.TheVariants.{Error as ErrorAt, Version as VersionFault}
 use Rattle.journal_model.specs.declared.verdict.Verdict.{Verdict}
 use Rattle.journal_model.specs.declared.verdict.Verdict.TheVariants.{Unsent}
@@ -10,7 +10,7 @@ use Rattle.journal_model.specs.declared.entry.What.{What}
 use Rattle.journal_model.specs.declared.entry.What.TheVariants.{Ask, Put, Verdict as Settled}
 use Rattle.journal_model.specs.declared.entry.Entry.{Entry}
 use Rattle.journal_model.specs.declared.opening.Opening.{Opening}
-use Rattle.journal_model.specs.Journal.{open_jobs, is_unsent, has_spoken}
+use Rattle.journal_model.specs.Journal.{open_jobs, is_unsent, has_spoken, line_bytes}
 use Rattle.journal_model.specs.Parts.{item_at}
 use Rattle.journal_model.specs.Room.{room_for}
 use Rattle.journal_model.specs.Due.{ending, ended_jobs, made_by, is_version_one, is_error, after_line}
@@ -96,3 +96,16 @@ due_room due = 0
 abbrev pub group_room : Option What → Due → ℕ
 group_room None due = 0
 group_room (Some w) due = room_for w + due_room due
+
+-- ---- bytes
+
+-- those of the lines that are due
+abbrev pub due_bytes : Due → ℕ
+due_bytes (Replies child job lines) = sum_by (λ line. length line) lines.items
+due_bytes (Request child job task line) = length line
+due_bytes due = 0
+
+-- those of all lines of the group
+abbrev pub group_bytes : Option What → Due → ℕ
+group_bytes None due = 0
+group_bytes (Some w) due = line_bytes w + due_bytes due

@@ -1,19 +1,21 @@
 // Appends a group within room that is kept for it.
-ghost use Rattle.std.specs.Prelude.{◌≡◌, ◌≤◌, ◌<◌, ◌+◌, ◌^◌, ◌++◌, ◌∷◌, [], length, map, take, MatchResult};
+ghost use Rattle.std.specs.Prelude.{◌≡◌, ◌≤◌, ◌<◌, ◌+◌, ◌-◌, ◌^◌, ◌++◌, ◌∷◌, [], length, map, sum_by, take, MatchResult};
 ghost use Rattle.std.specs.List.{cons_option};
 ghost use Rattle.std.specs.Option.{SomeIff};
 ghost use Rattle.journal_model.specs.declared.verdict.Verdict.TheVariants.{Ended, Unsent};
 ghost use Rattle.journal_model.specs.declared.entry.What.TheVariants.{Put, Verdict as Settled};
+ghost use Rattle.journal_model.specs.Journal.{line_bytes};
 ghost use Rattle.journal_model.specs.Room.{room_for};
 ghost use Rattle.journal_model.specs.Due.{made_by, ended_jobs, ending};
 ghost use Rattle.journal_scan.specs.Looks.{due_jobs, job_at};
 ghost use Rattle.host_core.specs.Pasts.{IsPast};
-ghost use Rattle.host_core.specs.Moves.{dues, group_made, due_room, group_room, verdicts_of, unsent_verdicts};
+ghost use Rattle.host_core.specs.Moves.{dues, group_made, due_bytes, due_room, group_bytes, group_room, verdicts_of, unsent_verdicts};
 
 use crate::due::Due;
 use ann_key::{Bytes, NoMemory};
-use journal_look::{Journal, due_at, first_due};
+use journal_look::{Journal, WhatRef, due_at, first_due};
 use journal_model::{Entry, Verdict, What, Why};
+use journal_scan::lines::line_bytes;
 
 /// How much room the entry needs, now and for what can come of it.
 fn room_for(what: &What) -> usize
@@ -54,10 +56,50 @@ pub(super) fn group_room(what: &Option<What>, due: &Due) -> Result<usize, NoMemo
     }
 }
 
+/// How many bytes the lines have in all, if that can be told.
+fn bytes_of(lines: &[Bytes]) -> Option<usize>
+    ensures { SomeIff result (sum_by (λ line. length line) lines.now < 2 ^ 64) (sum_by (λ line. length line) lines.now) }
+{
+    let mut bytes = 0usize;
+    for line in lines {
+        bytes = bytes.checked_add(line.view().len())?;
+    }
+    Some(bytes)
+}
+
+/// How many bytes the lines have that are due after it, if that can be told.
+fn due_bytes(due: &Due) -> Option<usize>
+    ensures { SomeIff result (due_bytes due.now < 2 ^ 64) (due_bytes due.now) }
+{
+    match due {
+        Due::Replies { lines, .. } => bytes_of(lines.as_slice()),
+        Due::Request { line, .. } => Some(line.view().len()),
+        _ => Some(0),
+    }
+}
+
+/// How many bytes the lines of the group have.
+pub(super) fn group_bytes(what: &Option<What>, due: &Due) -> Result<usize, NoMemory>
+    ensures { MatchResult result (λ n. n ≡ group_bytes what.now due.now) (λ _. 2 ^ 64 ≤ group_bytes what.now due.now) }
+{
+    let Some(what) = what else {
+        return Ok(0);
+    };
+    let Some(more) = due_bytes(due) else {
+        return Err(NoMemory);
+    };
+    match more.checked_add(line_bytes(WhatRef::of(what))) {
+        Some(bytes) => Ok(bytes),
+        None => Err(NoMemory),
+    }
+}
+
 fn push(journal: &mut Journal, by: u32, what: What)
-    requires { length journal.old.entries < journal.old.room }
+    requires room { length journal.old.entries < journal.old.room }
+    requires spare { line_bytes what ≤ journal.old.spare }
     ensures entries { journal.new.entries ≡ journal.old.entries ++ made_by by (what ∷ []) }
     ensures room { journal.new.room ≡ journal.old.room }
+    ensures spare { journal.new.spare ≡ journal.old.spare - line_bytes what }
 {
     journal.push(Entry { by, what });
 }
@@ -145,7 +187,8 @@ fn push_ending(journal: &mut Journal, past: Past, by: u32, child: u32, why: Why)
 }
 
 fn push_replies(journal: &mut Journal, by: u32, child: u32, job: u64, lines: Vec<Bytes>)
-    requires { length journal.old.entries + length lines.items ≤ journal.old.room }
+    requires room { length journal.old.entries + length lines.items ≤ journal.old.room }
+    requires spare { sum_by (λ line. length line) lines.items ≤ journal.old.spare }
     ensures entries { journal.new.entries ≡ journal.old.entries ++ made_by by (map (λ line. Put child job line) lines.items) }
     ensures room { journal.new.room ≡ journal.old.room }
 {
@@ -160,6 +203,7 @@ fn push_replies(journal: &mut Journal, by: u32, child: u32, job: u64, lines: Vec
 fn push_dues(journal: &mut Journal, past: Past, by: u32, due: Due)
     requires past { IsPast journal.old.entries past }
     requires room { length journal.old.entries + length (dues (take past.n journal.old.entries) due) ≤ journal.old.room }
+    requires spare { due_bytes due ≤ journal.old.spare }
     ensures entries { journal.new.entries ≡ journal.old.entries ++ made_by by (dues (take past.n journal.old.entries) due) }
     ensures room { journal.new.room ≡ journal.old.room }
 {
@@ -202,7 +246,8 @@ fn push_dues(journal: &mut Journal, past: Past, by: u32, due: Due)
 
 /// The first entry with what is due after it. It takes no memory.
 pub(super) fn push_group(journal: &mut Journal, by: u32, what: Option<What>, due: Due)
-    requires { length journal.old.entries + length (group_made journal.old.entries by what due) ≤ journal.old.room }
+    requires room { length journal.old.entries + length (group_made journal.old.entries by what due) ≤ journal.old.room }
+    requires spare { group_bytes what due ≤ journal.old.spare }
     ensures entries { journal.new.entries ≡ journal.old.entries ++ group_made journal.old.entries by what due }
     ensures room { journal.new.room ≡ journal.old.room }
 {

@@ -107,7 +107,8 @@ impl Core {
         };
         let step = moves::move_of(self.alloc, past, by, event)?;
         let more = group::group_room(&step.what, &step.due)?;
-        self.journal.take_room(more)?;
+        let bytes = group::group_bytes(&step.what, &step.due)?;
+        self.journal.take_room(more, bytes)?;
         keeping::keep_group(
             self.alloc,
             &mut self.registers,
@@ -204,7 +205,7 @@ fn begun(alloc: Global, opening: &Opening) -> Result<(Journal, Registers, NoteBo
 {
     let mut journal = Journal::new(alloc);
     let runs = 1 + opening.again as usize;
-    journal.take_room(2 * (runs * opening.tasks.view().len()))?;
+    journal.take_room(2 * (runs * opening.tasks.view().len()), 0)?;
     let registers = opening.registers.copy()?;
     let notes = opening.notes.copy()?;
     Ok((journal, registers, notes))

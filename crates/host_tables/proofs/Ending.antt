@@ -2,7 +2,8 @@
 use Rattle.std.proofs.Common.{◌≡◌, ℕ, zero, suc, ◌+◌, ◌-◌, ◌<◌, ◌≤◌, List, [], ◌∷◌, ◌++◌, length, get_or, take, drop, refl, sym, ap, subst, ◌∙◌, arith, length-drop}
 use Rattle.std.specs.Prelude.{slice_get, slice_range, Some, None}
 use Rattle.std.proofs.lemmas.List.{take-append-le, drop-append-le, drop_at, take_all, drop-take, take-take, length-take-le}
-use Rattle.host_tables.specs.Lines.{lines_from, EndAt}
+use Rattle.std.proofs.lemmas.List.Sums.{sum_by-cons}
+use Rattle.host_tables.specs.Lines.{lines_from, total, EndAt}
 
 pub place-le-end : (at : ℕ) (ends : List ℕ) (len : ℕ) → EndAt at ends len → at ≤ len
 place-le-end at [] len h = omega arith
@@ -89,3 +90,23 @@ pub EndAt-bytes : (bytes : List ℕ) (at : ℕ) (ends : List ℕ) (n : ℕ) → 
 EndAt-bytes bytes at ends n h l =
     let long : length (take (get_or (at ∷ ends) n 0) bytes) ≡ get_or (at ∷ ends) n 0 = length-take-le _ bytes (end-le-length at ends (length bytes) n h l) in
     subst (λ (m : ℕ). EndAt at (take n ends) m) (sym long) (EndAt-take at ends (length bytes) n h l)
+
+-- ---- how many lines and bytes
+
+length-range : (bytes : List ℕ) (a b : ℕ) → a ≤ b → b ≤ length bytes → length (slice_range bytes a b) ≡ b - a
+length-range bytes a b low high = length-take-le (b - a) (drop a bytes) (omega (arith, length-drop a bytes))
+
+total-lines_from : (bytes : List ℕ) (at : ℕ) (ends : List ℕ) → EndAt at ends (length bytes) → total (lines_from bytes at ends) + at ≡ length bytes
+total-lines_from bytes at [] h = omega arith
+total-lines_from bytes at (e ∷ es) h =
+    let low : at ≤ e = h.0 in
+    let first = sum_by-cons (λ (line : List ℕ). length line) (slice_range bytes at e) (lines_from bytes e es) in
+    let long = length-range bytes at e low (place-le-end e es (length bytes) h.1) in
+    let later = total-lines_from bytes e es h.1 in
+    omega (arith, first, long, later)
+
+pub many_lines : (bytes ends : List ℕ) (lines : List (List ℕ)) → lines_from bytes 0 ends ≡ lines → length lines ≡ length ends
+many_lines bytes ends lines is = sym (ap length is) ∙ length-lines_from bytes 0 ends
+
+pub many_bytes : (bytes ends : List ℕ) (lines : List (List ℕ)) → EndAt 0 ends (length bytes) → lines_from bytes 0 ends ≡ lines → total lines ≡ length bytes
+many_bytes bytes ends lines h is = let all = total-lines_from bytes 0 ends h in let same = ap total is in omega (arith, all, same)

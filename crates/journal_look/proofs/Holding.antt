@@ -1,8 +1,7 @@
 -- Which tasks are held, after one more entry.
-use Rattle.std.proofs.Common.{◌≡◌, ◌≢◌, ◌∙◌, ℕ, ◌+◌, ◌<◌, ◌≤◌, subst, List, [], ◌∷◌, ◌++◌, refl, sym, ap, Bool, true, false, not, cond, Option, Some, None, arith, length, take, get_or}
+use Rattle.std.proofs.Common.{◌≡◌, ◌≢◌, ◌∙◌, ℕ, ◌+◌, ◌<◌, ◌≤◌, subst, List, [], ◌∷◌, ◌++◌, refl, sym, ap, Bool, true, false, not, cond, Option, Some, None, arith}
 use Rattle.std.specs.Prelude.{◌==◌, ◌||◌, find, fold, nat_le, option_map}
 use Rattle.std.specs.Option.{option_or}
-use Rattle.std.proofs.lemmas.List.{take_more}
 use Rattle.std.proofs.lemmas.List.Folds.{find-append}
 use Rattle.std.proofs.lemmas.Bool.Decides.{nat_tests}
 use Rattle.journal_model.specs.declared.holder.Holder.{Holder}
@@ -128,13 +127,6 @@ unclaimed_more past e top are = record {
         let no = differ task t other in
         rw no refl
     last w t high = refl
-
-pub unclaimed_next : (entries : List Entry) (n : ℕ) (e : Entry) (top more : ℕ) → n < length entries → e ≡ get_or entries n e → more ≡ top_after e.what top → AreUnclaimed (take n entries) top
-    → AreUnclaimed (take (n + 1) entries) more
-unclaimed_next entries n e top more long at is are =
-    let value : more ≡ top_after (get_or entries n e).what top = is ∙ ap (λ (d : Entry). top_after d.what top) at in
-    subst (λ (es : List Entry). AreUnclaimed es more) (sym (take_more entries n e long))
-    (subst (AreUnclaimed (take n entries ++ get_or entries n e ∷ [])) (sym value) (unclaimed_more (take n entries) (get_or entries n e) top are))
 
 -- ---- the start
 

@@ -1,8 +1,7 @@
 -- The table of claimed tasks, after one more entry.
-use Rattle.std.proofs.Common.{◌≡◌, ◌∙◌, ℕ, zero, suc, ◌+◌, ◌<◌, List, [], ◌∷◌, ◌++◌, refl, sym, ap, subst, Bool, true, false, not, cond, length, get_or, set, take, arith, get_or-set_other, get_or-set_same}
+use Rattle.std.proofs.Common.{◌≡◌, ◌∙◌, ℕ, zero, suc, ◌+◌, ◌<◌, List, [], ◌∷◌, ◌++◌, refl, sym, ap, append-nil, append_assoc, subst, Bool, true, false, not, cond, length, get_or, set, arith, get_or-set_other, get_or-set_same}
 use Rattle.std.specs.Prelude.{◌==◌, ◌||◌, ◌&&◌}
 use Rattle.std.proofs.lemmas.Bool.{eqb-true, eqb-false}
-use Rattle.std.proofs.lemmas.List.{take_more}
 use Rattle.journal_model.specs.declared.entry.What.{What}
 use Rattle.journal_model.specs.declared.entry.What.TheVariants.{Claim, Again}
 use Rattle.journal_model.specs.declared.entry.Entry.{Entry}
@@ -55,9 +54,24 @@ taken_more past e taken are = record {
       after e.what t taken (is_claimed past t) (omega arith) was ∙ sym (claimed_append past (e ∷ []) t);
 }
 
-pub taken_next : (entries : List Entry) (n : ℕ) (e : Entry) (old new : List Bool) → n < length entries → e ≡ get_or entries n e → new ≡ taken_after e.what old → AreTaken (take n entries) old
-    → AreTaken (take (n + 1) entries) new
-taken_next entries n e old new long at is are =
-    let value : new ≡ taken_after (get_or entries n e).what old = is ∙ ap (λ (d : Entry). taken_after d.what old) at in
-    subst (λ (es : List Entry). AreTaken es new) (sym (take_more entries n e long))
-    (subst (AreTaken (take n entries ++ get_or entries n e ∷ [])) (sym value) (taken_more (take n entries) (get_or entries n e) old are))
+-- the table after the entries before these last ones
+pub record AreTakenBefore (entries rest : List Entry) (taken : List Bool) : Type 0 where
+  pub past : List Entry
+  pub parts : past ++ rest ≡ entries
+  pub are : AreTaken past taken
+
+pub taken_first : (entries : List Entry) (taken : List Bool) → AreTaken [] taken → AreTakenBefore entries entries taken
+taken_first entries taken are = record { past = []; parts = refl; are = are }
+
+pub taken_next : (entries rest more : List Entry) (e : Entry) (old new : List Bool) → rest ≡ e ∷ more → new ≡ taken_after e.what old → AreTakenBefore entries rest old
+    → AreTakenBefore entries more new
+taken_next entries rest more e old new first is before = record {
+  past = before.past ++ e ∷ [];
+  parts = append_assoc before.past (e ∷ []) more ∙ ap (λ (es : List Entry). before.past ++ es) (sym first) ∙ before.parts;
+  are = subst (AreTaken (before.past ++ e ∷ [])) (sym is) (taken_more before.past e old before.are);
+}
+
+pub taken_last : (entries rest : List Entry) (taken : List Bool) → rest ≡ [] → AreTakenBefore entries rest taken → AreTaken entries taken
+taken_last entries rest taken none before =
+    let whole : before.past ≡ entries = sym (append-nil before.past) ∙ ap (λ (es : List Entry). before.past ++ es) (sym none) ∙ before.parts in
+    subst (λ (es : List Entry). AreTaken es taken) whole before.are

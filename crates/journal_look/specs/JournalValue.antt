@@ -1,7 +1,8 @@
 use Rattle.std.specs.Prelude.{ℕ, List}
 use Rattle.journal_model.specs.declared.entry.Entry.{Entry}
 
--- what contracts see of a journal: its entries, and for how many in all there is room
+-- what contracts see of a journal: its entries; for how many in all there is room; for how many more bytes of lines there is room
 pub record JournalValue : Type 0 where
   pub entries : List Entry
   pub room : ℕ
+  pub spare : ℕ

@@ -1,5 +1,4 @@
 pub mod JournalValue
-pub mod Shown
 pub mod Marks
 pub mod Tables
 pub mod Lives

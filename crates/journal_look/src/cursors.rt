@@ -1,12 +1,13 @@
 // How far the lines that were written to each child are counted.
-ghost use Rattle.std.specs.Prelude.{◌≡◌, ◌==◌, ◌≤◌, ◌+◌, ◌-◌, not, drop, filter, find, length, option_copied, option_map, slice_get, IfSome, List};
+ghost use Rattle.std.specs.Prelude.{◌≡◌, ◌==◌, ◌≤◌, ◌+◌, ◌-◌, not, filter, find, length, option_copied, option_map, slice_get, IfSome, List};
 ghost use Rattle.std.specs.List.{prefix_len};
 ghost use Rattle.journal_model.specs.declared.entry.Entry.{Entry};
 ghost use Rattle.journal_model.specs.Journal.{first_of, sends, unsent};
+ghost use Rattle.journal_records.specs.Shown.{entry_shown};
 ghost use Rattle.journal_look.specs.Cursors.{AreAt, IsAt};
 ghost use Rattle.journal_scan.specs.Looks.{is_written};
 
-use journal_model::{Entry, What};
+use journal_records::{Entries, EntryRef, WhatRef};
 use journal_scan::lines::{is_written, nth_written};
 use journal_scan::talks::hosts_line;
 
@@ -39,33 +40,25 @@ pub(super) fn cursor_of(cursors: &[Cursor], child: u32) -> Option<Cursor>
     }
 }
 
-fn rest(entries: &[Entry], from: usize) -> &[Entry]
-    requires { from ≤ length entries.now }
-    ensures { result.now ≡ drop from entries.entry.now }
-{
-    &entries[from..]
-}
-
 /// How many entries stand before the first that writes to the child.
-fn before_written(entries: &[Entry], child: u32) -> usize
+fn before_written(entries: &Entries<'_>, child: u32) -> usize
     ensures value { result ≡ prefix_len (λ e. not (is_written child e.what)) entries.now }
     ensures bound { result ≤ length entries.now }
 {
     entries
         .iter()
-        .take_while(|e| !is_written(&e.what, child))
+        .take_while(|e| !is_written(e.what, child))
         .count()
 }
 
 /// The cursor after the next entry that writes to its child, where there is one.
-fn advanced(entries: &[Entry], x: Cursor) -> Cursor
+fn advanced(entries: &Entries<'_>, x: Cursor) -> Cursor
     requires { IsAt entries.now x }
     ensures at { IsAt entries.now result }
     ensures child { result.child ≡ x.child }
 {
-    let rest = rest(entries, x.from);
-    let n = before_written(rest, x.child);
-    if n < rest.len() && x.passed < u64::MAX {
+    let n = before_written(&entries.behind(x.from), x.child);
+    if n < entries.len() - x.from && x.passed < u64::MAX {
         Cursor {
             child: x.child,
             from: x.from + (n + 1),
@@ -77,17 +70,27 @@ fn advanced(entries: &[Entry], x: Cursor) -> Cursor
 }
 
 /// The line for the child that comes after so many, from its cursor on.
-pub(super) fn nth_from(entries: &[Entry], x: Cursor, child: u32, n: u64) -> Option<&Entry>
+pub(super) fn nth_from<'a>(
+    entries: &Entries<'a>,
+    x: Cursor,
+    child: u32,
+    n: u64,
+) -> Option<EntryRef<'a>>
     requires child { x.child ≡ child }
     requires at { IsAt entries.now x }
     requires few { x.passed ≤ n }
-    ensures { option_copied result ≡ slice_get (filter (λ e. is_written child e.what) entries.now) n }
+    ensures { option_map entry_shown result ≡ slice_get (filter (λ e. is_written child e.what) entries.now) n }
 {
-    nth_written(rest(entries, x.from), child, (n - x.passed) as usize)
+    nth_written(&entries.behind(x.from), child, (n - x.passed) as usize)
 }
 
 /// The first of the lines for the child that were not written whole, where so many were, from its cursor on.
-pub(super) fn unsent_from(entries: &[Entry], x: Cursor, child: u32, sent: u64) -> Option<&[u8]>
+pub(super) fn unsent_from<'a>(
+    entries: &Entries<'a>,
+    x: Cursor,
+    child: u32,
+    sent: u64,
+) -> Option<&'a [u8]>
     requires child { x.child ≡ child }
     requires at { IsAt entries.now x }
     requires few { x.passed ≤ sent }
@@ -95,7 +98,7 @@ pub(super) fn unsent_from(entries: &[Entry], x: Cursor, child: u32, sent: u64) -
     ensures { option_copied result ≡ option_map (λ w. w.1) (first_of (unsent entries.now child)) }
 {
     match nth_from(entries, x, child, sent) {
-        Some(e) => Some(hosts_line(&e.what)),
+        Some(e) => Some(hosts_line(e.what)),
         None => None,
     }
 }
@@ -123,7 +126,7 @@ fn place_of(cursors: &[Cursor], c: u32) -> usize
 }
 
 /// Moves the child's cursor past its next line, where it has one.
-fn advance(cursors: &mut Vec<Cursor>, entries: &[Entry], child: u32)
+fn advance(cursors: &mut Vec<Cursor>, entries: &Entries<'_>, child: u32)
     requires { AreAt entries.now cursors.old.items }
     ensures { AreAt entries.now cursors.new.items }
 {
@@ -142,17 +145,17 @@ pub(super) enum Turn {
 }
 
 /// What the entry is to the cursors.
-pub(super) fn turn_of(what: &What) -> Turn {
+pub(super) fn turn_of(what: WhatRef<'_>) -> Turn {
     match what {
-        What::Start { child, .. } => Turn::Starts(*child),
-        What::Sent { child } => Turn::Sends(*child),
+        WhatRef::Start { child, .. } => Turn::Starts(child),
+        WhatRef::Sent { child } => Turn::Sends(child),
         _ => Turn::Other,
     }
 }
 
 /// Notes the last of the entries: a child that starts gets a cursor, and that of one whose line was written whole goes on. It takes
 /// no memory.
-pub(super) fn note(cursors: &mut Vec<Cursor>, entries: &[Entry], turn: Turn)
+pub(super) fn note(cursors: &mut Vec<Cursor>, entries: &Entries<'_>, turn: Turn)
     requires { AreAt entries.now cursors.old.items }
     ensures { AreAt entries.now cursors.new.items }
 {

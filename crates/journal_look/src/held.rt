@@ -1,9 +1,11 @@
 // Who holds which task, entry by entry.
 ghost use Rattle.std.specs.Prelude.{◌≡◌, ◌==◌, ◌++◌, ◌∷◌, [], List, find, option_copied, IfSome, IsTrue};
 ghost use Rattle.journal_model.specs.declared.entry.Entry.{Entry};
-ghost use Rattle.journal_look.specs.Holds.{AreHeld, AreHoldsKnown, AreUnclaimed, held_by, held_of, let_go, top_after};
+ghost use Rattle.journal_records.specs.Shown.{what_shown, entry_shown};
+ghost use Rattle.journal_look.specs.Holds.{AreHeld, AreHoldsKnown, held_by, held_of, let_go, top_after};
 
-use journal_model::{Entry, Holder, What};
+use journal_model::Holder;
+use journal_records::{EntryRef, WhatRef};
 use std::alloc::{AllocError, Global};
 
 /// A task that is held, and by whom.
@@ -53,20 +55,20 @@ fn put(held: &mut Vec<Held>, one: Held) -> bool
 }
 
 /// Notes the entry. False where the table can't be right after it.
-fn note_known(held: &mut Vec<Held>, entry: &Entry) -> bool
-    ensures { IsTrue result → held.new.items ≡ held_by entry.now.by entry.now.what held.old.items }
+fn note_known(held: &mut Vec<Held>, entry: EntryRef<'_>) -> bool
+    ensures { IsTrue result → held.new.items ≡ held_by entry.entry.by (what_shown entry.entry.what) held.old.items }
 {
-    match &entry.what {
-        What::Claim { task, child } => {
-            let_go(held, *task);
+    match entry.what {
+        WhatRef::Claim { task, child } => {
+            let_go(held, task);
             let by = Holder {
                 by: entry.by,
-                child: *child,
+                child,
             };
-            put(held, Held { task: *task, by })
+            put(held, Held { task, by })
         }
-        What::Answer { task, .. } | What::Again { task, .. } => {
-            let_go(held, *task);
+        WhatRef::Answer { task, .. } | WhatRef::Again { task, .. } => {
+            let_go(held, task);
             true
         }
         _ => true,
@@ -74,8 +76,8 @@ fn note_known(held: &mut Vec<Held>, entry: &Entry) -> bool
 }
 
 /// Notes an entry that comes next. It takes no memory.
-pub(super) fn note(holds: &mut Holds, entry: &Entry)
-    ensures { (past : List Entry) → AreHoldsKnown past holds.old → AreHoldsKnown (past ++ entry.now ∷ []) holds.new }
+pub(super) fn note(holds: &mut Holds, entry: EntryRef<'_>)
+    ensures { (past : List Entry) → AreHoldsKnown past holds.old → AreHoldsKnown (past ++ entry_shown entry.entry ∷ []) holds.new }
 {
     if !holds.known {
         return;
@@ -84,12 +86,12 @@ pub(super) fn note(holds: &mut Holds, entry: &Entry)
     holds.known = known;
 }
 
-/// No tasks are held, which is known if there are no entries. It takes no memory.
-pub(super) fn none(alloc: Global, entries: &[Entry]) -> Holds
-    ensures { AreHoldsKnown entries.now result }
+/// No tasks are held, as where there are no entries. It takes no memory.
+pub(super) fn none(alloc: Global) -> Holds
+    ensures { AreHoldsKnown [] result }
 {
     Holds {
-        known: entries.is_empty(),
+        known: true,
         each: Vec::new(alloc),
     }
 }
@@ -112,25 +114,14 @@ pub(super) fn look(holds: &Holds) -> Option<&[Held]>
 }
 
 /// A number from which on no task is claimed, after one more entry.
-pub(super) fn top_after(top: u64, what: &What) -> u64
-    ensures { result ≡ top_after what.now top }
+pub(super) fn top_after(top: u64, what: WhatRef<'_>) -> u64
+    ensures { result ≡ top_after (what_shown what.entry) top }
 {
     match what {
-        What::Claim { task, .. } => {
-            let task = u64::from(*task);
+        WhatRef::Claim { task, .. } => {
+            let task = u64::from(task);
             if top <= task { task + 1 } else { top }
         }
         _ => top,
     }
-}
-
-/// A number from which on no task is claimed.
-pub(super) fn top_of(entries: &[Entry]) -> u64
-    ensures { AreUnclaimed entries.now result }
-{
-    let mut top = 0;
-    for e in entries {
-        top = top_after(top, &e.what);
-    }
-    top
 }

@@ -5,11 +5,13 @@ ghost use Rattle.journal_model.specs.declared.entry.Entry.{Entry};
 ghost use Rattle.journal_model.specs.Journal.{asked_jobs, first_of, is_open, open_jobs, verdict_of};
 ghost use Rattle.journal_model.specs.Legality.{has_open_job};
 ghost use Rattle.journal_scan.specs.Looks.{NoneDue, asked_at};
+ghost use Rattle.journal_records.specs.Shown.{what_shown, entry_shown};
 ghost use Rattle.journal_look.specs.Lives.{AreKnown};
 ghost use Rattle.journal_look.specs.Opens.{AreJobsKnown, AreOpen, AreTold, IsTold, closed, is_this, jobs_child, keeps_numbers, opened};
 
 use crate::life::{self, Lives};
-use journal_model::{Entry, Verdict, What};
+use journal_model::Verdict;
+use journal_records::{EntryRef, WhatRef};
 use std::alloc::{AllocError, Global};
 
 /// An open job, the task that it was asked for, and the place of the entry that asks it.
@@ -37,22 +39,23 @@ fn has(jobs: &[Open], child: u32, job: u64) -> bool
 }
 
 /// Whether the entry keeps to the numbers of its child, which was asked so many jobs.
-fn keeps_numbers(asked: u64, what: &What) -> bool
-    ensures { result ≡ keeps_numbers asked what.now }
+fn keeps_numbers(asked: u64, what: WhatRef<'_>) -> bool
+    ensures { result ≡ keeps_numbers asked (what_shown what.entry) }
 {
     match what {
-        What::Ask { job, .. } => *job == asked,
-        What::Put { job, .. } | What::Verdict { job, .. } => *job < asked,
+        WhatRef::Ask { job, .. } => job == asked,
+        WhatRef::Put { job, .. } | WhatRef::Verdict { job, .. } => job < asked,
         _ => true,
     }
 }
 
 /// The child whose job the entry asks, writes or settles; 0 where it does none of these.
-fn jobs_child(what: &What) -> u32
-    ensures { result ≡ jobs_child what.now }
+fn jobs_child(what: WhatRef<'_>) -> u32
+    ensures { result ≡ jobs_child (what_shown what.entry) }
 {
     match what {
-        What::Ask { child, .. } | What::Put { child, .. } | What::Verdict { child, .. } => *child,
+        WhatRef::Ask { child, .. } | WhatRef::Put { child, .. } | WhatRef::Verdict { child, .. } =>
+            child,
         _ => 0,
     }
 }
@@ -80,29 +83,26 @@ fn put(jobs: &mut Vec<Open>, one: Open) -> bool
 }
 
 /// The table after one more entry, which stands at that place. False where there is no room for it.
-fn change(jobs: &mut Vec<Open>, at: usize, what: &What) -> bool
-    ensures { IsTrue result → jobs.new.items ≡ opened at what.now jobs.old.items }
+fn change(jobs: &mut Vec<Open>, at: usize, what: WhatRef<'_>) -> bool
+    ensures { IsTrue result → jobs.new.items ≡ opened at (what_shown what.entry) jobs.old.items }
 {
     match what {
-        What::Ask {
+        WhatRef::Ask {
             child,
             job,
             task,
             ..
         } => {
-            let (child, job, task) = (*child, *job, *task);
-            put(
-                jobs,
-                Open {
-                    child,
-                    job,
-                    task,
-                    at,
-                },
-            )
+            let one = Open {
+                child,
+                job,
+                task,
+                at,
+            };
+            put(jobs, one)
         }
-        What::Verdict { child, job, .. } => {
-            close(jobs, *child, *job);
+        WhatRef::Verdict { child, job, .. } => {
+            close(jobs, child, job);
             true
         }
         _ => true,
@@ -112,8 +112,9 @@ fn change(jobs: &mut Vec<Open>, at: usize, what: &What) -> bool
 /// Notes the entry, which stands at that place, and whose child was asked so many jobs. False where the table can't be right after
 /// it.
 #[tactic(auto, using(crate::proofs::Opening::open_more))]
-fn note_open(jobs: &mut Vec<Open>, asked: u64, at: usize, what: &What) -> bool
-    ensures { IsTrue result → (past : List Entry) → (e : Entry) → e.what ≡ what.now → length past ≡ at → asked ≡ length (asked_jobs past (jobs_child what.now)) → AreOpen past jobs.old.items → AreOpen (past ++ e ∷ []) jobs.new.items }
+fn note_open(jobs: &mut Vec<Open>, asked: u64, at: usize, what: WhatRef<'_>) -> bool
+    ensures { IsTrue result → (past : List Entry) → (e : Entry) → e.what ≡ what_shown what.entry → length past ≡ at
+        → asked ≡ length (asked_jobs past (jobs_child (what_shown what.entry))) → AreOpen past jobs.old.items → AreOpen (past ++ e ∷ []) jobs.new.items }
 {
     keeps_numbers(asked, what) && change(jobs, at, what)
 }
@@ -244,17 +245,16 @@ fn keep(told: &mut Vec<Told>, next: usize, one: Told)
 
 /// Notes how the entry settles an open job, if it does. The table is that of the entries before it.
 #[tactic(auto, using(crate::proofs::Opening::told_more, crate::proofs::Opening::told_now))]
-fn tell(told: &mut Vec<Told>, jobs: &[Open], next: usize, what: &What)
-    ensures { (past : List Entry) → (e : Entry) → e.what ≡ what.now → AreOpen past jobs.now → AreTold past told.old.items → AreTold (past ++ e ∷ []) told.new.items }
+fn tell(told: &mut Vec<Told>, jobs: &[Open], next: usize, what: WhatRef<'_>)
+    ensures { (past : List Entry) → (e : Entry) → e.what ≡ what_shown what.entry → AreOpen past jobs.now → AreTold past told.old.items → AreTold (past ++ e ∷ []) told.new.items }
 {
     match what {
-        What::Verdict {
+        WhatRef::Verdict {
             child,
             job,
             verdict,
         } => {
-            if has(jobs, *child, *job) {
-                let (child, job, verdict) = (*child, *job, *verdict);
+            if has(jobs, child, job) {
                 keep(
                     told,
                     next,
@@ -279,13 +279,13 @@ pub(super) struct Jobs {
     pub next: usize,
 }
 
-/// No jobs, known if there are no entries. It takes no memory.
+/// No jobs, as where there are no entries. It takes no memory.
 #[tactic(auto, using(crate::proofs::Opening::none_open))]
-pub(super) fn none(alloc: Global, entries: &[Entry]) -> Jobs
-    ensures { AreJobsKnown entries.now result }
+pub(super) fn none(alloc: Global) -> Jobs
+    ensures { AreJobsKnown [] result }
 {
     Jobs {
-        known: entries.is_empty(),
+        known: true,
         list: Vec::new(alloc),
         told: Vec::new(alloc),
         next: 0,
@@ -302,27 +302,27 @@ pub(super) fn take_room(jobs: &mut Jobs, more: usize) -> Result<(), AllocError>
 }
 
 /// Where the next settled job is told, after one more entry.
-fn next_place(next: usize, what: &What) -> usize {
+fn next_place(next: usize, what: WhatRef<'_>) -> usize {
     match what {
-        What::Verdict { .. } => (next % MOST_TOLD + 1) % MOST_TOLD,
+        WhatRef::Verdict { .. } => (next % MOST_TOLD + 1) % MOST_TOLD,
         _ => next,
     }
 }
 
 /// Notes an entry that comes next, at that place. The lives are those of the entries before it. It takes no memory.
-pub(super) fn note(jobs: &mut Jobs, lives: &Lives, at: usize, entry: &Entry)
-    ensures { (past : List Entry) → length past ≡ at → AreKnown past lives.now → AreJobsKnown past jobs.old → AreJobsKnown (past ++ entry.now ∷ []) jobs.new }
+pub(super) fn note(jobs: &mut Jobs, lives: &Lives, at: usize, entry: EntryRef<'_>)
+    ensures { (past : List Entry) → length past ≡ at → AreKnown past lives.now → AreJobsKnown past jobs.old → AreJobsKnown (past ++ entry_shown entry.entry ∷ []) jobs.new }
 {
     if !jobs.known {
         return;
     }
-    let Some(life) = life::known(lives, jobs_child(&entry.what)) else {
+    let Some(life) = life::known(lives, jobs_child(entry.what)) else {
         jobs.known = false;
         return;
     };
-    tell(&mut jobs.told, jobs.list.as_slice(), jobs.next, &entry.what);
-    jobs.next = next_place(jobs.next, &entry.what);
-    let known = note_open(&mut jobs.list, life.asked, at, &entry.what);
+    tell(&mut jobs.told, jobs.list.as_slice(), jobs.next, entry.what);
+    jobs.next = next_place(jobs.next, entry.what);
+    let known = note_open(&mut jobs.list, life.asked, at, entry.what);
     jobs.known = known;
 }
 

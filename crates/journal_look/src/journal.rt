@@ -1,42 +1,43 @@
 // The journal as a store: it lends its entries, and takes more within room that was taken before.
-ghost use Rattle.std.specs.Prelude.{◌≡◌, ◌+◌, ◌-◌, ◌<◌, ◌≤◌, ◌^◌, ◌++◌, ◌∷◌, [], slice_get, option_map, length, OnOk, OnErr, IsOk, IfSome, vec_len};
-ghost use Rattle.journal_look.specs.Shown.{entry_shown};
+ghost use Rattle.std.specs.Prelude.{◌≡◌, ◌+◌, ◌-◌, ◌<◌, ◌≤◌, ◌^◌, ◌++◌, ◌∷◌, [], slice_get, option_map, length, OnOk, OnErr, IsOk, IfSome};
+ghost use Rattle.journal_records.specs.Shown.{entry_shown};
 
 use crate::cursors::{self, Cursor};
-use crate::entry::EntryRef;
 use crate::held::{self, Held};
 use crate::jobs::{self, Open};
 use crate::life::{self, Life};
 use crate::tables::{self, Tables};
 use crate::taken;
 use ann_key::NoMemory;
-use journal_model::{Entry, Verdict, What};
+use journal_model::{Entry, Verdict};
+use journal_records::{Entries, EntryRef, Records, WhatRef};
+use journal_scan::lines::line_bytes;
 use std::alloc::Global;
 use std::marker::Model;
 
-/// A journal: contracts see its entries, and for how many in all it has room. It keeps tables beside them.
+/// A journal: contracts see its entries, for how many in all it has room, and for how many more bytes of lines. It keeps tables beside
+/// them.
 #[derive(Drop)]
 pub struct Journal {
-    entries: Vec<Entry>,
-    room: usize,
+    records: Records,
     tables: Tables,
 }
 
 impl Model for Journal {
-    ghost use Rattle.std.specs.Prelude.{◌≤◌, vec_capacity};
+    ghost use Rattle.std.specs.Prelude.{◌<◌, ◌≤◌, ◌^◌, length};
     ghost use Rattle.journal_look.specs.JournalValue.{JournalValue};
     ghost use Rattle.journal_look.specs.Tables.{AreTabled};
 
     ghost Value = { JournalValue };
 
-    ghost view = { λ j. record { entries = j.entries.items; room = j.room } };
+    ghost view = { λ j. record { entries = j.records.entries; room = j.records.room; spare = j.records.spare } };
 
-    ghost invariant = { λ j. (j.room ≤ vec_capacity j.entries) × AreTabled j.entries.items j.tables };
+    ghost invariant = { λ j. (length j.records.entries ≤ j.records.room) × (j.records.room < 2 ^ 64) × AreTabled j.records.entries j.tables };
 }
 
 impl Journal {
     ghost use Rattle.journal_model.specs.Limits.{most_line_bytes};
-    ghost use Rattle.journal_model.specs.Journal.{any, bytes_in, verdict_of};
+    ghost use Rattle.journal_model.specs.Journal.{any, bytes_in, line_bytes, verdict_of};
     ghost use Rattle.journal_model.specs.Legality.{count, is_claimed, is_start};
     ghost use Rattle.journal_scan.specs.Looks.{is_no_start};
     ghost use Rattle.journal_look.specs.Holds.{AreHeld};
@@ -47,26 +48,11 @@ impl Journal {
 
     /// A journal without entries, and without room. It takes no memory.
     pub fn new(alloc: Global) -> Journal
-        ensures { result ≡ record { entries = []; room = 0 } }
+        ensures { result ≡ record { entries = []; room = 0; spare = 0 } }
     {
         Journal {
-            entries: Vec::new(alloc),
-            room: 0,
-            tables: tables::tables_of(alloc, &[]),
-        }
-    }
-
-    /// The journal of these entries, without more room. It takes no memory.
-    pub fn from_entries(entries: Vec<Entry>) -> Journal
-        ensures { result ≡ record { entries = entries.items; room = vec_len entries } }
-    {
-        let alloc = *entries.allocator();
-        let room = entries.len();
-        let tables = tables::tables_of(alloc, entries.as_slice());
-        Journal {
-            entries,
-            room,
-            tables,
+            records: Records::new(alloc),
+            tables: tables::none(alloc),
         }
     }
 
@@ -74,62 +60,66 @@ impl Journal {
     pub fn len(&self) -> u64
         ensures { result ≡ length self.now.entries }
     {
-        self.entries.len() as u64
+        self.records.all().len() as u64
     }
 
     /// The entry at a place, counted from 0; None exactly past the end.
     pub fn entry(&self, at: u64) -> Option<EntryRef<'_>>
         ensures { option_map entry_shown result ≡ slice_get self.now.entries at }
     {
-        match self.entries.get(at as usize) {
-            Some(entry) => Some(EntryRef::of(entry)),
-            None => None,
-        }
+        self.records.all().get(at as usize)
     }
 
-    /// Takes room for so many more entries.
-    pub fn take_room(&mut self, more: usize) -> Result<(), NoMemory>
+    /// Takes room for so many more entries, and so that their lines may have so many bytes.
+    pub fn take_room(&mut self, more: usize, bytes: usize) -> Result<(), NoMemory>
         ensures entries { self.new.entries ≡ self.old.entries }
         ensures room { OnOk result (self.new.room ≡ self.old.room + more) }
         ensures small { self.new.room < 2 ^ 64 }
         ensures err { OnErr result (self.new.room ≡ self.old.room) }
-        ensures free { more ≡ 0 → IsOk result }
+        ensures spare { OnOk result (bytes ≤ self.new.spare) }
+        ensures wide { self.old.spare ≤ self.new.spare }
+        ensures free { more ≡ 0 → bytes ≡ 0 → IsOk result }
     {
-        let taken = self.room;
-        if more == 0 {
-            return Ok(());
+        if more > 0 {
+            tables::take_room(&mut self.tables, &self.records.all(), more)?;
         }
-        let Some(room) = taken.checked_add(more) else {
-            return Err(NoMemory);
-        };
-        let spare = room.saturating_sub(self.entries.len());
-        self.entries.reserve(spare)?;
-        tables::take_room(&mut self.tables, self.entries.as_slice(), spare)?;
-        self.room = room;
-        Ok(())
+        self.records.take_room(more, bytes)
     }
 
     /// Appends the entry, for which there is room. It takes no memory.
     pub fn push(&mut self, entry: Entry)
-        requires { length self.old.entries < self.old.room }
+        requires room { length self.old.entries < self.old.room }
+        requires spare { line_bytes entry.what ≤ self.old.spare }
         ensures entries { self.new.entries ≡ self.old.entries ++ entry ∷ [] }
         ensures room { self.new.room ≡ self.old.room }
+        ensures spare { self.new.spare ≡ self.old.spare - line_bytes entry.what }
     {
-        let turn = cursors::turn_of(&entry.what);
-        let claims = matches!(entry.what, What::Claim { .. });
-        tables::note(&mut self.tables, self.entries.len(), &entry);
-        match self.entries.push(entry) {
-            Ok(()) => {}
-            Err(_) => unreachable!(),
-        }
-        tables::raise(&mut self.tables, self.entries.as_slice(), turn, claims);
+        let at = self.records.all().len();
+        let shown = EntryRef::of(&entry);
+        let turn = cursors::turn_of(shown.what);
+        let claims = matches!(shown.what, WhatRef::Claim { .. });
+        tables::note(&mut self.tables, at, shown);
+        self.records.push(entry);
+        tables::raise(&mut self.tables, &self.records.all(), turn, claims);
+    }
+
+    /// Takes room for the entry, and appends it.
+    pub fn append(&mut self, entry: Entry) -> Result<(), NoMemory>
+        ensures ok { OnOk result (self.new.entries ≡ self.old.entries ++ entry ∷ []) }
+        ensures err { OnErr result (self.new.entries ≡ self.old.entries) }
+    {
+        let _ = &self.records;
+        let bytes = line_bytes(EntryRef::of(&entry).what);
+        self.take_room(1, bytes)?;
+        self.push(entry);
+        Ok(())
     }
 
     // All entries, in order.
-    pub(crate) fn entries(&self) -> &[Entry]
-        ensures { result.now ≡ self.now.entries }
+    pub(crate) fn entries(&self) -> Entries<'_>
+        ensures { result ≡ self.now.entries }
     {
-        self.entries.as_slice()
+        self.records.all()
     }
 
     // How many more bytes the lines may have.
@@ -143,7 +133,7 @@ impl Journal {
     pub(crate) fn life(&self, child: u32) -> Life
         ensures { result ≡ life_of self.now.entries child }
     {
-        life::look(&self.tables.lives, self.entries.as_slice(), child)
+        life::look(&self.tables.lives, &self.records.all(), child)
     }
 
     // How many children were started, where it is known without the entries.
@@ -172,7 +162,7 @@ impl Journal {
         ensures { result ≡ is_claimed self.now.entries task }
     {
         let taken = self.tables.taken.as_slice();
-        taken::is_taken(self.entries.as_slice(), taken, self.tables.top, task)
+        taken::is_taken(&self.records.all(), taken, self.tables.top, task)
     }
 
     // The open jobs, where they are known without the entries.

@@ -3,7 +3,6 @@
 
 mod cursors;
 mod dues;
-mod entry;
 mod held;
 mod jobs;
 mod journal;
@@ -14,8 +13,8 @@ mod tables;
 mod taken;
 mod tasks;
 
-pub use entry::{EntryRef, WhatRef};
 pub use journal::Journal;
+pub use journal_records::{EntryRef, WhatRef};
 pub use journal_scan::conflicts::{may_note, task_of};
 pub use journal_scan::lines::is_version_one;
 pub use looks::{

@@ -4,9 +4,11 @@ ghost use Rattle.journal_model.specs.Journal.{any};
 ghost use Rattle.journal_model.specs.Legality.{count, is_start};
 ghost use Rattle.journal_scan.specs.Looks.{is_no_start};
 ghost use Rattle.journal_model.specs.declared.entry.Entry.{Entry};
+ghost use Rattle.journal_records.specs.Shown.{what_shown, entry_shown};
 ghost use Rattle.journal_look.specs.Lives.{AreKnown, AreLived, AreLives, about, counted, kept, life_of, lived, unlived};
 
-use journal_model::{Entry, Verdict, What, Why};
+use journal_model::{Verdict, Why};
+use journal_records::{Entries, EntryRef, WhatRef};
 use journal_scan::{children, lines};
 use std::alloc::{AllocError, Global};
 
@@ -96,11 +98,11 @@ fn kept_verdict(new: Option<Verdict>, verdict: Option<Verdict>) -> Option<Verdic
 }
 
 /// The child's life after one more entry.
-fn lived(child: u32, what: &What, life: Life) -> Life
+fn lived(child: u32, what: WhatRef<'_>, life: Life) -> Life
     requires asked { life.asked < 2 ^ 64 - 1 }
     requires written { life.written < 2 ^ 64 - 1 }
     requires sent { life.sent < 2 ^ 64 - 1 }
-    ensures { result ≡ lived child what.now life }
+    ensures { result ≡ lived child (what_shown what.entry) life }
 {
     Life {
         started: either(children::starts(what, child), life.started),
@@ -119,19 +121,19 @@ fn lived(child: u32, what: &What, life: Life) -> Life
 }
 
 /// The child of which the entry says something.
-fn about(what: &What) -> Option<u32>
-    ensures { result ≡ about what.now }
+fn about(what: WhatRef<'_>) -> Option<u32>
+    ensures { result ≡ about (what_shown what.entry) }
 {
     match what {
-        What::Start { child, .. }
-        | What::Lead { child, .. }
-        | What::Ask { child, .. }
-        | What::Put { child, .. }
-        | What::Sent { child }
-        | What::Mute { child }
-        | What::Got { child, .. }
-        | What::End { child, .. }
-        | What::Verdict { child, .. } => Some(*child),
+        WhatRef::Start { child, .. }
+        | WhatRef::Lead { child, .. }
+        | WhatRef::Ask { child, .. }
+        | WhatRef::Put { child, .. }
+        | WhatRef::Sent { child }
+        | WhatRef::Mute { child }
+        | WhatRef::Got { child, .. }
+        | WhatRef::End { child, .. }
+        | WhatRef::Verdict { child, .. } => Some(child),
         _ => None,
     }
 }
@@ -156,9 +158,9 @@ fn put(lives: &mut Vec<Life>, life: Life) -> bool
 }
 
 /// Notes the entry, which is about that child. False where the table can't be right after it.
-fn note_child(lives: &mut Vec<Life>, child: u32, what: &What) -> bool
-    requires { about what.now ≡ Some child }
-    ensures { IsTrue result → (past : List Entry) → (e : Entry) → e.what ≡ what.now → AreLives past lives.old.items → AreLives (past ++ e ∷ []) lives.new.items }
+fn note_child(lives: &mut Vec<Life>, child: u32, what: WhatRef<'_>) -> bool
+    requires { about (what_shown what) ≡ Some child }
+    ensures { IsTrue result → (past : List Entry) → (e : Entry) → e.what ≡ what_shown what.entry → AreLives past lives.old.items → AreLives (past ++ e ∷ []) lives.new.items }
 {
     if child == 0 {
         return false;
@@ -176,8 +178,8 @@ fn note_child(lives: &mut Vec<Life>, child: u32, what: &What) -> bool
 }
 
 /// The same of any entry.
-fn note_each(lives: &mut Vec<Life>, what: &What) -> bool
-    ensures { IsTrue result → (past : List Entry) → (e : Entry) → e.what ≡ what.now → AreLives past lives.old.items → AreLives (past ++ e ∷ []) lives.new.items }
+fn note_each(lives: &mut Vec<Life>, what: WhatRef<'_>) -> bool
+    ensures { IsTrue result → (past : List Entry) → (e : Entry) → e.what ≡ what_shown what.entry → AreLives past lives.old.items → AreLives (past ++ e ∷ []) lives.new.items }
 {
     match about(what) {
         Some(child) => note_child(lives, child, what),
@@ -186,8 +188,8 @@ fn note_each(lives: &mut Vec<Life>, what: &What) -> bool
 }
 
 /// Notes the entry. False where the lives can't be right after it.
-fn note_known(lives: &mut Lives, what: &What) -> bool
-    ensures { IsTrue result → (past : List Entry) → (e : Entry) → e.what ≡ what.now → AreLived past lives.old → AreLived (past ++ e ∷ []) lives.new }
+fn note_known(lives: &mut Lives, what: WhatRef<'_>) -> bool
+    ensures { IsTrue result → (past : List Entry) → (e : Entry) → e.what ≡ what_shown what.entry → AreLived past lives.old → AreLived (past ++ e ∷ []) lives.new }
 {
     if lives.starts == u64::MAX {
         return false;
@@ -198,22 +200,22 @@ fn note_known(lives: &mut Lives, what: &What) -> bool
 }
 
 /// Notes an entry that comes next. It takes no memory.
-pub(super) fn note(lives: &mut Lives, entry: &Entry)
-    ensures { (past : List Entry) → AreKnown past lives.old → AreKnown (past ++ entry.now ∷ []) lives.new }
+pub(super) fn note(lives: &mut Lives, entry: EntryRef<'_>)
+    ensures { (past : List Entry) → AreKnown past lives.old → AreKnown (past ++ entry_shown entry.entry ∷ []) lives.new }
 {
     if !lives.known {
         return;
     }
-    let known = note_known(lives, &entry.what);
+    let known = note_known(lives, entry.what);
     lives.known = known;
 }
 
-/// No lives, known if there are no entries. It takes no memory.
-pub(super) fn none(alloc: Global, entries: &[Entry]) -> Lives
-    ensures { AreKnown entries.now result }
+/// No lives, as where there are no entries. It takes no memory.
+pub(super) fn none(alloc: Global) -> Lives
+    ensures { AreKnown [] result }
 {
     Lives {
-        known: entries.is_empty(),
+        known: true,
         each: Vec::new(alloc),
         starts: 0,
         no_start: false,
@@ -240,13 +242,16 @@ fn find(lives: &[Life], child: u32) -> Life
 }
 
 /// The child's life, found by going through the entries, which are so many.
-fn lived_through(entries: &[Entry], count: usize, child: u32) -> Life
+fn lived_through(entries: &Entries<'_>, count: usize, child: u32) -> Life
     requires { count ≡ length entries.now }
     ensures { result ≡ life_of entries.now child }
 {
     let mut life = unlived();
     for at in 0..count {
-        life = lived(child, &entries[at].what, life);
+        match entries.get(at) {
+            Some(entry) => life = lived(child, entry.what, life),
+            None => unreachable!(),
+        }
     }
     life
 }
@@ -262,7 +267,7 @@ pub(super) fn known(lives: &Lives, child: u32) -> Option<Life>
 }
 
 /// The child's life after these entries.
-pub(super) fn look(lives: &Lives, entries: &[Entry], child: u32) -> Life
+pub(super) fn look(lives: &Lives, entries: &Entries<'_>, child: u32) -> Life
     requires { AreKnown entries.now lives.now }
     ensures { result ≡ life_of entries.now child }
 {

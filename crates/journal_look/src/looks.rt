@@ -73,7 +73,7 @@ pub fn starts_so_far(journal: &Journal) -> usize
 {
     match journal.starts() {
         Some(starts) => starts as usize,
-        None => children::starts_so_far(journal.entries()),
+        None => children::starts_so_far(&journal.entries()),
     }
 }
 
@@ -83,7 +83,7 @@ pub fn has_no_start(journal: &Journal) -> bool
 {
     match journal.no_start() {
         Some(no_start) => no_start,
-        None => children::has_no_start(journal.entries()),
+        None => children::has_no_start(&journal.entries()),
     }
 }
 
@@ -102,7 +102,7 @@ pub fn is_asked(journal: &Journal, child: u32, job: u64) -> bool
 {
     match journal.jobs() {
         Some(list) => jobs::is_asked(list, next_job(journal, child), child, job),
-        None => children::is_asked(journal.entries(), child, job),
+        None => children::is_asked(&journal.entries(), child, job),
     }
 }
 
@@ -112,7 +112,7 @@ pub fn is_open(journal: &Journal, child: u32, job: u64) -> bool
 {
     match journal.jobs() {
         Some(list) => jobs::is_open(list, child, job),
-        None => children::is_open(journal.entries(), child, job),
+        None => children::is_open(&journal.entries(), child, job),
     }
 }
 
@@ -122,7 +122,7 @@ fn first_open(journal: &Journal, child: u32) -> Option<u64>
 {
     match journal.jobs() {
         Some(list) => jobs::first_open(list, child),
-        None => children::first_open(journal.entries(), child),
+        None => children::first_open(&journal.entries(), child),
     }
 }
 
@@ -142,7 +142,7 @@ pub fn verdict_of(journal: &Journal, child: u32, job: u64) -> Option<Verdict>
     }
     match journal.told(child, job) {
         Some(verdict) => Some(verdict),
-        None => children::verdict_of(journal.entries(), child, job),
+        None => children::verdict_of(&journal.entries(), child, job),
     }
 }
 
@@ -170,7 +170,7 @@ fn is_greeted(journal: &Journal, child: u32, job: u64) -> bool
     ensures { result ≡ is_greeted journal.now.entries child job }
 {
     match job {
-        0 => lines::said_version(journal.entries(), child),
+        0 => lines::said_version(&journal.entries(), child),
         1 => verdict_of(journal, child, 0).is_some(),
         _ => is_prepared(journal, child),
     }
@@ -204,7 +204,7 @@ pub fn due_at(journal: &Journal, n: u64, at: u64, child: u32, unsent: bool) -> O
     requires { n ≤ length journal.now.entries }
     ensures { result ≡ job_at journal.now.entries n at child unsent }
 {
-    dues::job_at(journal.entries(), n as usize, at as usize, child, unsent)
+    dues::job_at(&journal.entries(), n as usize, at as usize, child, unsent)
 }
 
 /// A place before which no end or mute of a child settles the job that an entry asks.
@@ -224,7 +224,7 @@ pub fn request_text(journal: &Journal, child: u32, job: u64) -> Option<&[u8]>
 {
     let place = place_of(journal, child, job);
     talks::request_text(
-        journal.entries(),
+        &journal.entries(),
         place,
         !is_offered(journal, child),
         child,
@@ -246,7 +246,7 @@ fn place_of(journal: &Journal, child: u32, job: u64) -> Option<usize>
 pub fn said_at(journal: &Journal, child: u32, job: u64, at: u64) -> Option<&[u8]>
     ensures { option_copied result ≡ remote_text (item_at journal.now.entries child job at) }
 {
-    talks::said_at(journal.entries(), child, job, at as usize)
+    talks::said_at(&journal.entries(), child, job, at as usize)
 }
 
 // ---- lines
@@ -255,14 +255,14 @@ pub fn said_at(journal: &Journal, child: u32, job: u64, at: u64) -> Option<&[u8]
 pub fn is_full(journal: &Journal) -> bool
     ensures { result ≡ is_full journal.now.entries }
 {
-    lines::is_full(journal.entries(), journal.left())
+    lines::is_full(&journal.entries(), journal.left())
 }
 
 /// The line got at a place, if one was.
 pub fn line_at(journal: &Journal, at: u64) -> &[u8]
     ensures { result.now ≡ line_at journal.now.entries at }
 {
-    lines::line_at(journal.entries(), at)
+    lines::line_at(&journal.entries(), at)
 }
 
 /// Whether the lines of the child have tags.
@@ -270,7 +270,7 @@ pub fn is_tagged(journal: &Journal, child: u32) -> bool
     ensures { result ≡ is_tagged journal.now.entries child }
 {
     let life = journal.life(child);
-    life.offered && lines::accepts_async(journal.entries(), life.first)
+    life.offered && lines::accepts_async(&journal.entries(), life.first)
 }
 
 /// The job that the child's line is for, and its text without the tag.
@@ -319,9 +319,9 @@ pub fn first_unsent(journal: &Journal, child: u32) -> Option<&[u8]>
     let life = journal.life(child);
     match journal.cursor(child) {
         Some(cursor) if cursor.passed <= life.sent => {
-            cursors::unsent_from(journal.entries(), cursor, child, life.sent)
+            cursors::unsent_from(&journal.entries(), cursor, child, life.sent)
         }
-        _ => lines::first_unsent(journal.entries(), child),
+        _ => lines::first_unsent(&journal.entries(), child),
     }
 }
 

@@ -1,6 +1,7 @@
 // What a journal keeps beside its entries, so that a question needn't go through them.
 ghost use Rattle.std.specs.Prelude.{◌≡◌, ◌++◌, ◌∷◌, [], List, length};
 ghost use Rattle.journal_model.specs.declared.entry.Entry.{Entry};
+ghost use Rattle.journal_records.specs.Shown.{entry_shown};
 ghost use Rattle.journal_look.specs.Tables.{AreTabled};
 
 use crate::cursors::{self, Cursor, Turn};
@@ -10,8 +11,8 @@ use crate::life::{self, Lives};
 use crate::marks::{claimed_after, claimed_from};
 use crate::taken;
 use ann_key::NoMemory;
-use journal_model::Entry;
-use journal_scan::lines::{left_after, left_of};
+use journal_records::{Entries, EntryRef};
+use journal_scan::lines::{MOST_LINE_BYTES, left_after};
 use std::alloc::Global;
 
 /// How many more bytes the lines may have, what is known of the children, of the held tasks and of the jobs, how far the lines to each
@@ -28,38 +29,42 @@ pub(super) struct Tables {
     pub claimed: u32,
 }
 
-/// The tables of these entries.
+/// The tables of no entries. It takes no memory.
 #[tactic(auto, using(crate::proofs::Marking::none_claimed, crate::proofs::Taking::none_noted))]
-pub(super) fn tables_of(alloc: Global, entries: &[Entry]) -> Tables
-    ensures { AreTabled entries.now result }
+pub(super) fn none(alloc: Global) -> Tables
+    ensures { AreTabled [] result }
 {
     Tables {
-        left: left_of(entries),
-        lives: life::none(alloc, entries),
-        holds: held::none(alloc, entries),
-        jobs: jobs::none(alloc, entries),
+        left: MOST_LINE_BYTES,
+        lives: life::none(alloc),
+        holds: held::none(alloc),
+        jobs: jobs::none(alloc),
         cursors: Vec::new(alloc),
         taken: Vec::new(alloc),
-        top: held::top_of(entries),
+        top: 0,
         claimed: 1,
     }
 }
 
 /// Notes an entry that comes next, at that place. It takes no memory.
-pub(super) fn note(tables: &mut Tables, at: usize, entry: &Entry)
-    ensures { (past : List Entry) → length past ≡ at → AreTabled past tables.old → AreTabled (past ++ entry.now ∷ []) tables.new }
+pub(super) fn note(tables: &mut Tables, at: usize, entry: EntryRef<'_>)
+    ensures { (past : List Entry) → length past ≡ at → AreTabled past tables.old → AreTabled (past ++ entry_shown entry.entry ∷ []) tables.new }
 {
-    tables.left = left_after(tables.left, &entry.what);
+    tables.left = left_after(tables.left, entry.what);
     jobs::note(&mut tables.jobs, &tables.lives, at, entry);
     life::note(&mut tables.lives, entry);
     held::note(&mut tables.holds, entry);
-    taken::note(&mut tables.taken, &entry.what);
-    tables.top = held::top_after(tables.top, &entry.what);
+    taken::note(&mut tables.taken, entry.what);
+    tables.top = held::top_after(tables.top, entry.what);
     tables.claimed = claimed_after(tables.claimed, entry);
 }
 
 /// Takes room for so many more entries after these.
-pub(super) fn take_room(tables: &mut Tables, entries: &[Entry], more: usize) -> Result<(), NoMemory>
+pub(super) fn take_room(
+    tables: &mut Tables,
+    entries: &Entries<'_>,
+    more: usize,
+) -> Result<(), NoMemory>
     ensures { AreTabled entries.now tables.old → AreTabled entries.now tables.new }
 {
     life::take_room(&mut tables.lives, more)?;
@@ -71,7 +76,7 @@ pub(super) fn take_room(tables: &mut Tables, entries: &[Entry], more: usize) -> 
 }
 
 /// Raises the mark over the entries and moves the cursors, by the last one.
-pub(super) fn raise(tables: &mut Tables, entries: &[Entry], turn: Turn, claims: bool)
+pub(super) fn raise(tables: &mut Tables, entries: &Entries<'_>, turn: Turn, claims: bool)
     requires { AreTabled entries.now tables.old }
     ensures { AreTabled entries.now tables.new }
 {

@@ -3,10 +3,11 @@ ghost use Rattle.std.specs.Prelude.{◌≡◌, [], true, List, IfOk, IfSome};
 ghost use Rattle.std.specs.List.{slice_set};
 ghost use Rattle.journal_model.specs.declared.entry.Entry.{Entry};
 ghost use Rattle.journal_model.specs.Legality.{is_claimed};
+ghost use Rattle.journal_records.specs.Shown.{what_shown};
 ghost use Rattle.journal_look.specs.Holds.{AreUnclaimed};
 ghost use Rattle.journal_look.specs.Taken.{AreTaken, taken_after};
 
-use journal_model::{Entry, What};
+use journal_records::{Entries, WhatRef};
 use journal_scan::claims;
 use std::alloc::{AllocError, Global};
 
@@ -23,12 +24,12 @@ fn mark(taken: &mut Vec<bool>, task: u32, claimed: bool)
 }
 
 /// Notes an entry that comes next. It takes no memory.
-pub(super) fn note(taken: &mut Vec<bool>, what: &What)
-    ensures { taken.new.items ≡ taken_after what.now taken.old.items }
+pub(super) fn note(taken: &mut Vec<bool>, what: WhatRef<'_>)
+    ensures { taken.new.items ≡ taken_after (what_shown what.entry) taken.old.items }
 {
     match what {
-        What::Claim { task, .. } => mark(taken, *task, true),
-        What::Again { task, .. } => mark(taken, *task, false),
+        WhatRef::Claim { task, .. } => mark(taken, task, true),
+        WhatRef::Again { task, .. } => mark(taken, task, false),
         _ => {}
     }
 }
@@ -43,18 +44,18 @@ fn unmarked(alloc: Global) -> Result<Vec<bool>, AllocError>
 }
 
 /// The table after these entries.
-fn table_of(alloc: Global, entries: &[Entry]) -> Result<Vec<bool>, AllocError>
+fn table_of(alloc: Global, entries: &Entries<'_>) -> Result<Vec<bool>, AllocError>
     ensures { IfOk result (λ taken. AreTaken entries.now taken.items) }
 {
     let mut taken = unmarked(alloc)?;
-    for e in entries {
-        note(&mut taken, &e.what);
+    for e in entries.iter() {
+        note(&mut taken, e.what);
     }
     Ok(taken)
 }
 
 /// Makes the table of these entries, where there is none.
-pub(super) fn take_room(taken: &mut Vec<bool>, entries: &[Entry]) -> Result<(), AllocError>
+pub(super) fn take_room(taken: &mut Vec<bool>, entries: &Entries<'_>) -> Result<(), AllocError>
     ensures { AreTaken entries.now taken.old.items → AreTaken entries.now taken.new.items }
 {
     if !taken.is_empty() {
@@ -76,7 +77,7 @@ fn look(taken: &[bool], task: u32) -> Option<bool>
 }
 
 /// Whether the task is claimed. From the top on none is. Only where no table was made does it go through the entries.
-pub(super) fn is_taken(entries: &[Entry], taken: &[bool], top: u64, task: u32) -> bool
+pub(super) fn is_taken(entries: &Entries<'_>, taken: &[bool], top: u64, task: u32) -> bool
     requires taken { AreTaken entries.now taken.now }
     requires top { AreUnclaimed entries.now top }
     ensures { result ≡ is_claimed entries.now task }

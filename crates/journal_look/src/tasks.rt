@@ -10,7 +10,8 @@ ghost use Rattle.journal_look.specs.Marks.{AreClaimed};
 use crate::held::{self, Held};
 use crate::jobs;
 use crate::journal::Journal;
-use journal_model::{Entry, Holder, Opening};
+use journal_model::{Holder, Opening};
+use journal_records::Entries;
 use journal_scan::claims::{
     claimed_for, has_busy, has_open, holder, is_busy, is_held_by, is_held_for,
 };
@@ -26,14 +27,14 @@ pub(super) fn task_count(opening: &Opening) -> u32
 
 /// Whether the other task is busy and in the task's way. Few are in the way of any.
 #[tactic(auto, using(crate::proofs::Marking::either_order))]
-fn is_busy_in_way(opening: &Opening, entries: &[Entry], task: u32, other: u32) -> bool
+fn is_busy_in_way(opening: &Opening, entries: &Entries<'_>, task: u32, other: u32) -> bool
     ensures { result ≡ (is_busy entries.now other && both_conflict (task_of opening.now other) (task_of opening.now task)) }
 {
     both_conflict(opening, other, task) && is_busy(entries, other)
 }
 
 /// Whether a busy task is in the task's way.
-fn is_in_way(opening: &Opening, entries: &[Entry], task: u32) -> bool
+fn is_in_way(opening: &Opening, entries: &Entries<'_>, task: u32) -> bool
     requires { length opening.now.tasks ≤ most_tasks }
     ensures { result ≡ list_any (λ u. is_busy entries.now u && both_conflict (task_of opening.now u) (task_of opening.now task)) (numbers_of opening.now) }
 {
@@ -54,7 +55,7 @@ fn has_in_way(opening: &Opening, journal: &Journal, task: u32) -> bool
 {
     match journal.held() {
         Some(held) => is_held_in_way(opening, held, task),
-        None => is_in_way(opening, journal.entries(), task),
+        None => is_in_way(opening, &journal.entries(), task),
     }
 }
 
@@ -103,7 +104,7 @@ fn holder_of(journal: &Journal, task: u32) -> Option<Holder>
 {
     match journal.held() {
         Some(held) => held::holder(held, task),
-        None => holder(journal.entries(), task),
+        None => holder(&journal.entries(), task),
     }
 }
 
@@ -119,7 +120,7 @@ pub(super) fn has_open_job(journal: &Journal, task: u32) -> bool
 {
     match journal.jobs() {
         Some(list) => jobs::has_open_job(list, task),
-        None => has_open(journal.entries(), task),
+        None => has_open(&journal.entries(), task),
     }
 }
 
@@ -158,7 +159,7 @@ fn first_work(journal: &Journal, by: u32, child: u32) -> Option<u32>
     journal
         .entries()
         .iter()
-        .filter_map(|e| claimed_for(&e.what, child))
+        .filter_map(|e| claimed_for(e.what, child))
         .find(|t| may_work(journal, by, *t, child))
 }
 
@@ -188,7 +189,7 @@ pub(super) fn has_busy_task(journal: &Journal, child: u32) -> bool
 {
     match journal.held() {
         Some(held) => has_held_task(held, child),
-        None => has_busy(journal.entries(), child),
+        None => has_busy(&journal.entries(), child),
     }
 }
 

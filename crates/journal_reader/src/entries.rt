@@ -20,7 +20,7 @@ impl Reader {
         requires { self.old.place ≡ Place.Entries }
         ensures { Took self.old line.now self.new result }
     {
-        if is_end(self.alloc, line, self.entries.len())? {
+        if is_end(self.alloc, line, self.journal.len())? {
             self.place = Place::Over;
             return Ok(true);
         }
@@ -34,7 +34,7 @@ impl Reader {
     {
         match entry_of(self.alloc, line, self.early)? {
             Some(entry) => {
-                self.entries.push(entry)?;
+                self.journal.append(entry)?;
                 Ok(true)
             }
             None => Ok(false),
@@ -43,7 +43,7 @@ impl Reader {
 }
 
 // Whether the line is the last one after so many entries.
-fn is_end(alloc: Global, line: &[u8], count: usize) -> Result<bool, NoMemory>
+fn is_end(alloc: Global, line: &[u8], count: u64) -> Result<bool, NoMemory>
     ensures { IfOk result (λ b. b ≡ bytes_eq (end_line count) line.now) }
 {
     let end = format!(in alloc; "end {count}")?;

@@ -62,7 +62,7 @@ impl Reader {
             stamp: self.stamp,
             again: self.again,
         };
-        Ok((opening, Journal::from_entries(self.entries)))
+        Ok((opening, self.journal))
     }
 }
 

@@ -2,7 +2,7 @@
 use crate::error::JournalError;
 use crate::place::Place;
 use ann_key::{Bytes, NoMemory, Text};
-use journal_model::Entry;
+use journal_look::Journal;
 use std::alloc::Global;
 use std::marker::Model;
 use task_text::Task;
@@ -21,7 +21,7 @@ pub struct Reader {
     pub(crate) again: u32,
     pub(crate) tasks: Vec<Task>,
     pub(crate) kept: Vec<Bytes>,
-    pub(crate) entries: Vec<Entry>,
+    pub(crate) journal: Journal,
 }
 
 impl Model for Reader {
@@ -32,7 +32,7 @@ impl Model for Reader {
 
     ghost Value = { Reading };
 
-    ghost view = { λ r. record { place = r.place; taken = r.taken; told = record { early = r.early; uuid = r.uuid; name = r.name; gitdir = r.gitdir; stamp = r.stamp; again = r.again; tasks = r.tasks.items; kept = r.kept.items; entries = r.entries.items } } };
+    ghost view = { λ r. record { place = r.place; taken = r.taken; told = record { early = r.early; uuid = r.uuid; name = r.name; gitdir = r.gitdir; stamp = r.stamp; again = r.again; tasks = r.tasks.items; kept = r.kept.items; entries = r.journal.entries } } };
 
     ghost invariant = { λ r. IsTrue (list_all is_kept r.kept.items) };
 }
@@ -59,7 +59,7 @@ impl Reader {
             again: 0,
             tasks: Vec::new(alloc),
             kept: Vec::new(alloc),
-            entries: Vec::new(alloc),
+            journal: Journal::new(alloc),
         }
     }
 

@@ -1,12 +1,13 @@
 -- The first of a list that is found without the list.
-use Rattle.std.proofs.Common.{sym, subst, ◌≡◌, ℕ, List, [], ◌∷◌, refl, Bool, true, false, Option, Some, None, cond}
-use Rattle.std.specs.Prelude.{find, IfSome, filter, option_and_then, is_some, ◌==◌, ◌&&◌, ◌||◌}
+use Rattle.std.proofs.Common.{sym, ap, subst, ◌≡◌, ℕ, List, [], ◌∷◌, refl, Bool, true, false, Option, Some, None, cond}
+use Rattle.std.specs.Prelude.{find, IfSome, filter, slice_get, option_and_then, is_some, ◌==◌, ◌&&◌, ◌||◌}
 use Rattle.std.specs.List.{cons_option}
 use Rattle.journal_model.specs.declared.entry.What.{What}
 use Rattle.journal_model.specs.declared.entry.What.TheVariants.{Claim, Start, NoStart, Lead, Ask, Put, Sent, Mute, Got, End, Verdict as Settled, Lost, Answer as Answered, Note as Noted, Again}
 use Rattle.journal_model.specs.declared.entry.Entry.{Entry}
 use Rattle.journal_model.specs.declared.verdict.Verdict.{Verdict}
 use Rattle.journal_model.specs.Journal.{first_of, each_of, is_settled, settles, verdict_in, verdict_of}
+use Rattle.journal_model.specs.Parts.{ends_at}
 
 pub first_filter : {X : Type 0} (p : X → Bool) (xs : List X) → first_of (filter p xs) ≡ find p xs
 first_filter p [] = refl
@@ -69,3 +70,12 @@ some_verdict (e ∷ past) c j = go (verdict_in c j e.what) (settles c j e.what) 
 pub some_of : {X : Type 0} (P : X → Type 0) (o : Option X) (x : X) → IfSome o P → o ≡ Some x → P x
 some_of P None x h e = absurd cc
 some_of P (Some y) x h e = let is : y ≡ x = cc in subst P is h
+
+-- whether the first entry is an end, by that entry alone
+pub first_ends : (c at : ℕ) (es : List Entry) (e : Entry) → Some e ≡ slice_get es 0 → ends_at c at (e ∷ []) ≡ ends_at c at es
+first_ends c at [] e h = absurd cc
+first_ends c at (d ∷ es) e h = let same : e ≡ d = cc in ap (λ (x : Entry). ends_at c at (x ∷ [])) same
+
+pub none_ends : (c at : ℕ) (es : List Entry) → None ≡ slice_get es 0 → false ≡ ends_at c at es
+none_ends c at [] h = refl
+none_ends c at (d ∷ es) h = absurd cc

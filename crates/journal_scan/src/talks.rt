@@ -1,55 +1,51 @@
 // What the journal says of a job's part.
-ghost use Rattle.std.specs.Prelude.{◌≡◌, ◌≤◌, true, false, length, IfSome, option_copied, slice_get};
+ghost use Rattle.std.specs.Prelude.{ℕ, ◌≡◌, ◌≤◌, [], ◌∷◌, true, false, length, IfSome, option_copied};
 ghost use Rattle.journal_model.specs.Journal.{addressed, any, offers};
 ghost use Rattle.journal_model.specs.Parts.{item_of, item_at, ends_at, is_place};
+ghost use Rattle.journal_model.specs.declared.entry.What.TheVariants.{Got};
+ghost use Rattle.journal_records.specs.Shown.{what_shown};
 ghost use Rattle.journal_scan.specs.Looks.{is_hosts, hosts_line, asked_at, request_text, remote_text};
 
 use crate::{children, lines};
-use journal_model::{Entry, What, Why};
+use journal_model::Why;
+use journal_records::{Entries, WhatRef};
 
 /// Whether the entry is the job's request, or a reply in it.
-fn is_hosts(what: &What, c: u32, j: u64) -> bool
-    ensures { result ≡ is_hosts c j what.now }
+fn is_hosts(what: WhatRef<'_>, c: u32, j: u64) -> bool
+    ensures { result ≡ is_hosts c j (what_shown what.entry) }
 {
     match what {
-        What::Ask { child, job, .. } => *child == c && *job == j,
-        What::Put { child, job, .. } => *child == c && *job == j,
+        WhatRef::Ask { child, job, .. } => child == c && job == j,
+        WhatRef::Put { child, job, .. } => child == c && job == j,
         _ => false,
     }
 }
 
 /// The line that the entry writes.
-pub fn hosts_line(what: &What) -> &[u8]
-    ensures { result.now ≡ hosts_line what.now }
+pub fn hosts_line<'a>(what: WhatRef<'a>) -> &'a [u8]
+    ensures { result.now ≡ hosts_line (what_shown what.entry) }
 {
     match what {
-        What::Lead { line, .. } => line.view(),
-        What::Ask { line, .. } => line.view(),
-        What::Put { line, .. } => line.view(),
+        WhatRef::Lead { line, .. } => line,
+        WhatRef::Ask { line, .. } => line,
+        WhatRef::Put { line, .. } => line,
         _ => &[],
     }
 }
 
 /// How many entries stand before the job's request.
-fn before_job(entries: &[Entry], child: u32, job: u64) -> usize
+fn before_job(entries: &Entries<'_>, child: u32, job: u64) -> usize
     ensures value { result ≡ asked_at entries.now child job }
     ensures bound { result ≤ length entries.now }
 {
     entries
         .iter()
-        .take_while(|e| !is_hosts(&e.what, child, job))
+        .take_while(|e| !is_hosts(e.what, child, job))
         .count()
 }
 
-/// The entry at a place.
-pub fn entry_at(entries: &[Entry], at: usize) -> Option<&Entry>
-    ensures { option_copied result ≡ slice_get entries.now at }
-{
-    entries.get(at)
-}
-
-/// The same, where it may be known already.
-fn place(entries: &[Entry], known: Option<usize>, child: u32, job: u64) -> usize
+/// The same, which may be known already.
+fn place(entries: &Entries<'_>, known: Option<usize>, child: u32, job: u64) -> usize
     requires { IfSome known (λ at. at ≡ asked_at entries.now child job) }
     ensures value { result ≡ asked_at entries.now child job }
     ensures bound { result ≤ length entries.now }
@@ -61,7 +57,7 @@ fn place(entries: &[Entry], known: Option<usize>, child: u32, job: u64) -> usize
 }
 
 /// The line's text without the tag, for a child that takes none or among those entries.
-fn text_of<'a>(past: &[Entry], plain: bool, child: u32, line: &'a [u8]) -> &'a [u8]
+fn text_of<'a>(past: &Entries<'_>, plain: bool, child: u32, line: &'a [u8]) -> &'a [u8]
     requires { plain ≡ true → any (offers child) past.now ≡ false }
     ensures { result.now ≡ (addressed past.now child line.entry.now).1 }
 {
@@ -73,20 +69,20 @@ fn text_of<'a>(past: &[Entry], plain: bool, child: u32, line: &'a [u8]) -> &'a [
 }
 
 /// The text of the job's request. Its place may be known, and that the child was offered no tags.
-pub fn request_text(
-    entries: &[Entry],
+pub fn request_text<'a>(
+    entries: &Entries<'a>,
     known: Option<usize>,
     plain: bool,
     child: u32,
     job: u64,
-) -> Option<&[u8]>
+) -> Option<&'a [u8]>
     requires known { IfSome known (λ at. at ≡ asked_at entries.now child job) }
     requires plain { plain ≡ true → any (offers child) entries.now ≡ false }
     ensures { option_copied result ≡ request_text entries.now child job }
 {
     let at = place(entries, known, child, job);
-    match entry_at(entries, at) {
-        Some(e) => Some(text_of(&entries[..at], plain, child, hosts_line(&e.what))),
+    match entries.get(at) {
+        Some(e) => Some(text_of(&entries.front(at), plain, child, hosts_line(e.what))),
         None => None,
     }
 }
@@ -101,28 +97,35 @@ fn is_place(at: u64, why: Why) -> bool
     }
 }
 
-/// Whether the first of the entries is an end of the child for its line at that place.
-fn ends_at(rest: &[Entry], c: u32, at: u64) -> bool
+/// Whether the entry is an end of the child for its line at that place.
+fn is_end_at(what: WhatRef<'_>, c: u32, at: u64) -> bool
+    ensures { (by : ℕ) → result ≡ ends_at c at (record { by = by; what = what_shown what.entry } ∷ []) }
+{
+    match what {
+        WhatRef::End { child, why } => child == c && is_place(at, why),
+        _ => false,
+    }
+}
+
+/// The same of the first of the entries.
+fn ends_at(rest: &Entries<'_>, c: u32, at: u64) -> bool
     ensures { result ≡ ends_at c at rest.now }
 {
-    match rest {
-        [first, ..] => match &first.what {
-            What::End { child, why } => *child == c && is_place(at, *why),
-            _ => false,
-        },
-        [] => false,
+    match rest.get(0) {
+        Some(first) => is_end_at(first.what, c, at),
+        None => false,
     }
 }
 
 /// The text of a line that the child said in the job, between those entries.
 fn said_line<'a>(
-    past: &[Entry],
-    rest: &[Entry],
+    past: &Entries<'_>,
+    rest: &Entries<'_>,
     child: u32,
     job: u64,
     line: &'a [u8],
 ) -> Option<&'a [u8]>
-    ensures { option_copied result ≡ remote_text (item_of child job past.now (What.Got child line.entry.now) rest.now) }
+    ensures { option_copied result ≡ remote_text (item_of child job past.now (Got child line.entry.now) rest.now) }
 {
     let (to, text) = lines::addressed(past, child, line);
     if to == Some(job)
@@ -136,21 +139,33 @@ fn said_line<'a>(
 }
 
 /// The text of the entry's line, where the remote said it in the job.
-fn said_in<'a>(past: &[Entry], rest: &[Entry], c: u32, job: u64, what: &'a What) -> Option<&'a [u8]>
-    ensures { option_copied result ≡ remote_text (item_of c job past.now what.entry.now rest.now) }
+fn said_in<'a>(
+    past: &Entries<'_>,
+    rest: &Entries<'_>,
+    c: u32,
+    job: u64,
+    what: WhatRef<'a>,
+) -> Option<&'a [u8]>
+    ensures { option_copied result ≡ remote_text (item_of c job past.now (what_shown what.entry) rest.now) }
 {
     match what {
-        What::Got { child, line } if *child == c => said_line(past, rest, c, job, line.view()),
+        WhatRef::Got { child, line } if child == c => said_line(past, rest, c, job, line),
         _ => None,
     }
 }
 
 /// The text of the line at that place, its tag taken off, where the child said it in the job.
-pub fn said_at(entries: &[Entry], child: u32, job: u64, at: usize) -> Option<&[u8]>
+pub fn said_at<'a>(entries: &Entries<'a>, child: u32, job: u64, at: usize) -> Option<&'a [u8]>
     ensures { option_copied result ≡ remote_text (item_at entries.now child job at) }
 {
-    match entry_at(entries, at) {
-        Some(e) => said_in(&entries[..at], &entries[at + 1..], child, job, &e.what),
+    match entries.get(at) {
+        Some(e) => said_in(
+            &entries.front(at),
+            &entries.behind(at).behind(1),
+            child,
+            job,
+            e.what,
+        ),
         None => None,
     }
 }

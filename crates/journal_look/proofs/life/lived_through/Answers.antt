@@ -1,7 +1,7 @@
-use Rattle.std.proofs.Common.{◌∙◌, ap, sym, arith}
+use Rattle.std.proofs.Common.{sym, arith}
+use Rattle.std.proofs.lemmas.Option.{get_or_from_slice_get}
 use Rattle.journal_model.specs.declared.entry.Entry.{Entry}
-use Rattle.journal_look.specs.Lives.{lived}
-use Rattle.journal_look.specs.declared.life.Life.{Life}
+use Rattle.journal_records.specs.Shown.{entry_shown}
 use Rattle.journal_look.proofs.Living.{AreFew, few_through, life_next}
 use Rattle.journal_look.proofs.life.lived_through.Goals as goal
 
@@ -22,5 +22,6 @@ lived-life-requires-clause-sent c =
 
 pub loop-at-preserved : goal.loop-at-preserved
 loop-at-preserved c =
-    life_next c.args.entries.now c.loop-at.at c.args.child c.index-entries-at.result c.loop-at.life c.lived-life.result (omega (arith, c.requires)) c.index-entries-at.is
-    (c.lived-life.ensures ∙ ap (λ (d : Entry). lived c.args.child d.what c.loop-at.life) (sym c.index-entries-at.is)) c.loop-at.invariant
+    let e : Entry = entry_shown c.in-Some.entry in
+    life_next c.args.entries.now c.loop-at.at c.args.child e c.loop-at.life c.lived-life.result (omega (arith, c.requires))
+    (sym (get_or_from_slice_get c.args.entries.now c.loop-at.at e e (sym c.in-Some.ensures))) c.lived-life.ensures c.loop-at.invariant

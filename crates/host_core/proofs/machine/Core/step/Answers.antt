@@ -15,17 +15,21 @@ use Rattle.host_core.specs.Steps.{step_of, told, unless_shut, is_free}
 use Rattle.host_core.specs.Books.{notes_after}
 use Rattle.host_core.specs.CoreValue.{CoreValue}
 use Rattle.host_core.specs.Mays.{IsMadeBy}
-use Rattle.host_core.specs.Moves.{group_made, group_room}
+use Rattle.host_core.specs.Moves.{group_bytes, group_made, group_room}
 use Rattle.host_core.specs.Runs.{AreRuns}
 use Rattle.host_core.specs.Settings.{set_in, registers_after, IsServed}
 use Rattle.host_core.proofs.Sharing.{step_made}
 use Rattle.host_core.proofs.Stepping.{Legal-step}
-use Rattle.host_core.proofs.Pushing.{group_fits, few_entries, free_room, free_first}
+use Rattle.host_core.proofs.Pushing.{group_fits, few_entries, free_bytes, free_room, free_first}
 use Rattle.host_core.proofs.Sparing.{event_free}
 use Rattle.host_core.proofs.Noting.{note_fits, notes_grow}
 use Rattle.host_core.proofs.Running.{runs_fit, runs_grow}
 use Rattle.host_core.proofs.Setting.{settings_group, line_fits, registers_grow}
 use Rattle.host_core.proofs.machine.Core.step.Goals as goal
+
+-- nothing is not too much
+too_many : (n : ℕ) → n ≡ 0 → 2 ^ 64 ≤ n → ⊥
+too_many n none many = omega (arith, none, many)
 
 pub keep_group-requires-clause-line : goal.keep_group-requires-clause-line
 keep_group-requires-clause-line c =
@@ -54,8 +58,8 @@ note-requires c =
     let few = few_entries o past c.self.inside.journal.room c.self.invariant.0 c.self.invariant.2 c.self.invariant.3 in
     runs_fit o past c.args.by c.args.event c.in_ok-step.step.what c.in_ok-step.step.due c.self.inside.runs.items few c.self.invariant.1.again c.self.invariant.6 c.in_ok-step.ensures.step.group_is
 
-pub push_group-requires : goal.push_group-requires
-push_group-requires c =
+pub push_group-requires-clause-room : goal.push_group-requires-clause-room
+push_group-requires-clause-room c =
     let o : Opening = c.self.inside.opening in
     let past : List Entry = c.self.inside.journal.entries in
     let what : Option What = c.in_ok-step.step.what in
@@ -174,7 +178,8 @@ returns-in_err-take_room-clause-free c = λ free. (
     let due : Due = c.in_ok-step.step.due in
     let e : group_made past c.args.by what due ≡ (step_of o past c.args.by c.args.event).group = c.in_ok-step.ensures.step.group_is in
     let f : is_free (step_of o past c.args.by c.args.event) ≡ true = subst (λ (v : CoreValue). is_free (step_of v.opening v.journal c.args.by c.args.event) ≡ true) (sym c.self.view_is) free in
-    let no : false ≡ true = c.in_err-take_room.ensures.free (c.in_ok-more.ensures ∙ free_room o past c.args.by c.args.event what due f e) in
+    let none = free_room o past c.args.by c.args.event what due f e in
+    let no : false ≡ true = c.in_err-take_room.ensures.free (c.in_ok-more.ensures ∙ none) (c.in_ok-bytes.ensures ∙ free_bytes what due none) in
     (cc)
     )
 
@@ -186,7 +191,8 @@ returns-in_err-take_room-clause-free_event c = λ free. (
     let due : Due = c.in_ok-step.step.due in
     let e : group_made past c.args.by what due ≡ (step_of o past c.args.by c.args.event).group = c.in_ok-step.ensures.step.group_is in
     let f : is_free (step_of o past c.args.by c.args.event) ≡ true = event_free o past c.args.by c.args.event free in
-    let no : false ≡ true = c.in_err-take_room.ensures.free (c.in_ok-more.ensures ∙ free_room o past c.args.by c.args.event what due f e) in
+    let none = free_room o past c.args.by c.args.event what due f e in
+    let no : false ≡ true = c.in_err-take_room.ensures.free (c.in_ok-more.ensures ∙ none) (c.in_ok-bytes.ensures ∙ free_bytes what due none) in
     (cc)
     )
 
@@ -221,3 +227,35 @@ returns-in_err-keep_group-clause-few c =
 
 pub returns-in_err-step-clause-notes : goal.returns-in_err-step-clause-notes
 returns-in_err-step-clause-notes c = subst (λ (v : CoreValue). v.notes ≡ notes_after v.opening v.journal) c.self.view_is c.self.invariant.5.given
+
+pub returns-in_err-bytes-clause-notes : goal.returns-in_err-bytes-clause-notes
+returns-in_err-bytes-clause-notes c = subst (λ (v : CoreValue). v.notes ≡ notes_after v.opening v.journal) c.self.view_is c.self.invariant.5.given
+
+pub returns-in_err-bytes-clause-few : goal.returns-in_err-bytes-clause-few
+returns-in_err-bytes-clause-few c =
+    subst (λ (v : CoreValue). length v.journal < 2 ^ 64) c.self.view_is
+    (few_entries c.self.inside.opening c.self.inside.journal.entries c.self.inside.journal.room c.self.invariant.0 c.self.invariant.2 c.self.invariant.3)
+
+pub returns-in_err-bytes-clause-free : goal.returns-in_err-bytes-clause-free
+returns-in_err-bytes-clause-free c = λ free. (
+    let o : Opening = c.self.inside.opening in
+    let past : List Entry = c.self.inside.journal.entries in
+    let what : Option What = c.in_ok-step.step.what in
+    let due : Due = c.in_ok-step.step.due in
+    let e : group_made past c.args.by what due ≡ (step_of o past c.args.by c.args.event).group = c.in_ok-step.ensures.step.group_is in
+    let f : is_free (step_of o past c.args.by c.args.event) ≡ true = subst (λ (v : CoreValue). is_free (step_of v.opening v.journal c.args.by c.args.event) ≡ true) (sym c.self.view_is) free in
+    let none = free_bytes what due (free_room o past c.args.by c.args.event what due f e) in
+    absurd (too_many (group_bytes what due) none c.in_err-bytes.ensures)
+    )
+
+pub returns-in_err-bytes-clause-free_event : goal.returns-in_err-bytes-clause-free_event
+returns-in_err-bytes-clause-free_event c = λ free. (
+    let o : Opening = c.self.inside.opening in
+    let past : List Entry = c.self.inside.journal.entries in
+    let what : Option What = c.in_ok-step.step.what in
+    let due : Due = c.in_ok-step.step.due in
+    let e : group_made past c.args.by what due ≡ (step_of o past c.args.by c.args.event).group = c.in_ok-step.ensures.step.group_is in
+    let f : is_free (step_of o past c.args.by c.args.event) ≡ true = event_free o past c.args.by c.args.event free in
+    let none = free_bytes what due (free_room o past c.args.by c.args.event what due f e) in
+    absurd (too_many (group_bytes what due) none c.in_err-bytes.ensures)
+    )

@@ -1,0 +1,11 @@
+use Rattle.std.proofs.Common.{rules, tests}
+use Rattle.std.proofs.lemmas.Iterator.Consumers.{YieldsList-from_first}
+use Rattle.std.proofs.lemmas.Iterator.Search.{find_from_yields_List}
+use Rattle.journal_model.specs.declared.entry.Entry.{Entry}
+use Rattle.journal_model.specs.Journal.{settles}
+use Rattle.journal_records.specs.Shown.{entry_shown}
+use Rattle.journal_scan.proofs.children.find_verdict.Goals as goal
+
+pub returns : goal.returns
+returns c =
+    find_from_yields_List (λ (e : Entry). settles c.args.child c.args.job e.what) _ _ _ c.find.ensures.ran (YieldsList-from_first entry_shown (λ rest. rest) c.args.entries.now cc) (λ x b q k. search (rules, tests))

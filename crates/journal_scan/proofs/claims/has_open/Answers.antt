@@ -1,0 +1,15 @@
+use Rattle.std.proofs.Common.{rules, tests}
+use Rattle.std.proofs.lemmas.Iterator.Consumers.{YieldsList-from_filter_map, YieldsList-from_first}
+use Rattle.std.proofs.lemmas.Iterator.Search.{any_from_yields_List}
+use Rattle.std.specs.Prelude.{ℕ}
+use Rattle.journal_model.specs.declared.entry.Entry.{Entry}
+use Rattle.journal_model.specs.Journal.{is_open}
+use Rattle.journal_model.specs.Legality.{job_for}
+use Rattle.journal_records.specs.Shown.{entry_shown}
+use Rattle.journal_scan.proofs.claims.has_open.Goals as goal
+
+pub returns : goal.returns
+returns c =
+    any_from_yields_List (λ (q : ℕ × ℕ). is_open c.args.entries.now q.0 q.1) _ _ _ c.any.ensures.ran
+    (YieldsList-from_filter_map _ (λ (e : Entry). job_for c.args.task e.what) (YieldsList-from_first entry_shown (λ rest. rest) c.args.entries.now cc) c.filter_map.ensures.closure (λ x r q k. search (rules, tests)))
+    (λ x b q k. search (rules, tests))
