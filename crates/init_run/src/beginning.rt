@@ -57,16 +57,13 @@ pub fn begin<D: Desk>(alloc: Global, words: &InitWords, desk: &mut D) -> Result<
     ensures later { (D.counts desk.old).faults ≤ (D.counts desk.new).faults }
     ensures calls { NamesOnly (λ other. other ≡ words.now.keep) (D.log desk.old) (D.log desk.new) }
 {
-    match read_kept(alloc, desk, words.keep.view()) {
-        Ok(KeptRead::Kept { registers, notes }) => {
-            match init_opening(alloc, words, registers, notes) {
-                Ok(opening) => Ok(Begun::Ready(opening)),
-                Err(NoMemory) => Err(NoMemory),
-            }
+    match read_kept(alloc, desk, words.keep.view())? {
+        KeptRead::Kept { registers, notes } => {
+            let opening = init_opening(alloc, words, registers, notes)?;
+            Ok(Begun::Ready(opening))
         }
-        Ok(KeptRead::BadLine(line)) => Ok(Begun::BadLine(line)),
-        Ok(KeptRead::TooLarge) => Ok(Begun::TooLarge),
-        Ok(KeptRead::Fault) => Ok(Begun::Fault),
-        Err(NoMemory) => Err(NoMemory),
+        KeptRead::BadLine(line) => Ok(Begun::BadLine(line)),
+        KeptRead::TooLarge => Ok(Begun::TooLarge),
+        KeptRead::Fault => Ok(Begun::Fault),
     }
 }

@@ -107,10 +107,7 @@ pub(crate) fn serve_round<
 fn plainly(served: Result<Option<Refused>, NoMemory>) -> Result<(), NoMemory>
     ensures { result ≡ plainly served }
 {
-    match served {
-        Ok(_) => Ok(()),
-        Err(error) => Err(error),
-    }
+    served.map(|_| ())
 }
 
 /// Does tasks over the child with a worker for each desk, where it takes tags, else with one, and closes it. `NoMemory`: there was none

@@ -43,13 +43,9 @@ where
     ensures leaves { Leaves (IsErr result) plan.now.program core.new.journal (programs_value (P.starts programs.old) (P.faults programs.old)) (programs_value (P.starts programs.new) (P.faults programs.new)) (map (wire_value P.Inlet.taken P.Inlet.faults P.Inlet.number P.Inlet.is_open P.Outlet.given P.Outlet.left P.Outlet.faults P.Outlet.number P.Outlet.is_open) wires.new.items) }
     ensures core { IsSameCore core.old core.new }
 {
-    match start_children(alloc, programs, plan, tasks, core, desk, wires) {
-        Ok(()) => {
-            if core.unclaimed() > 0 {
-                answer_left(core);
-            }
-            Ok(())
-        }
-        Err(NoMemory) => Err(NoMemory),
+    start_children(alloc, programs, plan, tasks, core, desk, wires)?;
+    if core.unclaimed() > 0 {
+        answer_left(core);
     }
+    Ok(())
 }

@@ -139,10 +139,7 @@ where
         if core.unclaimed() == 0 {
             return Ok(());
         }
-        match start_one(alloc, programs, plan, tasks, offer, core, desk, wires) {
-            Ok(next) => offer = next,
-            Err(NoMemory) => return Err(NoMemory),
-        }
+        offer = start_one(alloc, programs, plan, tasks, offer, core, desk, wires)?;
     }
     Ok(())
 }

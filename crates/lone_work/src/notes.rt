@@ -34,15 +34,11 @@ pub fn note<D: Door>(door: &mut D, task: u32, chunk: u64, count: u64) -> Result<
     ensures grows { Grows (D.number door.old) (D.alone door.old) (by_noting task) (D.seen door.old) (D.seen door.new) }
     ensures door { IsSameDoor D.opening D.number D.seen D.alone D.loans D.home door.old door.new }
 {
-    match door.step(Event::Note { task, chunk, count }) {
-        Ok(reply) => {
-            if is_done(reply) {
-                Ok(())
-            } else {
-                unreachable!()
-            }
-        }
-        Err(NoMemory) => Err(NoMemory),
+    let reply = door.step(Event::Note { task, chunk, count })?;
+    if is_done(reply) {
+        Ok(())
+    } else {
+        unreachable!()
     }
 }
 
@@ -67,8 +63,6 @@ pub fn layouts<D: Door>(door: &mut D, alloc: Global, task: u32) -> Result<Layout
     ensures grows { Grows (D.number door.old) (D.alone door.old) never (D.seen door.old) (D.seen door.new) }
     ensures door { IsSameDoor D.opening D.number D.seen D.alone D.loans D.home door.old door.new }
 {
-    match door.step(Event::Layouts { task }) {
-        Ok(reply) => Ok(layouts_in(alloc, reply)),
-        Err(error) => Err(error),
-    }
+    let reply = door.step(Event::Layouts { task })?;
+    Ok(layouts_in(alloc, reply))
 }

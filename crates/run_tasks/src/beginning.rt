@@ -114,7 +114,9 @@ pub(crate) fn begin<D: Desk, I: Source, C: Clock>(
     clock: &mut C,
 ) -> Result<Opening, RunEnd>
     requires { I.is_open input.old ≡ true }
-    ensures begins { BeginsRun words.now (C.answer clock.old) (D.files desk.old) (input_flow (I.given input.old) (I.given input.new) (I.left input.old) (I.left input.new) (I.faults input.old) (I.faults input.new)) (D.counts desk.old).faults (D.counts desk.new).faults result }
+    ensures begins { BeginsRun words.now (C.answer clock.old) (D.files desk.old)
+        (input_flow (I.given input.old) (I.given input.new) (I.left input.old) (I.left input.new) (I.faults input.old) (I.faults input.new))
+        (D.counts desk.old).faults (D.counts desk.new).faults result }
     ensures files { D.files desk.new ≡ D.files desk.old }
     ensures calls { NamesOnly (IsRunFile words.now) (D.log desk.old) (D.log desk.new) }
 {

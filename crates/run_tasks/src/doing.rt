@@ -14,6 +14,7 @@ ghost use Rattle.run_tasks.specs.declared.made.RunEnd.TheVariants.{Memory};
 use crate::beginning::begin;
 use crate::made::{Made, RunEnd};
 use crate::rounds::go_on;
+use crate::setting::Setting;
 use ann_key::NoMemory;
 use ann_outside::{Clock, Desks, Programs, Source};
 use cli_words::RunWords;
@@ -111,7 +112,9 @@ where
     requires again { words.now.again ≤ most_again }
     requires text { has_newline words.now.work ≡ false }
     requires input { I.is_open input.old ≡ true }
-    ensures { HasDone words.now (C.answer clock.old) (record { programs = programs_value (P.starts programs.old) (P.faults programs.old); made = K.made desks.old }) (input_flow (I.given input.old) (I.given input.new) (I.left input.old) (I.left input.new) (I.faults input.old) (I.faults input.new)) (record { programs = programs_value (P.starts programs.new) (P.faults programs.new); made = K.made desks.new }) result }
+    ensures { HasDone words.now (C.answer clock.old) (record { programs = programs_value (P.starts programs.old) (P.faults programs.old); made = K.made desks.old })
+        (input_flow (I.given input.old) (I.given input.new) (I.left input.old) (I.left input.new) (I.faults input.old) (I.faults input.new))
+        (record { programs = programs_value (P.starts programs.new) (P.faults programs.new); made = K.made desks.new }) result }
 {
     let Ok(room) = take_room::<P, K>(alloc, words.starts, words.jobs) else {
         return nothing_made(alloc);
@@ -125,8 +128,9 @@ where
         return nothing_made(alloc);
     };
     let begun = begin(alloc, words, &mut desk, input, clock);
+    let setting = Setting { rt, alloc, words };
     let worked = go_on(
-        rt, alloc, words, begun, programs, desks, &mut desk, crew, &mut wires,
+        &setting, begun, programs, desks, &mut desk, crew, &mut wires,
     );
     Made {
         journal: worked.journal,

@@ -6,6 +6,7 @@ mod doing;
 mod keeping;
 mod made;
 mod rounds;
+mod setting;
 
 pub use doing::do_tasks;
 pub use made::{Made, RunEnd};

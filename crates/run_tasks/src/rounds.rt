@@ -1,6 +1,5 @@
 // The tasks of a run, with a desk for each worker.
-ghost use Rattle.std.specs.Prelude.{◌≡◌, ◌≤◌, ◌<◌, ◌*◌, [], IfOk, OnOk, false, map, vec_len, vec_capacity};
-ghost use Rattle.annex_model.specs.Lines.{has_newline};
+ghost use Rattle.std.specs.Prelude.{◌≡◌, ◌≤◌, ◌*◌, [], IfOk, OnOk, map, vec_len, vec_capacity};
 ghost use Rattle.ann_outside.specs.Calls.{log_origin};
 ghost use Rattle.journal_model.specs.Beginnings.{MayBegin};
 ghost use Rattle.child_end.specs.Outsides.{table_value};
@@ -14,6 +13,7 @@ ghost use Rattle.run_tasks.specs.declared.made.RunEnd.TheVariants.{Memory};
 
 use crate::keeping::finish;
 use crate::made::RunEnd;
+use crate::setting::Setting;
 use ann_key::{NoMemory, Text};
 use ann_outside::{Desk, Desks, Programs};
 use cli_words::RunWords;
@@ -114,9 +114,7 @@ fn ask_desks<K: Desks>(desks: &mut K, jobs: u32, crew: &mut Vec<K::Desk>) -> Res
 
 // Does the tasks, and keeps what is known after them. The workers' desks are handed back.
 fn do_all<P: Programs, D: Desk + Send + Drop, R: Threads + Wait + Sync>(
-    rt: &R,
-    alloc: Global,
-    words: &RunWords,
+    setting: &Setting<'_, R>,
     ready: Ready,
     programs: &mut P,
     desk: &mut D,
@@ -127,28 +125,37 @@ where
     P::Inlet: Send + Drop,
     P::Outlet: Send + Drop,
     P::Stub: Drop,
-    requires prepared { IsPrepared words.now ready }
+    requires prepared { IsPrepared setting.now.words.now ready }
     requires may { MayBegin ready.core.opening }
-    requires jobs { (0 < words.now.jobs) × (words.now.jobs ≤ 64) }
-    requires starts { (0 < words.now.starts) × (words.now.starts ≤ 16) }
-    requires text { has_newline words.now.work ≡ false }
-    requires crew { vec_len crew ≡ words.now.jobs }
+    requires crew { vec_len crew ≡ setting.now.words.now.jobs }
     requires fresh { AreFresh (map (λ k. desk_tells (D.log k) (D.counts k)) crew.items) }
-    requires room { words.now.starts * words.now.jobs ≤ vec_capacity wires.old }
+    requires room { setting.now.words.now.starts * setting.now.words.now.jobs ≤ vec_capacity wires.old }
     requires none { wires.old.items ≡ [] }
-    ensures ends { EndsWork words.now (D.files desk.old) (table_value D.counts D.files D.log desk.new) ready.core.opening (map (table_value D.counts D.files D.log) result.crew.items) result.journal.entries result.answers.items result.end }
-    ensures calls { NamesOnly (IsRunFile words.now) (D.log desk.old) (D.log desk.new) }
-    ensures crew { vec_len result.crew ≡ words.now.jobs }
+    ensures ends { EndsWork setting.now.words.now (D.files desk.old) (table_value D.counts D.files D.log desk.new) ready.core.opening (map (table_value D.counts D.files D.log) result.crew.items)
+        result.journal.entries result.answers.items result.end }
+    ensures calls { NamesOnly (IsRunFile setting.now.words.now) (D.log desk.old) (D.log desk.new) }
+    ensures crew { vec_len result.crew ≡ setting.now.words.now.jobs }
     ensures origins { map (λ k. log_origin (D.log k)) result.crew.items ≡ map (λ k. log_origin (D.log k)) crew.items }
-    ensures leaves { Leaves (result.end ≡ Memory) words.now.program result.journal.entries (programs_value (P.starts programs.old) (P.faults programs.old)) (programs_value (P.starts programs.new) (P.faults programs.new)) (map (wire_value P.Inlet.taken P.Inlet.faults P.Inlet.number P.Inlet.is_open P.Outlet.given P.Outlet.left P.Outlet.faults P.Outlet.number P.Outlet.is_open) wires.new.items) }
+    ensures leaves { Leaves (result.end ≡ Memory) setting.now.words.now.program result.journal.entries
+        (programs_value (P.starts programs.old) (P.faults programs.old)) (programs_value (P.starts programs.new) (P.faults programs.new))
+        (map (wire_value P.Inlet.taken P.Inlet.faults P.Inlet.number P.Inlet.is_open P.Outlet.given P.Outlet.left P.Outlet.faults P.Outlet.number P.Outlet.is_open) wires.new.items) }
 {
+    let alloc = setting.alloc;
     let Ready { core, plan, tasks } = ready;
     let bench = Bench { core, desks: crew };
-    let (bench, ran) = run_jobs(rt, alloc, programs, &plan, tasks.view(), bench, wires);
+    let (bench, ran) = run_jobs(
+        setting.rt,
+        alloc,
+        programs,
+        &plan,
+        tasks.view(),
+        bench,
+        wires,
+    );
     let Bench { core, desks: crew } = bench;
     match ran {
         Ok(()) => {
-            let finished = finish(alloc, words, desk, &core);
+            let finished = finish(alloc, setting.words, desk, &core);
             Worked {
                 journal: journal_of(core),
                 answers: finished.answers,
@@ -167,9 +174,7 @@ where
 
 /// Asks for the workers' desks, does the tasks of the opening, and keeps what is known after them at the other desk.
 pub(crate) fn work<P: Programs, K: Desks, R: Threads + Wait + Sync>(
-    rt: &R,
-    alloc: Global,
-    words: &RunWords,
+    setting: &Setting<'_, R>,
     opening: Opening,
     programs: &mut P,
     desks: &mut K,
@@ -183,32 +188,30 @@ where
     P::Stub: Drop,
     K::Desk: Send + Drop,
     requires may { MayBegin opening }
-    requires jobs { (0 < words.now.jobs) × (words.now.jobs ≤ 64) }
-    requires starts { (0 < words.now.starts) × (words.now.starts ≤ 16) }
-    requires text { has_newline words.now.work ≡ false }
-    requires crew { (crew.items ≡ []) × (words.now.jobs ≤ vec_capacity crew) }
-    requires room { words.now.starts * words.now.jobs ≤ vec_capacity wires.old }
+    requires crew { (crew.items ≡ []) × (setting.now.words.now.jobs ≤ vec_capacity crew) }
+    requires room { setting.now.words.now.starts * setting.now.words.now.jobs ≤ vec_capacity wires.old }
     requires none { wires.old.items ≡ [] }
-    ensures ends { EndsWork words.now (K.Desk.files desk.old) (table_value K.Desk.counts K.Desk.files K.Desk.log desk.new) opening (map (table_value K.Desk.counts K.Desk.files K.Desk.log) result.crew.items) result.journal.entries result.answers.items result.end }
-    ensures calls { NamesOnly (IsRunFile words.now) (K.Desk.log desk.old) (K.Desk.log desk.new) }
-    ensures desks { AddsWorkers words.now.jobs (K.made desks.old) (K.made desks.new) (map (table_value K.Desk.counts K.Desk.files K.Desk.log) result.crew.items) }
-    ensures leaves { Leaves (result.end ≡ Memory) words.now.program result.journal.entries (programs_value (P.starts programs.old) (P.faults programs.old)) (programs_value (P.starts programs.new) (P.faults programs.new)) (map (wire_value P.Inlet.taken P.Inlet.faults P.Inlet.number P.Inlet.is_open P.Outlet.given P.Outlet.left P.Outlet.faults P.Outlet.number P.Outlet.is_open) wires.new.items) }
+    ensures ends { EndsWork setting.now.words.now (K.Desk.files desk.old) (table_value K.Desk.counts K.Desk.files K.Desk.log desk.new) opening
+        (map (table_value K.Desk.counts K.Desk.files K.Desk.log) result.crew.items) result.journal.entries result.answers.items result.end }
+    ensures calls { NamesOnly (IsRunFile setting.now.words.now) (K.Desk.log desk.old) (K.Desk.log desk.new) }
+    ensures desks { AddsWorkers setting.now.words.now.jobs (K.made desks.old) (K.made desks.new) (map (table_value K.Desk.counts K.Desk.files K.Desk.log) result.crew.items) }
+    ensures leaves { Leaves (result.end ≡ Memory) setting.now.words.now.program result.journal.entries
+        (programs_value (P.starts programs.old) (P.faults programs.old)) (programs_value (P.starts programs.new) (P.faults programs.new))
+        (map (wire_value P.Inlet.taken P.Inlet.faults P.Inlet.number P.Inlet.is_open P.Outlet.given P.Outlet.left P.Outlet.faults P.Outlet.number P.Outlet.is_open) wires.new.items) }
 {
     let mut crew = crew;
-    let Ok(()) = ask_desks(desks, words.jobs, &mut crew) else {
-        return Worked::nothing(alloc, crew, RunEnd::Memory);
+    let Ok(()) = ask_desks(desks, setting.words.jobs, &mut crew) else {
+        return Worked::nothing(setting.alloc, crew, RunEnd::Memory);
     };
-    let Ok(ready) = prepare(alloc, words, opening) else {
-        return Worked::nothing(alloc, crew, RunEnd::Memory);
+    let Ok(ready) = prepare(setting.alloc, setting.words, opening) else {
+        return Worked::nothing(setting.alloc, crew, RunEnd::Memory);
     };
-    do_all(rt, alloc, words, ready, programs, desk, crew, wires)
+    do_all(setting, ready, programs, desk, crew, wires)
 }
 
 /// Does the tasks of what a run begins with, where it begins.
 pub(crate) fn go_on<P: Programs, K: Desks, R: Threads + Wait + Sync>(
-    rt: &R,
-    alloc: Global,
-    words: &RunWords,
+    setting: &Setting<'_, R>,
     begun: Result<Opening, RunEnd>,
     programs: &mut P,
     desks: &mut K,
@@ -222,21 +225,19 @@ where
     P::Stub: Drop,
     K::Desk: Send + Drop,
     requires may { IfOk begun MayBegin }
-    requires jobs { (0 < words.now.jobs) × (words.now.jobs ≤ 64) }
-    requires starts { (0 < words.now.starts) × (words.now.starts ≤ 16) }
-    requires text { has_newline words.now.work ≡ false }
-    requires crew { (crew.items ≡ []) × (words.now.jobs ≤ vec_capacity crew) }
-    requires room { words.now.starts * words.now.jobs ≤ vec_capacity wires.old }
+    requires crew { (crew.items ≡ []) × (setting.now.words.now.jobs ≤ vec_capacity crew) }
+    requires room { setting.now.words.now.starts * setting.now.words.now.jobs ≤ vec_capacity wires.old }
     requires none { wires.old.items ≡ [] }
-    ensures goes_on { GoesOn words.now (table_value K.Desk.counts K.Desk.files K.Desk.log desk.old) (table_value K.Desk.counts K.Desk.files K.Desk.log desk.new) (map (table_value K.Desk.counts K.Desk.files K.Desk.log) result.crew.items) result.journal.entries result.answers.items begun result.end }
-    ensures calls { NamesOnly (IsRunFile words.now) (K.Desk.log desk.old) (K.Desk.log desk.new) }
-    ensures desks { AddsWorkers words.now.jobs (K.made desks.old) (K.made desks.new) (map (table_value K.Desk.counts K.Desk.files K.Desk.log) result.crew.items) }
-    ensures leaves { Leaves (result.end ≡ Memory) words.now.program result.journal.entries (programs_value (P.starts programs.old) (P.faults programs.old)) (programs_value (P.starts programs.new) (P.faults programs.new)) (map (wire_value P.Inlet.taken P.Inlet.faults P.Inlet.number P.Inlet.is_open P.Outlet.given P.Outlet.left P.Outlet.faults P.Outlet.number P.Outlet.is_open) wires.new.items) }
+    ensures goes_on { GoesOn setting.now.words.now (table_value K.Desk.counts K.Desk.files K.Desk.log desk.old) (table_value K.Desk.counts K.Desk.files K.Desk.log desk.new)
+        (map (table_value K.Desk.counts K.Desk.files K.Desk.log) result.crew.items) result.journal.entries result.answers.items begun result.end }
+    ensures calls { NamesOnly (IsRunFile setting.now.words.now) (K.Desk.log desk.old) (K.Desk.log desk.new) }
+    ensures desks { AddsWorkers setting.now.words.now.jobs (K.made desks.old) (K.made desks.new) (map (table_value K.Desk.counts K.Desk.files K.Desk.log) result.crew.items) }
+    ensures leaves { Leaves (result.end ≡ Memory) setting.now.words.now.program result.journal.entries
+        (programs_value (P.starts programs.old) (P.faults programs.old)) (programs_value (P.starts programs.new) (P.faults programs.new))
+        (map (wire_value P.Inlet.taken P.Inlet.faults P.Inlet.number P.Inlet.is_open P.Outlet.given P.Outlet.left P.Outlet.faults P.Outlet.number P.Outlet.is_open) wires.new.items) }
 {
     match begun {
-        Ok(opening) => work(
-            rt, alloc, words, opening, programs, desks, desk, crew, wires,
-        ),
-        Err(end) => Worked::nothing(alloc, crew, end),
+        Ok(opening) => work(setting, opening, programs, desks, desk, crew, wires),
+        Err(end) => Worked::nothing(setting.alloc, crew, end),
     }
 }

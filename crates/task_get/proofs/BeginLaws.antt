@@ -140,10 +140,17 @@ over_back old new (Ok answer) h = h
 over_back old new (Err e) h = h
 
 -- a call that was refused after calls that weren't
-pub quiet_refused : {T : Type 0} (old mid new : Counts) (e : DeskError) → mid ≡ old → HasCauses {T = T} mid new (Err e) → HasQuietCauses old new (answer_in (over_with (refusal e)))
-quiet_refused {T} old mid new e m h = let P : Counts → Type 0 = λ x. HasQuietCauses x new (answer_in (over_with (refusal e))) in subst P m (by_error e h)
+pub refused_quiet : {T : Type 0} (old mid new : Counts) (e : DeskError) → mid ≡ old → HasCauses {T = T} mid new (Err e) → HasQuietCauses old new (refusal e)
+refused_quiet {T} old mid new e m h = let P : Counts → Type 0 = λ x. HasQuietCauses x new (refusal e) in subst P m (by_error e h)
   where
-    by_error : (e : DeskError) → HasCauses {T = T} mid new (Err e) → HasQuietCauses mid new (answer_in (over_with (refusal e)))
+    by_error : (e : DeskError) → HasCauses {T = T} mid new (Err e) → HasQuietCauses mid new (refusal e)
     by_error E.NoMemory h = record { faults_later = h.faults_later; missing_later = h.missing_later; fault = λ e. absurd cc; no_file = λ e. absurd cc; untold = λ q. inr (h.no_memory refl); quiet = λ q. h.no_memory refl }
     by_error E.Failed h = record { faults_later = h.faults_later; missing_later = h.missing_later; fault = λ e. h.failed refl; no_file = λ e. absurd cc; untold = λ q. absurd cc; quiet = λ q. absurd cc }
     by_error E.Missing h = record { faults_later = h.faults_later; missing_later = h.missing_later; fault = λ e. absurd cc; no_file = λ e. h.missing refl; untold = λ q. absurd cc; quiet = λ q. absurd cc }
+
+pub quiet_refused : {T : Type 0} (old mid new : Counts) (e : DeskError) → mid ≡ old → HasCauses {T = T} mid new (Err e) → HasQuietCauses old new (answer_in (over_with (refusal e)))
+quiet_refused old mid new e m h = of_either (refusal e) (refused_quiet old mid new e m h)
+  where
+    of_either : (r : Result Answer NoMemory) → HasQuietCauses old new r → HasQuietCauses old new (answer_in (over_with r))
+    of_either (Ok answer) q = q
+    of_either (Err x) q = q

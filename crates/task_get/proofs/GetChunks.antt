@@ -21,7 +21,6 @@ use Rattle.task_get.specs.declared.get_chunk.Went.TheVariants as T
 use Rattle.task_run.specs.Names.{part_of}
 use Rattle.task_get.specs.Fronts.{Turn, Within, Kept, Between, Ended}
 use Rattle.task_get.specs.LayoutRuns.{Grown, Behind, turn_at, parts_from, parts_between, PartEnd, ChunksEnd, NextDoes, ChunksRan}
-use Rattle.journal_model.specs.declared.answer.Answer.{Answer}
 
 -- ---- the parts
 
@@ -174,12 +173,6 @@ ends_all u cur got left all part calls made_before reads bytes first before afte
     let Q : List Call → Type 0 = λ l. Ended u.place (u.past ++ (cur ++ asked)) l A.Memory in subst Q (append_assoc calls made_before made) h
 
 -- what is over isn't whole
-abbrev over_by : Answer → Result Went NoMemory
-over_by answer = Ok (T.Over answer)
-
-pub over_not_whole : (answer : Answer) → over_by answer ≡ Ok T.Whole → ⊥
-over_not_whole answer e = cc
-
 pub chunks_ended : (setup : Setup) (t : TaskTurn) (key : Parts) (size chunk held i : ℕ) (part : List ℕ) (first now : ℕ) (pairs mid later : List Asking) (old on new : Option Log) (before between after : Checker) (result : Result Went NoMemory)
     → SoFar setup t key size chunk held i part first now pairs mid old on before between → held ≤ i → i < count_of size chunk → first + count_of size chunk < 2 ^ 64
     → (g : Grown mid later on new) → (result ≡ Ok T.Failed → length g.asked ≡ 1) → (result ≡ Ok T.Whole → ⊥) → NextDoes setup t key size chunk i part now between after g.asked g.made result

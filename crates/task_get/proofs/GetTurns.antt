@@ -34,7 +34,7 @@ use Rattle.task_run.specs.Ran.{refusal, is_verdict_of}
 use Rattle.task_run.specs.Fetching.{Outcome, discarded}
 use Rattle.task_get.specs.Fronts.{Turn, first_in, fetch_at, keys_in, is_calm, is_apart, Tried, Sound, are_free, Within, Kept, Between, Ended}
 use Rattle.task_get.specs.ChunkFetches.{over_with, Come, Unmeasured, Misfit, Uncopied, Unremoved, Came, come_calls, come_result, ComeIs, Take, Unmade, Undone, Fetched, undone_went, TakeIs}
-use Rattle.task_get.specs.LayoutRuns.{Grown, PartEnd}
+use Rattle.task_get.specs.LayoutRuns.{Grown, PartEnd, NextRan}
 use Rattle.task_run.proofs.Texts.{apart, same_name}
 use Rattle.task_get.proofs.LastCalls.{list_all-append, after_last-at}
 use Rattle.task_get.proofs.AskLaws.{round_ended, count_more, count_none, count_all}
@@ -300,6 +300,14 @@ unasked_end u cur got left calls w =
     let P : List Asking → Type 0 = λ l. Ended u.place (u.past ++ l) (calls ++ []) A.Memory in
     let Q : List Call → Type 0 = λ l. Ended u.place (u.past ++ cur) l A.Memory in
     subst P (sym (append-nil cur)) (subst Q (sym (append-nil calls)) (ended_memory u.place (u.past ++ cur) calls (within_fore u cur got left calls w) w.free))
+
+pub next_unasked : (setup : Setup) (t : TaskTurn) (key : Parts) (size chunk i : ℕ) (part : List ℕ) (now : ℕ) (pairs : List Asking) (log : Option Log) (checker : Checker) (e : NoMemory)
+    → NextRan setup t key size chunk i part now pairs pairs log log checker checker (Err e)
+next_unasked setup t key size chunk i part now pairs log checker e = record {
+  grown = record { asked = []; made = []; pairs_are = sym (append-nil pairs); log_is = gained_nothing log };
+  goes = λ file b cur got left calls held bytes p n room w k. unasked_end _ cur got _ calls w;
+  one = λ went r. absurd cc;
+}
 
 -- a verdict that stops it
 pub asked_end : (u : Turn) (cur : List Asking) (got left : List Part) (part : Part) (a : Asking) (n : ℕ) (calls : List Call) (answer : Answer) → Within u cur got (part ∷ left) calls

@@ -1,6 +1,6 @@
 -- Gets under a name, by what holds of gets of the plain layout alone.
-use Rattle.std.proofs.Common.{◌≡◌, ◌∙◌, ℕ, ◌+◌, true, false, List, [], ◌∷◌, ◌++◌, refl, sym, subst, arith, append-nil}
-use Rattle.std.specs.Prelude.{Bool, Option, Some, None, Result, Ok, Err, unwrap_or}
+use Rattle.std.proofs.Common.{◌≡◌, ℕ, true, false, List, [], ◌∷◌, refl, sym, subst, arith, append-nil}
+use Rattle.std.specs.Prelude.{Bool, Option, Some, Result, Ok, Err, unwrap_or}
 use Rattle.std.specs.Bool.{MatchBool}
 use Rattle.ann_key.specs.Keys.{Parts, key_reading}
 use Rattle.ann_key.specs.declared.bytes.NoMemory.{NoMemory}

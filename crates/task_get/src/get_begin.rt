@@ -25,10 +25,7 @@ pub enum Begun {
 fn not_begun(answer: Result<Answer, NoMemory>) -> Result<Begun, NoMemory>
     ensures { result ≡ unbegun answer }
 {
-    match answer {
-        Ok(answer) => Ok(Begun::Over(answer)),
-        Err(error) => Err(error),
-    }
+    Ok(Begun::Over(answer?))
 }
 
 // Where the first chunks end.
@@ -62,11 +59,10 @@ pub fn begin_part<D: Desk>(
         Ok(n) => {
             let held = held(size, chunk, n);
             let keep = end_of(size, chunk, held);
-            match resume(alloc, desk, part, keep, checker) {
-                Ok(Copied::Done(_)) => Ok(Begun::Held(held)),
-                Ok(Copied::Fault) => Ok(Begun::Over(Answer::FileFault)),
-                Ok(Copied::Missing) => Ok(Begun::Over(Answer::NoFile)),
-                Err(error) => Err(error),
+            match resume(alloc, desk, part, keep, checker)? {
+                Copied::Done(_) => Ok(Begun::Held(held)),
+                Copied::Fault => Ok(Begun::Over(Answer::FileFault)),
+                Copied::Missing => Ok(Begun::Over(Answer::NoFile)),
             }
         }
         Err(DeskError::Missing) => match desk.create(part) {

@@ -18,6 +18,14 @@ use std::alloc::Global;
 use task_run::answers::{is_done, refused, undone_answer};
 use task_run::{Asker, ask};
 
+/// How many bytes a chunk has, the file that it is fetched to, and the part that it is added to.
+#[derive(Clone, Copy)]
+pub struct Chunk<'a> {
+    pub bytes: u64,
+    pub fetch: &'a str,
+    pub part: &'a str,
+}
+
 /// How a part of a get went.
 pub enum Went {
     /// All that was wanted is there.
@@ -31,10 +39,7 @@ pub enum Went {
 pub fn over(answer: Result<Answer, NoMemory>) -> Result<Went, NoMemory>
     ensures { result ≡ over_with answer }
 {
-    match answer {
-        Ok(answer) => Ok(Went::Over(answer)),
-        Err(error) => Err(error),
-    }
+    Ok(Went::Over(answer?))
 }
 
 fn undone(verdict: Verdict) -> Went
@@ -51,85 +56,75 @@ fn undone(verdict: Verdict) -> Went
 fn copy_over<D: Desk>(
     alloc: Global,
     desk: &mut D,
-    part: &str,
-    fetch: &str,
-    n: u64,
+    chunk: Chunk<'_>,
     checker: &mut Checker<'_>,
 ) -> Result<Went, NoMemory>
-    requires names { fetch.now ≢ part.now }
-    requires room { taken_of checker.old + n < 2 ^ 64 }
-    ensures copied { CopiesOver part.now fetch.now n checker.old checker.new (D.log desk.old) (D.log desk.new) result }
+    requires names { chunk.fetch.now ≢ chunk.part.now }
+    requires room { taken_of checker.old + chunk.bytes < 2 ^ 64 }
+    ensures copied { CopiesOver chunk.entry.part.now chunk.entry.fetch.now chunk.entry.bytes checker.old checker.new (D.log desk.old) (D.log desk.new) result }
     ensures causes { HasQuietCauses (D.counts desk.old) (D.counts desk.new) (answer_in result) }
 {
-    match copy_in(alloc, desk, fetch, part, n, checker) {
-        Ok(Copied::Done(_)) => match desk.remove(fetch) {
+    match copy_in(alloc, desk, chunk.fetch, chunk.part, chunk.bytes, checker)? {
+        Copied::Done(_) => match desk.remove(chunk.fetch) {
             Ok(()) => Ok(Went::Whole),
             Err(error) => over(refused(error)),
         },
-        Ok(Copied::Fault) => Ok(Went::Over(Answer::FileFault)),
-        Ok(Copied::Missing) => Ok(Went::Over(Answer::NoFile)),
-        Err(error) => Err(error),
+        Copied::Fault => Ok(Went::Over(Answer::FileFault)),
+        Copied::Missing => Ok(Went::Over(Answer::NoFile)),
     }
 }
 
-// Takes in the fetched file, where it has n bytes.
+// Takes in the fetched file, where it has the chunk's bytes.
 fn come_in<D: Desk>(
     alloc: Global,
     desk: &mut D,
-    part: &str,
-    fetch: &str,
-    n: u64,
+    chunk: Chunk<'_>,
     checker: &mut Checker<'_>,
 ) -> Result<Went, NoMemory>
-    requires names { fetch.now ≢ part.now }
-    requires room { taken_of checker.old + n < 2 ^ 64 }
-    ensures came { Comes part.now fetch.now n checker.old checker.new (D.log desk.old) (D.log desk.new) result }
+    requires names { chunk.fetch.now ≢ chunk.part.now }
+    requires room { taken_of checker.old + chunk.bytes < 2 ^ 64 }
+    ensures came { Comes chunk.entry.part.now chunk.entry.fetch.now chunk.entry.bytes checker.old checker.new (D.log desk.old) (D.log desk.new) result }
     ensures causes { HasQuietCauses (D.counts desk.old) (D.counts desk.new) (answer_in result) }
 {
-    match desk.size(fetch) {
-        Ok(m) => {
-            if m == n {
-                copy_over(alloc, desk, part, fetch, n, checker)
+    match desk.size(chunk.fetch) {
+        Ok(bytes) => {
+            if bytes == chunk.bytes {
+                copy_over(alloc, desk, chunk, checker)
             } else {
-                over(discard(desk, part, Answer::Size { bytes: m }))
+                over(discard(desk, chunk.part, Answer::Size { bytes }))
             }
         }
         Err(error) => over(refused(error)),
     }
 }
 
-/// Asks for the chunk of this key, and adds its n bytes to part.
+/// Asks for the chunk of this key, and adds its bytes to part.
 pub fn take_chunk<A: Asker, D: Desk>(
     alloc: Global,
     number: u32,
     key: KeyRef<'_>,
-    n: u64,
-    part: &str,
-    fetch: &str,
+    chunk: Chunk<'_>,
     asker: &mut A,
     desk: &mut D,
     checker: &mut Checker<'_>,
 ) -> Result<Went, NoMemory>
     requires key { is_sent_key (text_of key) ≡ true }
-    requires line { has_newline fetch.now ≡ false }
-    requires names { fetch.now ≢ part.now }
-    requires room { taken_of checker.old + n < 2 ^ 64 }
+    requires line { has_newline chunk.fetch.now ≡ false }
+    requires names { chunk.fetch.now ≢ chunk.part.now }
+    requires room { taken_of checker.old + chunk.bytes < 2 ^ 64 }
     requires number { number ≡ A.task asker.old }
     requires ready { A.ready asker.old }
-    ensures took { Takes (text_of key.entry) part.now fetch.now n checker.old checker.new (A.pairs asker.old) (A.pairs asker.new) (D.log desk.old) (D.log desk.new) result }
+    ensures took { Takes (text_of key.entry) chunk.entry.part.now chunk.entry.fetch.now chunk.entry.bytes checker.old checker.new
+        (A.pairs asker.old) (A.pairs asker.new) (D.log desk.old) (D.log desk.new) result }
     ensures notes { A.notes asker.new ≡ A.notes asker.old }
     ensures same { IsSameTask (A.task asker.old) (A.task asker.new) (A.may_note asker.old) (A.may_note asker.new) (A.loans asker.old) (A.loans asker.new) }
     ensures on { A.goes_on asker.old asker.new }
     ensures causes { HasQuietCauses (D.counts desk.old) (D.counts desk.new) (answer_in result) }
 {
-    match ask::transfer(alloc, asker, number, false, key, fetch) {
-        Ok(verdict) => {
-            if is_done(verdict) {
-                come_in(alloc, desk, part, fetch, n, checker)
-            } else {
-                Ok(undone(verdict))
-            }
-        }
-        Err(error) => Err(error),
+    let verdict = ask::transfer(alloc, asker, number, false, key, chunk.fetch)?;
+    if is_done(verdict) {
+        come_in(alloc, desk, chunk, checker)
+    } else {
+        Ok(undone(verdict))
     }
 }

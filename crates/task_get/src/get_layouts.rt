@@ -1,22 +1,20 @@
 // A get over all layouts.
-ghost use Rattle.std.specs.Prelude.{◌≡◌, ◌≢◌, ◌+◌, ◌<◌, ◌^◌, ℕ, Some, None, true, false};
-ghost use Rattle.ann_key.specs.KeyRefs.{parts_of, text_of};
+ghost use Rattle.std.specs.Prelude.{◌≡◌, ◌≢◌, ◌+◌, ◌<◌, ◌^◌, ℕ, Some, true, false};
+ghost use Rattle.ann_key.specs.KeyRefs.{parts_of};
 ghost use Rattle.annex_model.specs.Lines.{has_newline};
-ghost use Rattle.annex_model.specs.Messages.{is_sent_key};
 ghost use Rattle.task_run.specs.Askers.{IsSameTask, are_layouts};
 ghost use Rattle.task_get.specs.LayoutRuns.{WholeRan, TriesRan, GetRan};
 ghost use Rattle.task_get.specs.ChunkFetches.{answer_in};
-ghost use Rattle.task_run.specs.Ran.{HasTaskCauses};
-ghost use Rattle.task_run.specs.Names.{fetch_file, part_of};
-ghost use Rattle.task_run.specs.Ran.{HasQuietCauses, RanGet};
-ghost use Rattle.task_run.specs.declared.setup.Setup.{Setup};
+ghost use Rattle.task_run.specs.Names.{fetch_file};
+ghost use Rattle.task_run.specs.Ran.{HasQuietCauses, HasTaskCauses, RanGet};
 ghost use Rattle.task_text.specs.TaskLines.{IsTask};
 ghost use Rattle.task_text.specs.declared.task.Work.TheVariants as W;
 
 use crate::get_chunk::Went;
 use crate::get_layout::get_layout;
+use crate::gets::{Get, Layout};
 use crate::taking::take_whole;
-use ann_key::{KeyRef, NoMemory};
+use ann_key::NoMemory;
 use ann_outside::Desk;
 use chunk_plan::count;
 use journal_model::Answer;
@@ -28,51 +26,37 @@ use task_text::Task;
 // Fetches the key whole, by this name of the fetched file.
 fn whole_by<A: Asker, D: Desk>(
     alloc: Global,
-    turn: TaskTurn,
-    key: KeyRef<'_>,
-    file: &str,
-    part: &str,
+    get: Get<'_, '_>,
     fetch: &str,
     asker: &mut A,
     desk: &mut D,
 ) -> Result<Answer, NoMemory>
-    requires sent { is_sent_key (text_of key) ≡ true }
-    requires part { part.now ≡ part_of file.now }
     requires line { has_newline fetch.now ≡ false }
-    requires differ { fetch.now ≢ part.now }
-    requires number { turn.task ≡ A.task asker.old }
+    requires differ { fetch.now ≢ get.part.now }
+    requires number { get.turn.task ≡ A.task asker.old }
     requires ready { A.ready asker.old }
-    ensures ran { (setup : Setup) (first : ℕ) → fetch.now ≡ fetch_file setup turn (first + 1) → first + 1 < 2 ^ 64
-        → WholeRan setup turn (parts_of key.entry) file.now first (A.pairs asker.old) (A.pairs asker.new) (D.log desk.old) (D.log desk.new) result }
+    ensures ran { (first : ℕ) → fetch.now ≡ fetch_file get.entry.setup.now get.entry.turn (first + 1) → first + 1 < 2 ^ 64
+        → WholeRan get.entry.setup.now get.entry.turn (parts_of get.entry.key) get.entry.file.now first (A.pairs asker.old) (A.pairs asker.new) (D.log desk.old) (D.log desk.new) result }
     ensures notes { A.notes asker.new ≡ A.notes asker.old }
     ensures same { IsSameTask (A.task asker.old) (A.task asker.new) (A.may_note asker.old) (A.may_note asker.new) (A.loans asker.old) (A.loans asker.new) }
     ensures on { A.goes_on asker.old asker.new }
     ensures causes { HasQuietCauses (D.counts desk.old) (D.counts desk.new) result }
 {
-    match ask::transfer(alloc, asker, turn.task, false, key, fetch) {
-        Ok(verdict) => take_whole(alloc, desk, key, file, part, fetch, verdict),
-        Err(error) => Err(error),
-    }
+    let verdict = ask::transfer(alloc, asker, get.turn.task, false, get.key, fetch)?;
+    take_whole(alloc, desk, get.key, get.file, get.part, fetch, verdict)
 }
 
 // Fetches the key whole, after so many requests.
 fn get_whole<A: Asker, D: Desk>(
     alloc: Global,
-    turn: TaskTurn,
-    setup: &Setup,
-    key: KeyRef<'_>,
-    file: &str,
-    part: &str,
+    get: Get<'_, '_>,
     asked: u64,
     asker: &mut A,
     desk: &mut D,
 ) -> Result<Answer, NoMemory>
-    requires sent { is_sent_key (text_of key) ≡ true }
-    requires part { part.now ≡ part_of file.now }
-    requires folder { has_newline setup.now.work ≡ false }
-    requires number { turn.task ≡ A.task asker.old }
+    requires number { get.turn.task ≡ A.task asker.old }
     requires ready { A.ready asker.old }
-    ensures ran { WholeRan setup.now turn (parts_of key.entry) file.now asked (A.pairs asker.old) (A.pairs asker.new) (D.log desk.old) (D.log desk.new) result }
+    ensures ran { WholeRan get.entry.setup.now get.entry.turn (parts_of get.entry.key) get.entry.file.now asked (A.pairs asker.old) (A.pairs asker.new) (D.log desk.old) (D.log desk.new) result }
     ensures notes { A.notes asker.new ≡ A.notes asker.old }
     ensures same { IsSameTask (A.task asker.old) (A.task asker.new) (A.may_note asker.old) (A.may_note asker.new) (A.loans asker.old) (A.loans asker.new) }
     ensures on { A.goes_on asker.old asker.new }
@@ -81,36 +65,27 @@ fn get_whole<A: Asker, D: Desk>(
     if asked == u64::MAX {
         return Err(NoMemory);
     }
-    let Ok(fetch) = fetch_name(alloc, setup, turn, asked + 1) else {
-        return Err(NoMemory);
-    };
-    whole_by(alloc, turn, key, file, part, fetch.view(), asker, desk)
+    let fetch = fetch_name(alloc, get.setup, get.turn, asked + 1)?;
+    whole_by(alloc, get, fetch.view(), asker, desk)
 }
 
 // Tries the layouts that have the number of chunks which the size asks for, one after the other.
 fn try_layouts<A: Asker, D: Desk>(
     alloc: Global,
-    turn: TaskTurn,
-    setup: &Setup,
-    key: KeyRef<'_>,
+    get: Get<'_, '_>,
     size: u64,
     layouts: &[(u64, u64)],
-    file: &str,
-    part: &str,
     asked: &mut u64,
     asker: &mut A,
     desk: &mut D,
 ) -> Result<Went, NoMemory>
-    requires size { (parts_of key).size ≡ Some size }
-    requires whole { (parts_of key).chunk ≡ None }
-    requires sent { is_sent_key (text_of key) ≡ true }
+    requires size { (parts_of get.key).size ≡ Some size }
     requires sizes { are_layouts layouts.now ≡ true }
-    requires part { part.now ≡ part_of file.now }
     requires first { asked.old ≡ 0 }
-    requires folder { has_newline setup.now.work ≡ false }
-    requires number { turn.task ≡ A.task asker.old }
+    requires number { get.turn.task ≡ A.task asker.old }
     requires ready { A.ready asker.old }
-    ensures ran { TriesRan setup.now turn (parts_of key.entry) file.now layouts.now asked.new (A.pairs asker.old) (A.pairs asker.new) (D.log desk.old) (D.log desk.new) result }
+    ensures ran { TriesRan get.entry.setup.now get.entry.turn (parts_of get.entry.key) get.entry.file.now layouts.now asked.new
+        (A.pairs asker.old) (A.pairs asker.new) (D.log desk.old) (D.log desk.new) result }
     ensures notes { A.notes asker.new ≡ A.notes asker.old }
     ensures same { IsSameTask (A.task asker.old) (A.task asker.new) (A.may_note asker.old) (A.may_note asker.new) (A.loans asker.old) (A.loans asker.new) }
     ensures on { A.goes_on asker.old asker.new }
@@ -119,13 +94,10 @@ fn try_layouts<A: Asker, D: Desk>(
     for i in 0..layouts.len() {
         let (chunk, chunks) = layouts[i];
         if chunks == count(size, chunk) {
-            match get_layout(
-                alloc, turn, setup, key, size, chunk, file, part, asked, asker, desk,
-            ) {
-                Ok(Went::Failed) => {}
-                Ok(Went::Whole) => return Ok(Went::Whole),
-                Ok(Went::Over(answer)) => return Ok(Went::Over(answer)),
-                Err(error) => return Err(error),
+            let layout = Layout { get, size, chunk };
+            match get_layout(alloc, layout, asked, asker, desk)? {
+                Went::Failed => {}
+                went => return Ok(went),
             }
         }
     }
@@ -135,34 +107,25 @@ fn try_layouts<A: Asker, D: Desk>(
 // Tries the layouts of chunks. A key without a size has none.
 fn try_chunks<A: Asker, D: Desk>(
     alloc: Global,
-    turn: TaskTurn,
-    setup: &Setup,
-    key: KeyRef<'_>,
+    get: Get<'_, '_>,
     layouts: &[(u64, u64)],
-    file: &str,
-    part: &str,
     asked: &mut u64,
     asker: &mut A,
     desk: &mut D,
 ) -> Result<Went, NoMemory>
-    requires whole { (parts_of key).chunk ≡ None }
-    requires sent { is_sent_key (text_of key) ≡ true }
     requires sizes { are_layouts layouts.now ≡ true }
-    requires part { part.now ≡ part_of file.now }
     requires first { asked.old ≡ 0 }
-    requires folder { has_newline setup.now.work ≡ false }
-    requires number { turn.task ≡ A.task asker.old }
+    requires number { get.turn.task ≡ A.task asker.old }
     requires ready { A.ready asker.old }
-    ensures ran { TriesRan setup.now turn (parts_of key.entry) file.now layouts.now asked.new (A.pairs asker.old) (A.pairs asker.new) (D.log desk.old) (D.log desk.new) result }
+    ensures ran { TriesRan get.entry.setup.now get.entry.turn (parts_of get.entry.key) get.entry.file.now layouts.now asked.new
+        (A.pairs asker.old) (A.pairs asker.new) (D.log desk.old) (D.log desk.new) result }
     ensures notes { A.notes asker.new ≡ A.notes asker.old }
     ensures same { IsSameTask (A.task asker.old) (A.task asker.new) (A.may_note asker.old) (A.may_note asker.new) (A.loans asker.old) (A.loans asker.new) }
     ensures on { A.goes_on asker.old asker.new }
     ensures causes { HasTaskCauses (D.counts desk.old) (D.counts desk.new) (answer_in result) }
 {
-    match key.size() {
-        Some(size) => try_layouts(
-            alloc, turn, setup, key, size, layouts, file, part, asked, asker, desk,
-        ),
+    match get.key.size() {
+        Some(size) => try_layouts(alloc, get, size, layouts, asked, asker, desk),
         None => Ok(Went::Failed),
     }
 }
@@ -170,36 +133,25 @@ fn try_chunks<A: Asker, D: Desk>(
 // Tries the layouts of chunks, and then the plain one.
 fn get_from<A: Asker, D: Desk>(
     alloc: Global,
-    turn: TaskTurn,
-    setup: &Setup,
-    key: KeyRef<'_>,
+    get: Get<'_, '_>,
     layouts: &[(u64, u64)],
-    file: &str,
-    part: &str,
     asker: &mut A,
     desk: &mut D,
 ) -> Result<Answer, NoMemory>
-    requires whole { (parts_of key).chunk ≡ None }
-    requires sent { is_sent_key (text_of key) ≡ true }
     requires sizes { are_layouts layouts.now ≡ true }
-    requires part { part.now ≡ part_of file.now }
-    requires folder { has_newline setup.now.work ≡ false }
-    requires number { turn.task ≡ A.task asker.old }
+    requires number { get.turn.task ≡ A.task asker.old }
     requires ready { A.ready asker.old }
-    ensures ran { GetRan setup.now turn (parts_of key.entry) file.now layouts.now (A.pairs asker.old) (A.pairs asker.new) (D.log desk.old) (D.log desk.new) result }
+    ensures ran { GetRan get.entry.setup.now get.entry.turn (parts_of get.entry.key) get.entry.file.now layouts.now (A.pairs asker.old) (A.pairs asker.new) (D.log desk.old) (D.log desk.new) result }
     ensures notes { A.notes asker.new ≡ A.notes asker.old }
     ensures same { IsSameTask (A.task asker.old) (A.task asker.new) (A.may_note asker.old) (A.may_note asker.new) (A.loans asker.old) (A.loans asker.new) }
     ensures on { A.goes_on asker.old asker.new }
     ensures causes { HasTaskCauses (D.counts desk.old) (D.counts desk.new) result }
 {
     let mut asked = 0;
-    match try_chunks(
-        alloc, turn, setup, key, layouts, file, part, &mut asked, asker, desk,
-    ) {
-        Ok(Went::Failed) => get_whole(alloc, turn, setup, key, file, part, asked, asker, desk),
-        Ok(Went::Over(answer)) => Ok(answer),
-        Ok(Went::Whole) => unreachable!(),
-        Err(error) => Err(error),
+    match try_chunks(alloc, get, layouts, &mut asked, asker, desk)? {
+        Went::Failed => get_whole(alloc, get, asked, asker, desk),
+        Went::Over(answer) => Ok(answer),
+        Went::Whole => unreachable!(),
     }
 }
 
@@ -225,22 +177,14 @@ pub fn get_key<A: Asker, D: Desk>(
     ensures causes { HasTaskCauses (D.counts desk.old) (D.counts desk.new) result }
 {
     let file = task.file.view();
-    let Ok(part) = part_name(alloc, file) else {
-        return Err(NoMemory);
-    };
-    let Ok(layouts) = asker.layouts(alloc, turn.task) else {
-        return Err(NoMemory);
-    };
-    let key = task.key.view();
-    get_from(
-        alloc,
+    let part = part_name(alloc, file)?;
+    let layouts = asker.layouts(alloc, turn.task)?;
+    let get = Get {
         turn,
         setup,
-        key,
-        layouts.view(),
+        key: task.key.view(),
         file,
-        part.view(),
-        asker,
-        desk,
-    )
+        part: part.view(),
+    };
+    get_from(alloc, get, layouts.view(), asker, desk)
 }

@@ -38,16 +38,10 @@ pub fn get_export<A: Asker, D: Desk>(
     let key = task.key.view();
     let file = task.file.view();
     let name = task.name.view();
-    let Ok(part) = part_name(alloc, file) else {
-        return Err(NoMemory);
-    };
-    let Ok(fetch) = fetch_name(alloc, setup, turn, 1) else {
-        return Err(NoMemory);
-    };
+    let part = part_name(alloc, file)?;
+    let fetch = fetch_name(alloc, setup, turn, 1)?;
     let part = part.view();
     let fetch = fetch.view();
-    match ask::transfer_named(alloc, asker, turn.task, false, key, fetch, name) {
-        Ok(verdict) => take_whole(alloc, desk, key, file, part, fetch, verdict),
-        Err(error) => Err(error),
-    }
+    let verdict = ask::transfer_named(alloc, asker, turn.task, false, key, fetch, name)?;
+    take_whole(alloc, desk, key, file, part, fetch, verdict)
 }

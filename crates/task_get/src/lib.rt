@@ -6,6 +6,7 @@ mod get_chunk;
 mod get_layout;
 mod get_layouts;
 mod get_named;
+mod gets;
 mod taking;
 
 pub use get_layouts::get_key;

@@ -62,14 +62,13 @@ fn move_in<D: Desk>(
     match desk.create(part) {
         Ok(()) => {
             let mut checker = Checker::new(key);
-            match copy_in(alloc, desk, fetch, part, n, &mut checker) {
-                Ok(Copied::Done(_)) => match desk.remove(fetch) {
+            match copy_in(alloc, desk, fetch, part, n, &mut checker)? {
+                Copied::Done(_) => match desk.remove(fetch) {
                     Ok(()) => settle(desk, checker.finish(), file, part),
                     Err(error) => refused(error),
                 },
-                Ok(Copied::Fault) => Ok(Answer::FileFault),
-                Ok(Copied::Missing) => Ok(Answer::NoFile),
-                Err(error) => Err(error),
+                Copied::Fault => Ok(Answer::FileFault),
+                Copied::Missing => Ok(Answer::NoFile),
             }
         }
         Err(error) => refused(error),

@@ -45,15 +45,32 @@ store_a = task_of Store (codes "WORM--a") (codes "f")
 abbrev pub stores_a : Verdict → List Asking
 stores_a v = asks (Transfer true (codes "WORM--a") (codes "f")) v ∷ []
 
+abbrev pub fetched_1 : List ℕ
+fetched_1 = codes "w/1700000000000000-1-1.fetch"
+
+-- a get of a key of one that may have any length
+abbrev pub get_a : Task
+get_a = task_of Get (codes "WORM--a") (codes "o")
+
+abbrev pub gets_a : Verdict → List Asking
+gets_a v = asks (Transfer false (codes "WORM--a") fetched_1) v ∷ []
+
+-- a store and a get of a key of two bytes
+abbrev pub store_hi : Task
+store_hi = task_of Store (codes "WORM-s2--a") (codes "f")
+
+abbrev pub stores_hi : Verdict → List Asking
+stores_hi v = asks (Transfer true (codes "WORM-s2--a") (codes "f")) v ∷ []
+
+abbrev pub get_hi : Task
+get_hi = task_of Get (codes "WORM-s2--a") (codes "o")
+
 -- the length of a file
 abbrev pub sized : List ℕ → ℕ → List Call
 sized name n = Size name (Ok n) ∷ []
 
 abbrev pub get_abc : Task
 get_abc = task_of Get (codes "WORM-s3--a") (codes "o")
-
-abbrev pub fetched_1 : List ℕ
-fetched_1 = codes "w/1700000000000000-1-1.fetch"
 
 abbrev pub gets_abc : Verdict → List Asking
 gets_abc v = asks (Transfer false (codes "WORM-s3--a") fetched_1) v ∷ []

@@ -1,5 +1,5 @@
 -- A task that is run twice, as an example: the child is lost under its first run.
-use Rattle.std.specs.Prelude.{ℕ, ◌+◌, false, List, [], ◌∷◌, ◌++◌, codes, Some, None}
+use Rattle.std.specs.Prelude.{ℕ, ◌+◌, ◌≡◌, Bool, false, List, [], ◌∷◌, ◌++◌, codes, Some, None}
 use Rattle.annex_model.specs.Messages.{Remove}
 use Rattle.journal_model.specs.declared.answer.Answer.{Answer}
 use Rattle.journal_model.specs.declared.answer.Answer.TheVariants.{Dropped, Ended as EndedAnswer}
@@ -9,7 +9,14 @@ use Rattle.journal_model.specs.declared.verdict.Verdict.TheVariants.{Done, Ended
 use Rattle.journal_model.specs.declared.entry.What.TheVariants.{Claim, Start, Ask, Sent, Got, End, Verdict as Settled, Note, Answer as Answered, Again}
 use Rattle.journal_model.specs.declared.entry.Entry.{Entry}
 use Rattle.journal_model.specs.Rows.{by_main, greeting}
-use Rattle.task_run.specs.Askers.{Asking}
+use Rattle.task_run.specs.Askers.{Asking, Noting}
+use Rattle.task_run.specs.Askings.{TaskStretch, run_askings, run_notings, run_turn, is_last_run}
+use Rattle.task_run.specs.declared.turn.TaskTurn.{TaskTurn}
+
+-- the journal has a run of the task with these requests, notes and answer, in this turn, and it is the last or isn't
+abbrev pub HasRun : List Entry → ℕ → List Asking → List Noting → Answer → TaskTurn → Bool → Type 0
+HasRun journal t asked noted answer turn last =
+    (run : TaskStretch journal t) × (run_askings run ≡ asked) × (run_notings run ≡ noted) × (run.answer ≡ answer) × (run_turn run ≡ turn) × (is_last_run run ≡ last)
 
 -- the request is asked, and the child ends
 abbrev pub first_within : List Entry

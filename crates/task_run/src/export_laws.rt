@@ -2,7 +2,9 @@
 ghost use Rattle.std.specs.Prelude.{[], ◌∷◌, ◌++◌, codes, drop, Some, None, true, false};
 ghost use Rattle.annex_model.specs.Messages.{Transfer, Transferexport};
 ghost use Rattle.journal_model.specs.declared.verdict.Verdict.TheVariants.{Done, Failed, Absent, Unknown, Unsupported, Unsent};
-ghost use Rattle.journal_model.specs.declared.answer.Answer.TheVariants.{Stored, Got, Present, Dropped, Renamed, Memory, Absent as AbsentAnswer, Unknown as UnknownAnswer, Unsupported as UnsupportedAnswer, Unsent as UnsentAnswer, Failed as FailedAnswer, Size as SizeAnswer};
+ghost use Rattle.journal_model.specs.declared.answer.Answer.TheVariants.{Stored, Got, Present, Dropped, Renamed, Memory, Absent as AbsentAnswer};
+ghost use Rattle.journal_model.specs.declared.answer.Answer.TheVariants.{Unknown as UnknownAnswer, Unsupported as UnsupportedAnswer, Unsent as UnsentAnswer};
+ghost use Rattle.journal_model.specs.declared.answer.Answer.TheVariants.{Failed as FailedAnswer, Size as SizeAnswer};
 ghost use Rattle.task_text.specs.declared.task.Work.TheVariants.{XCheck, XDrop};
 ghost use Rattle.task_run.specs.Runs.{TaskRun};
 ghost use Rattle.task_run.specs.Rows.{asks, asks_named, fetched_1, first_turn, got_abc, part_gone, renamed, setup_of, sized};
@@ -18,7 +20,8 @@ pub fn export_store_runs()
     ensures memory { TaskRun store_docs (first_turn 1) (setup_of 0) [] [] (sized (codes "f") 2) [] Memory }
     ensures gone { TaskRun store_docs (first_turn 1) (setup_of 0) [] (record { request = None; name = None; verdict = Unsent } ∷ []) (sized (codes "f") 2) [] UnsentAnswer }
     ensures nameless { TaskRun store_docs (first_turn 1) (setup_of 0) [] (asks (Transferexport true (codes "WORM-s2--a") (codes "f")) (Done 14) ∷ []) (sized (codes "f") 2) [] Stored → ⊥ }
-    ensures other_name { TaskRun store_docs (first_turn 1) (setup_of 0) [] (asks_named (codes "docs/a") (Transferexport true (codes "WORM-s2--a") (codes "f")) (Done 14) ∷ []) (sized (codes "f") 2) [] Stored → ⊥ }
+    ensures other_name { TaskRun store_docs (first_turn 1) (setup_of 0) []
+        (asks_named (codes "docs/a") (Transferexport true (codes "WORM-s2--a") (codes "f")) (Done 14) ∷ []) (sized (codes "f") 2) [] Stored → ⊥ }
     ensures not_stored { TaskRun store_docs (first_turn 1) (setup_of 0) [] (stores_docs (Failed 14)) (sized (codes "f") 2) [] Stored → ⊥ }
     ensures plain { TaskRun store_docs (first_turn 1) (setup_of 0) [] (asks (Transfer true (codes "WORM-s2--a") (codes "f")) (Done 14) ∷ []) (sized (codes "f") 2) [] Stored → ⊥ }
     ensures twice { TaskRun store_docs (first_turn 1) (setup_of 0) [] (stores_docs (Done 14) ++ stores_docs (Done 19)) (sized (codes "f") 2) [] Stored → ⊥ }
@@ -46,7 +49,8 @@ pub fn export_get_runs()
     ensures wrong_length { TaskRun get_docs (first_turn 1) (setup_of 0) [] (gets_docs (Done 14)) (sized fetched_1 2 ++ part_gone) [] (SizeAnswer 2) }
     ensures failed { TaskRun get_docs (first_turn 1) (setup_of 0) [] (gets_docs (Failed 14)) [] [] (FailedAnswer 14) }
     ensures memory { TaskRun get_docs (first_turn 1) (setup_of 0) [] (gets_docs (Done 14)) (got_abc (codes "abc")) [] Memory }
-    ensures nameless { TaskRun get_docs (first_turn 1) (setup_of 0) [] (asks (Transferexport false (codes "WORM-s3--a") fetched_1) (Done 14) ∷ []) (sized fetched_1 2 ++ part_gone) [] (SizeAnswer 2) → ⊥ }
+    ensures nameless { TaskRun get_docs (first_turn 1) (setup_of 0) []
+        (asks (Transferexport false (codes "WORM-s3--a") fetched_1) (Done 14) ∷ []) (sized fetched_1 2 ++ part_gone) [] (SizeAnswer 2) → ⊥ }
     ensures plain { TaskRun get_docs (first_turn 1) (setup_of 0) [] (asks (Transfer false (codes "WORM-s3--a") fetched_1) (Done 14) ∷ []) (sized fetched_1 2 ++ part_gone) [] (SizeAnswer 2) → ⊥ }
     ensures part_stays { TaskRun get_docs (first_turn 1) (setup_of 0) [] (gets_docs (Done 14)) (sized fetched_1 2) [] (SizeAnswer 2) → ⊥ }
     ensures unasked { TaskRun get_docs (first_turn 1) (setup_of 0) [] [] (got_abc (codes "abc") ++ renamed) [] Got → ⊥ }

@@ -4,7 +4,8 @@ ghost use Rattle.journal_model.specs.declared.verdict.Why.TheVariants.{Eof, Clos
 ghost use Rattle.journal_model.specs.declared.verdict.Verdict.TheVariants.{Done, Failed, Absent, Unsupported, Unknown, Ended, Unsent};
 ghost use Rattle.annex_model.specs.Messages.{Checkpresent};
 ghost use Rattle.journal_model.specs.declared.answer.Answer.{Answer};
-ghost use Rattle.journal_model.specs.declared.answer.Answer.TheVariants.{Present, Absent as AbsentAnswer, Unsupported as UnsupportedAnswer, StartFault, Memory, Unknown as UnknownAnswer, NotPrepared, Ended as EndedAnswer};
+ghost use Rattle.journal_model.specs.declared.answer.Answer.TheVariants.{Present, Absent as AbsentAnswer, Unsupported as UnsupportedAnswer, StartFault, Memory};
+ghost use Rattle.journal_model.specs.declared.answer.Answer.TheVariants.{Unknown as UnknownAnswer, NotPrepared, Ended as EndedAnswer};
 ghost use Rattle.journal_model.specs.declared.entry.What.TheVariants.{Claim, Start, NoStart, Mute, Got, End, Verdict as Settled, Lost};
 ghost use Rattle.journal_model.specs.Rows.{sample_key, by_main, introduced, greeting, asking, check_present, crossed, tag_left_off, no_disk, away};
 ghost use Rattle.task_run.specs.TaskRuns.{askings, CheckRun, CheckTask};
@@ -54,7 +55,8 @@ pub fn check_tasks()
     ensures startfault { CheckTask sample_key (by_main (NoStart 0) ∷ by_main (Claim 1 0) ∷ []) 1 StartFault }
     ensures ended { CheckTask sample_key (by_main (Start 1 0 false) ∷ by_main (End 1 Eof) ∷ by_main (Claim 1 0) ∷ []) 1 (EndedAnswer Eof) }
     ensures refused { CheckTask sample_key no_disk 1 (NotPrepared 8) }
-    ensures unsupported { CheckTask sample_key (introduced ++ by_main (Got 1 (codes "UNSUPPORTED-REQUEST")) ∷ by_main (Settled 1 1 (Unsupported 8)) ∷ by_main (End 1 Eof) ∷ by_main (Claim 1 0) ∷ []) 1 (NotPrepared 8) }
+    ensures unsupported { CheckTask sample_key
+        (introduced ++ by_main (Got 1 (codes "UNSUPPORTED-REQUEST")) ∷ by_main (Settled 1 1 (Unsupported 8)) ∷ by_main (End 1 Eof) ∷ by_main (Claim 1 0) ∷ []) 1 (NotPrepared 8) }
     ensures memory { CheckTask sample_key (by_main (Claim 1 0) ∷ []) 1 Memory }
     ensures unclaimed { CheckTask sample_key [] 1 Present → ⊥ }
     ensures invented { CheckTask sample_key (by_main (NoStart 0) ∷ by_main (Claim 1 0) ∷ []) 1 Present → ⊥ }

@@ -14,10 +14,7 @@ pub fn fetch_name(alloc: Global, setup: &Setup, turn: TaskTurn, n: u64) -> Resul
     ensures name { IfOk result (λ name. name ≡ fetch_file setup.now turn n) }
     ensures line { IfOk result (λ name. has_newline name ≡ false) }
 {
-    match request_name(alloc, setup, turn, n, ".fetch") {
-        Ok(name) => Ok(name),
-        Err(error) => Err(error),
-    }
+    request_name(alloc, setup, turn, n, ".fetch")
 }
 
 /// What request n of the task's turn stores a chunk from.
@@ -26,10 +23,7 @@ pub fn chunk_name(alloc: Global, setup: &Setup, turn: TaskTurn, n: u64) -> Resul
     ensures name { IfOk result (λ name. name ≡ chunk_file setup.now turn n) }
     ensures line { IfOk result (λ name. has_newline name ≡ false) }
 {
-    match request_name(alloc, setup, turn, n, ".chunk") {
-        Ok(name) => Ok(name),
-        Err(error) => Err(error),
-    }
+    request_name(alloc, setup, turn, n, ".chunk")
 }
 
 // The file of request n of the task's turn, with this ending.
@@ -42,10 +36,8 @@ fn request_name(
 ) -> Result<Text, NoMemory>
     ensures { IfOk result (λ name. name ≡ request_file setup.now turn n ending.now) }
 {
-    match turn_text(alloc, turn.turn) {
-        Ok(text) => request_text(alloc, setup, turn.task, n, text.view(), ending),
-        Err(error) => Err(error),
-    }
+    let text = turn_text(alloc, turn.turn)?;
+    request_text(alloc, setup, turn.task, n, text.view(), ending)
 }
 
 // The same with what it says of the turn.

@@ -4,19 +4,24 @@ ghost use Rattle.journal_model.specs.declared.verdict.Why.TheVariants.{Eof};
 ghost use Rattle.journal_model.specs.declared.verdict.Verdict.TheVariants.{Done, Failed, Ended};
 ghost use Rattle.ann_outside.specs.declared.file_desk.DeskError.TheVariants.{Missing, Failed as CallFailed};
 ghost use Rattle.ann_outside.specs.declared.file_desk.Call.TheVariants.{Size, Create};
-ghost use Rattle.journal_model.specs.declared.answer.Answer.TheVariants.{Stored, Got, Present, Dropped, Absent as AbsentAnswer, FileFault, NoFile, Memory, Failed as FailedAnswer, Ended as EndedAnswer, Size as SizeAnswer, Hash as HashAnswer};
-ghost use Rattle.task_run.specs.Rows.{task_of, setup_of, first_turn, second_turn, asks, notes, store_a, stores_a, sized, get_abc, fetched_1, gets_abc, got_abc, cut_abc, renamed, part_gone, get_own, got_own, got_away, store_ten, stores_ten, stored_ten, finds_ten, lost_ten, stored_short, cut_behind_filling, made_twice, stores_empty, stored_empty, never_made, empty_key, get_ten, gets_ten, resumed_ten, unread_ten, grown_on_nine, cut_behind_ten, half_read_ten, get_none, goes_on_ten, short_then_more, drop_ten, drops_ten, check_ten, checks_ten, abc, get_md5, gets_md5, resumed_foo, gets_whole_md5, fetched_foo, gets_hi, got_hi, gets_again, got_again};
+ghost use Rattle.journal_model.specs.declared.answer.Answer.TheVariants.{Stored, Got, Present, Dropped, Absent as AbsentAnswer, FileFault, NoFile, Memory};
+ghost use Rattle.journal_model.specs.declared.answer.Answer.TheVariants.{Failed as FailedAnswer, Ended as EndedAnswer, Size as SizeAnswer, Hash as HashAnswer};
+ghost use Rattle.task_run.specs.Rows.{task_of, setup_of, first_turn, second_turn, asks, notes, store_a, stores_a, get_a, gets_a, store_hi, stores_hi, get_hi};
+ghost use Rattle.task_run.specs.Rows.{sized, get_abc, fetched_1, gets_abc, got_abc, cut_abc, renamed, part_gone, get_own, got_own, got_away, store_ten};
+ghost use Rattle.task_run.specs.Rows.{stores_ten, stored_ten, finds_ten, lost_ten, stored_short, cut_behind_filling, made_twice, stores_empty, stored_empty};
+ghost use Rattle.task_run.specs.Rows.{never_made, empty_key, get_ten, gets_ten, resumed_ten, unread_ten, grown_on_nine, cut_behind_ten, half_read_ten};
+ghost use Rattle.task_run.specs.Rows.{get_none, goes_on_ten, short_then_more, drop_ten, drops_ten, check_ten, checks_ten, abc, get_md5, gets_md5, resumed_foo};
+ghost use Rattle.task_run.specs.Rows.{gets_whole_md5, fetched_foo, gets_hi, got_hi, gets_again, got_again};
 ghost use Rattle.ann_key.specs.Keys.{Parts, key_reading};
 ghost use Rattle.ann_digest.specs.Fits.{IsDigestFor, FitsKey};
 ghost use Rattle.task_run.specs.Runs.{TaskRun};
-ghost use Rattle.annex_model.specs.Messages.{Transfer};
 ghost use Rattle.std.specs.Prelude.{true, false};
-ghost use Rattle.task_text.specs.declared.task.Work.TheVariants.{Store, Get};
+ghost use Rattle.task_text.specs.declared.task.Work.TheVariants.{Store};
 ghost use Rattle.task_run.specs.RunLaws.{GotNeedsFit};
 ghost use Rattle.task_run.specs.Reads.{holds, are_found_so};
 ghost use Rattle.task_run.specs.Names.{chunk_file, fetch_file};
-ghost use Rattle.task_run.specs.Askings.{TaskStretch, run_askings, run_notings, run_turn, is_last_run, desk_of};
-ghost use Rattle.task_run.specs.StretchRows.{dropped_twice, lost_answer, removes};
+ghost use Rattle.task_run.specs.Askings.{desk_of};
+ghost use Rattle.task_run.specs.StretchRows.{HasRun, dropped_twice, lost_answer, removes};
 ghost use Rattle.journal_model.specs.Rows.{crossed};
 
 use ann_digest::Digest;
@@ -100,7 +105,7 @@ pub fn plain_get_runs()
     ensures never_sized { TaskRun get_abc (first_turn 1) (setup_of 0) [] (gets_abc (Done 13)) (drop 1 (got_abc (codes "abc")) ++ renamed) [] Got → ⊥ }
     ensures length_passed_over { TaskRun get_abc (first_turn 1) (setup_of 0) [] (gets_abc (Done 13)) (sized fetched_1 2 ++ drop 1 (got_abc (codes "abc")) ++ renamed) [] Got → ⊥ }
     ensures never_renamed { TaskRun get_abc (first_turn 1) (setup_of 0) [] (gets_abc (Done 13)) (got_abc (codes "abc")) [] Got → ⊥ }
-    ensures never_looked_at { TaskRun (task_of Get (codes "WORM--a") (codes "o")) (first_turn 1) (setup_of 0) [] (asks (Transfer false (codes "WORM--a") fetched_1) (Done 13) ∷ []) (Create (codes "o.part") (Ok tt) ∷ renamed) [] Got → ⊥ }
+    ensures never_looked_at { TaskRun get_a (first_turn 1) (setup_of 0) [] (gets_a (Done 13)) (Create (codes "o.part") (Ok tt) ∷ renamed) [] Got → ⊥ }
     ensures misses { TaskRun get_abc (first_turn 1) (setup_of 0) [] (gets_abc (Done 13)) (Size fetched_1 (Err Missing) ∷ []) [] Got → ⊥ }
     ensures not_absent { TaskRun get_abc (first_turn 1) (setup_of 0) [] (gets_abc (Done 13)) (Size fetched_1 (Err Missing) ∷ []) [] AbsentAnswer → ⊥ }
 {}
@@ -113,9 +118,9 @@ pub fn fitting_runs()
     ensures other_size { TaskRun get_abc (first_turn 1) (setup_of 0) [] (gets_abc (Done 13)) (got_abc (codes "ab") ++ renamed) [] Got → ⊥ }
     ensures half_fetched { TaskRun get_abc (first_turn 1) (setup_of 0) [] (gets_abc (Done 13)) (got_abc (codes "ab") ++ part_gone) [] (SizeAnswer 2) → ⊥ }
     ensures resumed { TaskRun get_ten (first_turn 1) (setup_of 0) ((4, 3) ∷ []) gets_ten resumed_ten [] Got }
-    ensures stored_first { TaskRun (task_of Store (codes "WORM-s2--a") (codes "f")) (first_turn 1) (setup_of 0) [] (asks (Transfer true (codes "WORM-s2--a") (codes "f")) (Done 13) ∷ []) (sized (codes "f") 2) [] Stored }
-    ensures got_then { TaskRun (task_of Get (codes "WORM-s2--a") (codes "o")) (first_turn 2) (setup_of 0) [] gets_hi got_hi [] Got }
-    ensures got_as_other { TaskRun (task_of Get (codes "WORM-s2--a") (codes "o")) (first_turn 1) (setup_of 0) [] gets_hi got_hi [] Got → ⊥ }
+    ensures stored_first { TaskRun store_hi (first_turn 1) (setup_of 0) [] (stores_hi (Done 13)) (sized (codes "f") 2) [] Stored }
+    ensures got_then { TaskRun get_hi (first_turn 2) (setup_of 0) [] gets_hi got_hi [] Got }
+    ensures got_as_other { TaskRun get_hi (first_turn 1) (setup_of 0) [] gets_hi got_hi [] Got → ⊥ }
     ensures got_again { TaskRun get_abc (second_turn 1) (setup_of 0) [] gets_again got_again [] Got }
     ensures other_turn { TaskRun get_abc (second_turn 1) (setup_of 0) [] (gets_abc (Done 13)) (got_abc (codes "abc") ++ renamed) [] Got → ⊥ }
     ensures not_looked_at { TaskRun get_ten (first_turn 1) (setup_of 0) ((4, 3) ∷ []) gets_ten unread_ten [] Got → ⊥ }
@@ -166,7 +171,7 @@ pub fn got_needs_fit()
 
 /// Each run of a task that is run twice has its own turn, requests, notes and answer. The main thread and the first worker use desk 1.
 pub fn stretches()
-    ensures first { (run : TaskStretch dropped_twice 1) × (run_askings run ≡ removes (Ended Eof)) × (run_notings run ≡ []) × (run.answer ≡ lost_answer) × (run_turn run ≡ first_turn 1) × (is_last_run run ≡ false) }
-    ensures second { (run : TaskStretch dropped_twice 1) × (run_askings run ≡ removes (Done 29)) × (run_notings run ≡ notes 4 0 1 ∷ []) × (run.answer ≡ Dropped) × (run_turn run ≡ second_turn 1) × (is_last_run run ≡ true) }
+    ensures first { HasRun dropped_twice 1 (removes (Ended Eof)) [] lost_answer (first_turn 1) false }
+    ensures second { HasRun dropped_twice 1 (removes (Done 29)) (notes 4 0 1 ∷ []) Dropped (second_turn 1) true }
     ensures desks { (desk_of dropped_twice 0 1 ≡ 1) × (desk_of dropped_twice 1 1 ≡ 1) × (desk_of dropped_twice 3 1 ≡ 2) × (desk_of crossed 1 1 ≡ 1) × (desk_of crossed 5 1 ≡ 2) }
 {}

@@ -1,6 +1,6 @@
 -- The calls of a store in chunks.
 use Rattle.std.proofs.Common.{◌≡◌, ◌∙◌, ℕ, zero, suc, ◌+◌, ◌<◌, ◌≤◌, List, [], ◌∷◌, ◌++◌, length, map, refl, sym, ap, subst, arith, append-nil, append_assoc, take}
-use Rattle.std.specs.Prelude.{Bool, true, false, ◌&&◌, ◌||◌, nat_le, nat_lt, ◌==◌, bytes_eq, filter, is_none, Option, Some, None, Ok, Err}
+use Rattle.std.specs.Prelude.{Bool, true, false, ◌&&◌, ◌||◌, nat_le, nat_lt, ◌==◌, bytes_eq, filter, is_none, Option, Some, Ok, Err}
 use Rattle.std.specs.List.{list_all, list_any, filter_map, concat, range_with_len}
 use Rattle.std.proofs.Math.Seq.{take-append_seam}
 use Rattle.std.proofs.lemmas.List.Elements.{filter_map-append}

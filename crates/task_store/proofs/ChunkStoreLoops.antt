@@ -78,6 +78,17 @@ seeking_more key chunk count n before between after v s low o d = record {
   so_many = length-append s.there (record { request = o.request; name = None; verdict = v } ∷ []) ∙ ap (λ k. k + 1) s.so_many;
 }
 
+pub seeks_without : (key : Parts) (chunk count n : ℕ) (before between after : List Asking) (e : NoMemory) → Seeking key chunk count before between n → after ≡ between
+    → Seeks key chunk count before after (Err e)
+seeks_without key chunk count n before between after e s same = record {
+  there = s.there;
+  last = [];
+  pairs_are = rw append-nil (same ∙ s.pairs_are);
+  in_order = rw append-nil s.in_order;
+  each_there = s.each_there;
+  ends = refl;
+}
+
 pub seeks_missing : (key : Parts) (chunk count n : ℕ) (before between after : List Asking) (v : Verdict) → Seeking key chunk count before between n → n < count
     → AsksOneFor present_request (with_chunk chunk (n + 1) key) between after v → is_missing_at v ≡ true → Seeks key chunk count before after (Ok (Missing n))
 seeks_missing key chunk count n before between after v s low o d = record {

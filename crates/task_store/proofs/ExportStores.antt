@@ -14,7 +14,7 @@ use Rattle.ann_outside.specs.declared.file_desk.DeskError.TheVariants as E
 use Rattle.ann_outside.specs.declared.file_desk.Call.{Call}
 use Rattle.ann_outside.specs.declared.file_desk.Call.TheVariants.{Size}
 use Rattle.fetch_copy.proofs.CopyLaws.{gained_call, gained_without}
-use Rattle.task_run.specs.Askers.{Asking, KeepsRequest, AsksOne}
+use Rattle.task_run.specs.Askers.{Asking, AsksOne}
 use Rattle.journal_model.specs.declared.answer.Answer.{Answer}
 use Rattle.journal_model.specs.declared.answer.Answer.TheVariants.{Memory, Stored, Size as SizeAnswer}
 use Rattle.task_run.specs.declared.setup.Setup.{Setup}

@@ -1,11 +1,11 @@
 // Storing content in chunks.
-ghost use Rattle.std.specs.Prelude.{◌≡◌, ◌≤◌, ◌<◌, ◌+◌, ◌^◌, [], None, Some, Ok, IfOk, length, true, false};
+ghost use Rattle.std.specs.Prelude.{◌≡◌, ◌≤◌, ◌<◌, ◌+◌, ◌^◌, [], Ok, IfOk, length, true, false};
 ghost use Rattle.ann_key.specs.Keys.{with_chunk};
-ghost use Rattle.ann_key.specs.KeyRefs.{parts_of, text_of};
+ghost use Rattle.ann_key.specs.KeyRefs.{parts_of};
 ghost use Rattle.annex_model.specs.Lines.{has_newline};
-ghost use Rattle.annex_model.specs.Messages.{Checkpresent, Transfer, is_sent_key};
+ghost use Rattle.annex_model.specs.Messages.{Checkpresent, Transfer};
 ghost use Rattle.ann_outside.specs.Calls.{logged};
-ghost use Rattle.ann_outside.specs.declared.file_desk.Call.TheVariants.{Remove, Size};
+ghost use Rattle.ann_outside.specs.declared.file_desk.Call.TheVariants.{Remove};
 ghost use Rattle.chunk_plan.specs.Layouts.{count_of, from_of, to_of};
 ghost use Rattle.task_text.specs.TaskLines.{IsTask};
 ghost use Rattle.task_text.specs.declared.task.Work.TheVariants as W;
@@ -15,9 +15,9 @@ ghost use Rattle.task_store.specs.ChunkStoring.{AsksNext, from_file, Seeks, Stor
 ghost use Rattle.task_run.specs.Fetching.{Outcome};
 ghost use Rattle.task_run.specs.Names.{chunk_file};
 ghost use Rattle.task_run.specs.Ran.{RanStore, IsInChunks, HasQuietCauses, is_verdict_of, may_follow_refusal};
-ghost use Rattle.task_run.specs.declared.setup.Setup.{Setup};
 
-use ann_key::{KeyRef, NoMemory};
+use crate::stores::{Chunk, Store};
+use ann_key::NoMemory;
 use ann_outside::{Desk, DeskError};
 use chunk_plan::{count, piece, range};
 use fetch_copy::{Copied, copy_out};
@@ -58,77 +58,58 @@ fn said_of(verdict: Verdict) -> Standing
     }
 }
 
-// Whether a chunk is there.
+// Whether the nth chunk is there.
 fn ask_there<A: Asker>(
     alloc: Global,
     asker: &mut A,
-    number: u32,
-    key: KeyRef<'_>,
-    chunk: u64,
+    store: Store<'_>,
     n: u64,
 ) -> Result<Verdict, NoMemory>
-    requires task { number ≡ A.task asker.old }
+    requires task { store.turn.task ≡ A.task asker.old }
     requires ready { A.ready asker.old }
-    requires sent { is_sent_key (text_of key) ≡ true }
-    requires whole { (parts_of key).chunk ≡ None }
-    requires chunk { 0 < chunk }
     requires first { 0 < n }
-    ensures pairs { AsksNext present_request (with_chunk chunk n (parts_of key.entry)) (A.pairs asker.old) (A.pairs asker.new) result }
+    ensures pairs { AsksNext present_request (with_chunk store.entry.setup.now.chunk n (parts_of store.entry.key)) (A.pairs asker.old) (A.pairs asker.new) result }
     ensures verdict { IfOk result (λ v. is_verdict_of (Checkpresent []) v ≡ true) }
     ensures notes { A.notes asker.new ≡ A.notes asker.old }
     ensures same { IsSameTask (A.task asker.old) (A.task asker.new) (A.may_note asker.old) (A.may_note asker.new) (A.loans asker.old) (A.loans asker.new) }
     ensures on { A.goes_on asker.old asker.new }
 {
-    let Ok(key) = piece(alloc, key, chunk, n) else {
-        return Err(NoMemory);
-    };
-    ask::present(alloc, asker, number, key.view())
+    let key = piece(alloc, store.key, store.setup.chunk, n)?;
+    ask::present(alloc, asker, store.turn.task, key.view())
 }
 
-// That a chunk be stored from the named file.
+// That the nth chunk be stored from the named file.
 fn ask_stored<A: Asker>(
     alloc: Global,
     asker: &mut A,
-    number: u32,
-    key: KeyRef<'_>,
-    chunk: u64,
+    store: Store<'_>,
     n: u64,
     name: &str,
 ) -> Result<Verdict, NoMemory>
-    requires task { number ≡ A.task asker.old }
+    requires task { store.turn.task ≡ A.task asker.old }
     requires ready { A.ready asker.old }
-    requires sent { is_sent_key (text_of key) ≡ true }
-    requires whole { (parts_of key).chunk ≡ None }
-    requires chunk { 0 < chunk }
     requires first { 0 < n }
     requires line { has_newline name.now ≡ false }
-    ensures pairs { AsksNext (from_file name.now) (with_chunk chunk n (parts_of key.entry)) (A.pairs asker.old) (A.pairs asker.new) result }
+    ensures pairs { AsksNext (from_file name.now) (with_chunk store.entry.setup.now.chunk n (parts_of store.entry.key)) (A.pairs asker.old) (A.pairs asker.new) result }
     ensures verdict { IfOk result (λ v. is_verdict_of (Transfer true [] []) v ≡ true) }
     ensures notes { A.notes asker.new ≡ A.notes asker.old }
     ensures same { IsSameTask (A.task asker.old) (A.task asker.new) (A.may_note asker.old) (A.may_note asker.new) (A.loans asker.old) (A.loans asker.new) }
     ensures on { A.goes_on asker.old asker.new }
 {
-    let Ok(key) = piece(alloc, key, chunk, n) else {
-        return Err(NoMemory);
-    };
-    ask::transfer(alloc, asker, number, true, key.view(), name)
+    let key = piece(alloc, store.key, store.setup.chunk, n)?;
+    ask::transfer(alloc, asker, store.turn.task, true, key.view(), name)
 }
 
 // Asks for the chunks in their order, until one isn't there.
 fn seek<A: Asker>(
     alloc: Global,
     asker: &mut A,
-    number: u32,
-    key: KeyRef<'_>,
-    chunk: u64,
+    store: Store<'_>,
     count: u64,
 ) -> Result<Sought, NoMemory>
-    requires task { number ≡ A.task asker.old }
+    requires task { store.turn.task ≡ A.task asker.old }
     requires ready { A.ready asker.old }
-    requires sent { is_sent_key (text_of key) ≡ true }
-    requires whole { (parts_of key).chunk ≡ None }
-    requires chunk { 0 < chunk }
-    ensures pairs { Seeks (parts_of key.entry) chunk count (A.pairs asker.old) (A.pairs asker.new) result }
+    ensures pairs { Seeks (parts_of store.entry.key) store.entry.setup.now.chunk count (A.pairs asker.old) (A.pairs asker.new) result }
     ensures answer { IfOk result (λ sought. IsQuiet sought) }
     ensures notes { A.notes asker.new ≡ A.notes asker.old }
     ensures same { IsSameTask (A.task asker.old) (A.task asker.new) (A.may_note asker.old) (A.may_note asker.new) (A.loans asker.old) (A.loans asker.new) }
@@ -136,13 +117,11 @@ fn seek<A: Asker>(
 {
     let mut there = 0;
     while there < count {
-        match ask_there(alloc, asker, number, key, chunk, there + 1) {
-            Ok(verdict) => match said_of(verdict) {
-                Standing::There => there += 1,
-                Standing::Missing => return Ok(Sought::Missing(there)),
-                Standing::Over(answer) => return Ok(Sought::Over(answer)),
-            },
-            Err(error) => return Err(error),
+        let verdict = ask_there(alloc, asker, store, there + 1)?;
+        match said_of(verdict) {
+            Standing::There => there += 1,
+            Standing::Missing => return Ok(Sought::Missing(there)),
+            Standing::Over(answer) => return Ok(Sought::Over(answer)),
         }
     }
     Ok(Sought::All)
@@ -161,17 +140,16 @@ fn copy_chunk<D: Desk>(
     ensures copied { CopiesChunk file.now name.now from to (D.log desk.old) (D.log desk.new) result }
     ensures causes { HasQuietCauses (D.counts desk.old) (D.counts desk.new) (so_far result) }
 {
-    match copy_out(alloc, desk, file, from, to, name) {
-        Ok(Copied::Done(n)) => {
+    match copy_out(alloc, desk, file, from, to, name)? {
+        Copied::Done(n) => {
             if n < to - from {
                 Ok(Some(Answer::Size { bytes: n }))
             } else {
                 Ok(None)
             }
         }
-        Ok(Copied::Fault) => Ok(Some(Answer::FileFault)),
-        Ok(Copied::Missing) => Ok(Some(Answer::NoFile)),
-        Err(error) => Err(error),
+        Copied::Fault => Ok(Some(Answer::FileFault)),
+        Copied::Missing => Ok(Some(Answer::NoFile)),
     }
 }
 
@@ -213,90 +191,65 @@ fn settle_chunk<D: Desk>(
     }
 }
 
-// Stores one chunk, by a file of this name.
-fn store_range<A: Asker, D: Desk>(
+// Stores one chunk, by a file of its own.
+fn store_copied<A: Asker, D: Desk>(
     alloc: Global,
-    key: KeyRef<'_>,
-    chunk: u64,
-    n: u64,
-    file: &str,
-    from: u64,
-    to: u64,
-    name: &str,
-    number: u32,
+    store: Store<'_>,
+    chunk: Chunk<'_>,
     asker: &mut A,
     desk: &mut D,
 ) -> Result<Option<Answer>, NoMemory>
-    requires range { from ≤ to }
-    requires task { number ≡ A.task asker.old }
+    requires range { chunk.from ≤ chunk.to }
+    requires first { 0 < chunk.number }
+    requires line { has_newline chunk.name.now ≡ false }
+    requires task { store.turn.task ≡ A.task asker.old }
     requires ready { A.ready asker.old }
-    requires sent { is_sent_key (text_of key) ≡ true }
-    requires whole { (parts_of key).chunk ≡ None }
-    requires chunk { 0 < chunk }
-    requires first { 0 < n }
-    requires line { has_newline name.now ≡ false }
-    ensures stored { StoresChunk file.now name.now from to (with_chunk chunk n (parts_of key.entry)) (A.pairs asker.old) (A.pairs asker.new) (D.log desk.old) (D.log desk.new) result }
+    ensures stored { StoresChunk store.entry.file.now chunk.entry.name.now chunk.entry.from chunk.entry.to (with_chunk store.entry.setup.now.chunk chunk.entry.number (parts_of store.entry.key))
+        (A.pairs asker.old) (A.pairs asker.new) (D.log desk.old) (D.log desk.new) result }
     ensures notes { A.notes asker.new ≡ A.notes asker.old }
     ensures same { IsSameTask (A.task asker.old) (A.task asker.new) (A.may_note asker.old) (A.may_note asker.new) (A.loans asker.old) (A.loans asker.new) }
     ensures on { A.goes_on asker.old asker.new }
     ensures causes { HasQuietCauses (D.counts desk.old) (D.counts desk.new) (so_far result) }
 {
-    match copy_chunk(alloc, desk, file, from, to, name) {
-        Ok(None) => match ask_stored(alloc, asker, number, key, chunk, n, name) {
-            Ok(verdict) => settle_chunk(desk, name, verdict),
-            Err(error) => Err(error),
-        },
-        Ok(Some(answer)) => Ok(Some(answer)),
-        Err(error) => Err(error),
+    match copy_chunk(alloc, desk, store.file, chunk.from, chunk.to, chunk.name)? {
+        None => {
+            let verdict = ask_stored(alloc, asker, store, chunk.number, chunk.name)?;
+            settle_chunk(desk, chunk.name, verdict)
+        }
+        Some(answer) => Ok(Some(answer)),
     }
 }
 
-// Stores one chunk. Its request is the one after as many as chunks stand before it, and the question that found one missing.
+// Stores the nth chunk. Its request is the one after as many as chunks stand before it, and the question that found one missing.
 fn store_chunk<A: Asker, D: Desk>(
     alloc: Global,
-    key: KeyRef<'_>,
+    store: Store<'_>,
     n: u64,
-    file: &str,
-    size: u64,
-    turn: TaskTurn,
-    setup: &Setup,
     asker: &mut A,
     desk: &mut D,
 ) -> Result<Option<Answer>, NoMemory>
-    requires folder { has_newline setup.now.work ≡ false }
-    requires task { turn.task ≡ A.task asker.old }
+    requires task { store.turn.task ≡ A.task asker.old }
     requires ready { A.ready asker.old }
-    requires sent { is_sent_key (text_of key) ≡ true }
-    requires whole { (parts_of key).chunk ≡ None }
-    requires chunk { 0 < setup.now.chunk }
     requires first { 0 < n }
-    requires last { n ≤ count_of size setup.now.chunk }
+    requires last { n ≤ count_of store.size store.setup.now.chunk }
     requires small { n + 1 < 2 ^ 64 }
-    ensures stored { StoresChunk file.now (chunk_file setup.now turn (n + 1)) (from_of setup.now.chunk n) (to_of size setup.now.chunk n)
-        (with_chunk setup.now.chunk n (parts_of key.entry)) (A.pairs asker.old) (A.pairs asker.new) (D.log desk.old) (D.log desk.new) result }
+    ensures stored { StoresChunk store.entry.file.now (chunk_file store.entry.setup.now store.entry.turn (n + 1))
+        (from_of store.entry.setup.now.chunk n) (to_of store.entry.size store.entry.setup.now.chunk n)
+        (with_chunk store.entry.setup.now.chunk n (parts_of store.entry.key)) (A.pairs asker.old) (A.pairs asker.new) (D.log desk.old) (D.log desk.new) result }
     ensures notes { A.notes asker.new ≡ A.notes asker.old }
     ensures same { IsSameTask (A.task asker.old) (A.task asker.new) (A.may_note asker.old) (A.may_note asker.new) (A.loans asker.old) (A.loans asker.new) }
     ensures on { A.goes_on asker.old asker.new }
     ensures causes { HasQuietCauses (D.counts desk.old) (D.counts desk.new) (so_far result) }
 {
-    let Ok(name) = chunk_name(alloc, setup, turn, n + 1) else {
-        return Err(NoMemory);
-    };
-    let (from, to) = range(size, setup.chunk, n);
-    let name = name.view();
-    store_range(
-        alloc,
-        key,
-        setup.chunk,
-        n,
-        file,
+    let name = chunk_name(alloc, store.setup, store.turn, n + 1)?;
+    let (from, to) = range(store.size, store.setup.chunk, n);
+    let chunk = Chunk {
+        number: n,
         from,
         to,
-        name,
-        turn.task,
-        asker,
-        desk,
-    )
+        name: name.view(),
+    };
+    store_copied(alloc, store, chunk, asker, desk)
 }
 
 // Notes that the chunks are there.
@@ -315,87 +268,66 @@ fn note_chunks<A: Asker>(
     ensures same { IsSameTask (A.task asker.old) (A.task asker.new) (A.may_note asker.old) (A.may_note asker.new) (A.loans asker.old) (A.loans asker.new) }
     ensures on { A.goes_on asker.old asker.new }
 {
-    match asker.note(number, chunk, count) {
-        Ok(()) => Ok(Answer::Stored),
-        Err(error) => Err(error),
-    }
+    asker.note(number, chunk, count)?;
+    Ok(Answer::Stored)
 }
 
 // Stores the chunks after the first n, and notes them all.
 fn store_from<A: Asker, D: Desk>(
     alloc: Global,
-    key: KeyRef<'_>,
+    store: Store<'_>,
     n: u64,
-    file: &str,
-    size: u64,
-    turn: TaskTurn,
-    setup: &Setup,
     asker: &mut A,
     desk: &mut D,
 ) -> Result<Answer, NoMemory>
-    requires folder { has_newline setup.now.work ≡ false }
-    requires task { turn.task ≡ A.task asker.old }
+    requires task { store.turn.task ≡ A.task asker.old }
     requires ready { A.ready asker.old }
     requires may { A.may_note asker.old ≡ true }
-    requires sent { is_sent_key (text_of key) ≡ true }
-    requires whole { (parts_of key).chunk ≡ None }
-    requires size { (parts_of key).size ≡ Some size }
-    requires chunk { 0 < setup.now.chunk }
-    requires missing { n < count_of size setup.now.chunk }
-    requires small { count_of size setup.now.chunk + 1 < 2 ^ 64 }
-    ensures stored { StoresFrom setup.now turn (parts_of key.entry) file.now size n (A.pairs asker.old) (A.pairs asker.new)
+    requires missing { n < count_of store.size store.setup.now.chunk }
+    requires small { count_of store.size store.setup.now.chunk + 1 < 2 ^ 64 }
+    ensures stored { StoresFrom store.entry.setup.now store.entry.turn (parts_of store.entry.key) store.entry.file.now store.entry.size n (A.pairs asker.old) (A.pairs asker.new)
         (A.notes asker.old) (A.notes asker.new) (D.log desk.old) (D.log desk.new) result }
     ensures same { IsSameTask (A.task asker.old) (A.task asker.new) (A.may_note asker.old) (A.may_note asker.new) (A.loans asker.old) (A.loans asker.new) }
     ensures on { A.goes_on asker.old asker.new }
     ensures causes { HasQuietCauses (D.counts desk.old) (D.counts desk.new) result }
 {
-    let all = count(size, setup.chunk);
+    let all = count(store.size, store.setup.chunk);
     let mut stored = n;
     while stored < all {
-        match store_chunk(alloc, key, stored + 1, file, size, turn, setup, asker, desk) {
-            Ok(None) => stored += 1,
-            Ok(Some(answer)) => return Ok(answer),
-            Err(error) => return Err(error),
+        match store_chunk(alloc, store, stored + 1, asker, desk)? {
+            None => stored += 1,
+            Some(answer) => return Ok(answer),
         }
     }
-    note_chunks(asker, turn.task, setup.chunk, all)
+    note_chunks(asker, store.turn.task, store.setup.chunk, all)
 }
 
 // Stores what is missing of the content, which has the key's size.
 fn store_missing<A: Asker, D: Desk>(
     alloc: Global,
-    key: KeyRef<'_>,
-    file: &str,
-    size: u64,
-    turn: TaskTurn,
-    setup: &Setup,
+    store: Store<'_>,
     asker: &mut A,
     desk: &mut D,
 ) -> Result<Answer, NoMemory>
-    requires folder { has_newline setup.now.work ≡ false }
-    requires task { turn.task ≡ A.task asker.old }
+    requires task { store.turn.task ≡ A.task asker.old }
     requires ready { A.ready asker.old }
     requires may { A.may_note asker.old ≡ true }
-    requires sent { is_sent_key (text_of key) ≡ true }
-    requires whole { (parts_of key).chunk ≡ None }
-    requires size { (parts_of key).size ≡ Some size }
-    requires chunk { 0 < setup.now.chunk }
-    ensures stored { StoresSized setup.now turn (parts_of key.entry) file.now size (A.pairs asker.old) (A.pairs asker.new)
+    ensures stored { StoresSized store.entry.setup.now store.entry.turn (parts_of store.entry.key) store.entry.file.now store.entry.size (A.pairs asker.old) (A.pairs asker.new)
         (A.notes asker.old) (A.notes asker.new) (D.log desk.old) (D.log desk.new) result }
     ensures same { IsSameTask (A.task asker.old) (A.task asker.new) (A.may_note asker.old) (A.may_note asker.new) (A.loans asker.old) (A.loans asker.new) }
     ensures on { A.goes_on asker.old asker.new }
     ensures causes { HasQuietCauses (D.counts desk.old) (D.counts desk.new) result }
 {
-    let all = count(size, setup.chunk);
+    let chunk = store.setup.chunk;
+    let all = count(store.size, chunk);
     // No memory holds the requests of so many chunks.
     if all > u64::MAX - 2 {
         return Err(NoMemory);
     }
-    match seek(alloc, asker, turn.task, key, setup.chunk, all) {
-        Ok(Sought::All) => note_chunks(asker, turn.task, setup.chunk, all),
-        Ok(Sought::Missing(n)) => store_from(alloc, key, n, file, size, turn, setup, asker, desk),
-        Ok(Sought::Over(answer)) => Ok(answer),
-        Err(error) => Err(error),
+    match seek(alloc, asker, store, all)? {
+        Sought::All => note_chunks(asker, store.turn.task, chunk, all),
+        Sought::Missing(n) => store_from(alloc, store, n, asker, desk),
+        Sought::Over(answer) => Ok(answer),
     }
 }
 
@@ -428,7 +360,14 @@ pub fn store_chunks<A: Asker, D: Desk>(
     match desk.size(file) {
         Ok(n) => {
             if n == size {
-                store_missing(alloc, key, file, size, turn, setup, asker, desk)
+                let store = Store {
+                    turn,
+                    setup,
+                    key,
+                    size,
+                    file,
+                };
+                store_missing(alloc, store, asker, desk)
             } else {
                 Ok(Answer::Size { bytes: n })
             }

@@ -38,10 +38,8 @@ pub fn store_export<A: Asker, D: Desk>(
         Ok(n) => {
             if is_size(key.size(), n) {
                 let name = task.name.view();
-                match ask::transfer_named(alloc, asker, turn.task, true, key, file, name) {
-                    Ok(verdict) => Ok(change_answer(Answer::Stored, verdict)),
-                    Err(error) => Err(error),
-                }
+                let verdict = ask::transfer_named(alloc, asker, turn.task, true, key, file, name)?;
+                Ok(change_answer(Answer::Stored, verdict))
             } else {
                 Ok(Answer::Size { bytes: n })
             }

@@ -4,6 +4,7 @@
 mod chunk_store;
 mod export_store;
 mod store;
+mod stores;
 
 pub use chunk_store::store_chunks;
 pub use export_store::store_export;

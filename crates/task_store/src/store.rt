@@ -36,10 +36,8 @@ pub fn store_whole<A: Asker, D: Desk>(
     match desk.size(file) {
         Ok(n) => {
             if is_size(key.size(), n) {
-                match ask::transfer(alloc, asker, turn.task, true, key, file) {
-                    Ok(verdict) => Ok(change_answer(Answer::Stored, verdict)),
-                    Err(error) => Err(error),
-                }
+                let verdict = ask::transfer(alloc, asker, turn.task, true, key, file)?;
+                Ok(change_answer(Answer::Stored, verdict))
             } else {
                 Ok(Answer::Size { bytes: n })
             }

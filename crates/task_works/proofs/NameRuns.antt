@@ -1,6 +1,6 @@
 -- Runs of tasks that check, remove or rename what is there under a name.
 use Rattle.std.proofs.Common.{◌≡◌, ℕ, true, false, List, [], ◌∷◌, refl, sym, subst, append-nil}
-use Rattle.std.specs.Prelude.{Option, Some, Result, Ok, Err, unwrap_or}
+use Rattle.std.specs.Prelude.{Option, Some, Ok, Err, unwrap_or}
 use Rattle.ann_key.specs.Keys.{Parts, key_reading}
 use Rattle.ann_key.specs.declared.bytes.NoMemory.{NoMemory}
 use Rattle.annex_model.specs.Messages.{HostMessage, Checkpresentexport, Removeexport, Renameexport}

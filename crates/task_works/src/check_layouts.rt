@@ -52,24 +52,17 @@ pub fn check<A: Asker>(
     ensures content { IfOk result (λ answer. may_follow_refusal (Ok answer) ≡ false) }
 {
     let key = task.key.view();
-    let Ok(layouts) = asker.layouts(alloc, turn.task) else {
-        return Err(NoMemory);
-    };
-    let Ok(sizes) = sizes_tried(alloc, key.size(), &layouts) else {
-        return Err(NoMemory);
-    };
+    let layouts = asker.layouts(alloc, turn.task)?;
+    let sizes = sizes_tried(alloc, key.size(), &layouts)?;
     let mut missing = Answer::Absent;
     for chunk in &sizes {
-        match ask_layout(alloc, asker, turn.task, Query::Present, key, *chunk) {
-            Ok(None) => return Ok(Answer::Present),
-            Ok(Some(verdict)) => {
-                if is_stop(verdict) {
-                    return Ok(check_answer(verdict));
-                }
-                missing = missing_more(missing, verdict);
-            }
-            Err(error) => return Err(error),
+        let Some(verdict) = ask_layout(alloc, asker, turn.task, Query::Present, key, *chunk)? else {
+            return Ok(Answer::Present);
+        };
+        if is_stop(verdict) {
+            return Ok(check_answer(verdict));
         }
+        missing = missing_more(missing, verdict);
     }
     Ok(missing)
 }

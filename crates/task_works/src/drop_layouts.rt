@@ -49,21 +49,12 @@ pub fn drop_key<A: Asker>(
     ensures content { IfOk result (λ answer. may_follow_refusal (Ok answer) ≡ false) }
 {
     let key = task.key.view();
-    let Ok(layouts) = asker.layouts(alloc, turn.task) else {
-        return Err(NoMemory);
-    };
-    let Ok(sizes) = sizes_tried(alloc, key.size(), &layouts) else {
-        return Err(NoMemory);
-    };
+    let layouts = asker.layouts(alloc, turn.task)?;
+    let sizes = sizes_tried(alloc, key.size(), &layouts)?;
     for chunk in &sizes {
-        match ask_layout(alloc, asker, turn.task, Query::Remove, key, *chunk) {
-            Ok(None) => {
-                if let Err(error) = note_none(asker, turn.task, *chunk) {
-                    return Err(error);
-                }
-            }
-            Ok(Some(verdict)) => return Ok(undone_answer(verdict)),
-            Err(error) => return Err(error),
+        match ask_layout(alloc, asker, turn.task, Query::Remove, key, *chunk)? {
+            None => note_none(asker, turn.task, *chunk)?,
+            Some(verdict) => return Ok(undone_answer(verdict)),
         }
     }
     Ok(Answer::Dropped)

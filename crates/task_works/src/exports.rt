@@ -31,10 +31,8 @@ pub fn check_export<A: Asker>(
 {
     let key = task.key.view();
     let name = task.name.view();
-    match ask::present_named(alloc, asker, turn.task, key, name) {
-        Ok(verdict) => Ok(check_answer(verdict)),
-        Err(error) => Err(error),
-    }
+    let verdict = ask::present_named(alloc, asker, turn.task, key, name)?;
+    Ok(check_answer(verdict))
 }
 
 /// Removes what is there under the task's name.
@@ -56,10 +54,8 @@ pub fn drop_export<A: Asker>(
 {
     let key = task.key.view();
     let name = task.name.view();
-    match ask::remove_named(alloc, asker, turn.task, key, name) {
-        Ok(verdict) => Ok(change_answer(Answer::Dropped, verdict)),
-        Err(error) => Err(error),
-    }
+    let verdict = ask::remove_named(alloc, asker, turn.task, key, name)?;
+    Ok(change_answer(Answer::Dropped, verdict))
 }
 
 /// Gives what is there under the task's name the name that the task has for it.
@@ -82,8 +78,6 @@ pub fn rename_export<A: Asker>(
     let key = task.key.view();
     let name = task.name.view();
     let onto = task.onto.view();
-    match ask::rename_named(alloc, asker, turn.task, key, name, onto) {
-        Ok(verdict) => Ok(change_answer(Answer::Renamed, verdict)),
-        Err(error) => Err(error),
-    }
+    let verdict = ask::rename_named(alloc, asker, turn.task, key, name, onto)?;
+    Ok(change_answer(Answer::Renamed, verdict))
 }

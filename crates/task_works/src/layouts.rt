@@ -131,16 +131,10 @@ pub fn ask_layout<A: Asker>(
     ensures on { A.goes_on asker.old asker.new }
 {
     for at in 0..key_count(key.size(), chunk) {
-        let Ok(piece) = key_at(alloc, key, chunk, at + 1) else {
-            return Err(NoMemory);
-        };
-        match ask_key(alloc, asker, number, query, piece.view()) {
-            Ok(verdict) => {
-                if !is_done(verdict) {
-                    return Ok(Some(verdict));
-                }
-            }
-            Err(error) => return Err(error),
+        let piece = key_at(alloc, key, chunk, at + 1)?;
+        let verdict = ask_key(alloc, asker, number, query, piece.view())?;
+        if !is_done(verdict) {
+            return Ok(Some(verdict));
         }
     }
     Ok(None)

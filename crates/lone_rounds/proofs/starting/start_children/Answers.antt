@@ -1,4 +1,5 @@
 use Rattle.std.proofs.Common.{arith, inl, inr, map, subst, sym, ap, ◌∙◌}
+use Rattle.std.proofs.lemmas.Result.{MatchResult-from_err}
 use Rattle.journal_model.specs.declared.opening.Opening.{Opening}
 use Rattle.journal_model.specs.Legality.{Legal}
 use Rattle.host_core.specs.Steps.{are_all_claimed}
@@ -35,12 +36,12 @@ children-preserved g c =
     let new = c.start_one.new.core.journal in
     let same_opening = c.children.invariant.core.opening in
     let legal : Legal o new = subst (λ (w : Opening). Legal w new) (c.start_one.ensures.core.opening ∙ same_opening) (c.start_one.ensures.core.legal (subst (λ (w : Opening). Legal w cur) (sym same_opening) c.children.invariant.between.spaced.legal)) in
-    let after = next_start o c.children.core.opening c.args.plan.now.setup c.args.plan.now.offers c.args.plan.now.starts c.children.made c.children.offer c.in-Ok.next c.args.plan.now.program cur new
+    let after = next_start o c.children.core.opening c.args.plan.now.setup c.args.plan.now.offers c.args.plan.now.starts c.children.made c.children.offer c.in_ok-offer.offer c.args.plan.now.program cur new
     (desk_tells (g.K.Desk.log c.args.desk.now) (g.K.Desk.counts c.args.desk.now)) (desk_tells (g.K.Desk.log c.children.desk) (g.K.Desk.counts c.children.desk)) (desk_tells (g.K.Desk.log c.start_one.new.desk) (g.K.Desk.counts c.start_one.new.desk))
     (programs_value (g.P.Programs.starts c.args.programs.now) (g.P.Programs.faults c.args.programs.now)) (programs_value (g.P.Programs.starts c.children.programs) (g.P.Programs.faults c.children.programs)) (programs_value (g.P.Programs.starts c.start_one.new.programs) (g.P.Programs.faults c.start_one.new.programs))
     (map (wire_value g.P.Inlet.Sink.taken g.P.Inlet.Sink.faults g.P.Inlet.Sink.number g.P.Inlet.Sink.is_open g.P.Outlet.Source.given g.P.Outlet.Source.left g.P.Outlet.Source.faults g.P.Outlet.Source.number g.P.Outlet.Source.is_open) c.children.wires.items)
     (map (wire_value g.P.Inlet.Sink.taken g.P.Inlet.Sink.faults g.P.Inlet.Sink.number g.P.Inlet.Sink.is_open g.P.Outlet.Source.given g.P.Outlet.Source.left g.P.Outlet.Source.faults g.P.Outlet.Source.number g.P.Outlet.Source.is_open) c.start_one.new.wires.items)
-    same_opening c.children.invariant.between c.children.invariant.kept c.in-Ok.ensures.starts legal in
+    same_opening c.children.invariant.between c.children.invariant.kept c.in_ok-offer.ensures.starts legal in
     record {
       between = after.0;
       kept = after.1;
@@ -65,3 +66,9 @@ returns-clause-kept g c = c.children.invariant.kept
 
 pub returns-then-unclaimed-eq0-clause-kept : goal.returns-then-unclaimed-eq0-clause-kept
 returns-then-unclaimed-eq0-clause-kept g c = c.children.invariant.kept
+
+pub returns-in_err-offer-clause-kept : goal.returns-in_err-offer-clause-kept
+returns-in_err-offer-clause-kept g c =
+    let u = c.in_err-offer.ensures.starts in
+    let before = programs_value (g.P.Programs.starts c.children.programs) (g.P.Programs.faults c.children.programs) in
+    MatchResult-from_err c.from_residual.result _ _ c.from_residual.ensures.0 (λ e. rw (u.journal, u.wires_are) (before, c.children.invariant.kept, u.asked))

@@ -27,7 +27,7 @@ finish-finished-requires g c =
 
 pub returns-in-Ok-clause-ends : goal.returns-in-Ok-clause-ends
 returns-in-Ok-clause-ends g c =
-    let words = c.args.words.now in
+    let words = c.args.setting.now.words.now in
     let o = c.args.ready.core.opening in
     let crew = c.run_jobs-bench.result.0.desks in
     let journal = c.run_jobs-bench.result.0.core.journal in
@@ -50,7 +50,7 @@ returns-in-Ok-clause-leaves g c =
 
 pub returns-clause-ends : goal.returns-clause-ends
 returns-clause-ends g c =
-    let words = c.args.words.now in
+    let words = c.args.setting.now.words.now in
     let o = c.args.ready.core.opening in
     let crew = c.run_jobs-bench.result.0.desks in
     let journal = c.run_jobs-bench.result.0.core.journal in

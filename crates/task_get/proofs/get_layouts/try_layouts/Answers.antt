@@ -1,12 +1,13 @@
 use Rattle.std.proofs.Common.{◌∙◌, refl, arith}
 use Rattle.std.specs.Prelude.{Ok}
+use Rattle.std.proofs.lemmas.Result.{err_from_is_err_and}
 use Rattle.journal_model.specs.declared.answer.Answer.TheVariants.{Got}
 use Rattle.task_run.proofs.Causes.{from_nothing}
 use Rattle.task_get.proofs.BeginLaws.{causes_behind}
 use Rattle.task_get.proofs.GetChunks.{same_both}
 use Rattle.task_get.proofs.GetAlls.{tries_none, tries_skip, tries_more, tries_end, tries_all, at_layout, sized_at, test_is, test_differs}
 use Rattle.task_get.proofs.get_layouts.try_layouts.Goals as goal
-use Rattle.task_get.proofs.get_layouts.try_layouts.Goals.{then-chunks-count+in-Ok-Failed, else-chunks-count}
+use Rattle.task_get.proofs.get_layouts.try_layouts.Goals.{then-chunks-count+in_ok-went+in-Failed, else-chunks-count}
 
 pub loop-i-init : goal.loop-i-init
 loop-i-init g c = record {
@@ -20,36 +21,30 @@ loop-i-init g c = record {
 pub count-requires : goal.count-requires
 count-requires g c = sized_at c.args.layouts.now c.loop-i.i c.requires.sizes (omega arith)
 
-pub get_layout-requires-clause-chunk : goal.get_layout-requires-clause-chunk
-get_layout-requires-clause-chunk g c = sized_at c.args.layouts.now c.loop-i.i c.requires.sizes (omega arith)
+pub invariant_of-layout-clause-chunked : goal.invariant_of-layout-clause-chunked
+invariant_of-layout-clause-chunked g c = sized_at c.args.layouts.now c.loop-i.i c.requires.sizes (omega arith)
 
-pub returns-in-Ok-Whole-clause-ran : goal.returns-in-Ok-Whole-clause-ran
-returns-in-Ok-Whole-clause-ran g c =
-    tries_end _ _ _ _ _ _ _ _ _ _ _ _ _ _ _ _ _ c.requires.size (at_layout c.args.layouts.now c.loop-i.i (omega arith)) (test_is _ _ _ c.if-chunks-count.true c.count.ensures) c.loop-i.invariant.so_far (rw c.in-Ok-Whole.field-0-is at c.in-Ok-Whole.ensures.ran) (λ e. cc)
+pub returns-in_default-clause-ran : goal.returns-in_default-clause-ran
+returns-in_default-clause-ran g c =
+    tries_end _ _ _ _ _ _ _ _ _ _ _ _ _ _ _ _ _ c.requires.size (at_layout c.args.layouts.now c.loop-i.i (omega arith)) (test_is _ _ _ c.if-chunks-count.true c.count.ensures) c.loop-i.invariant.so_far c.in_ok-went.ensures.ran (λ e. c.in_default.not-Failed cc)
 
-pub returns-in-Ok-Whole-clause-on : goal.returns-in-Ok-Whole-clause-on
-returns-in-Ok-Whole-clause-on g c = g.met.A.Asker.goes_both c.args.asker.now c.loop-i.asker c.get_layout.new.asker c.loop-i.invariant.on c.get_layout.ensures.on
+pub returns-in_default-clause-on : goal.returns-in_default-clause-on
+returns-in_default-clause-on g c = g.met.A.Asker.goes_both c.args.asker.now c.loop-i.asker c.get_layout.new.asker c.loop-i.invariant.on c.get_layout.ensures.on
 
-pub returns-in-Ok-Over-clause-ran : goal.returns-in-Ok-Over-clause-ran
-returns-in-Ok-Over-clause-ran g c =
-    tries_end _ _ _ _ _ _ _ _ _ _ _ _ _ _ _ _ _ c.requires.size (at_layout c.args.layouts.now c.loop-i.i (omega arith)) (test_is _ _ _ c.if-chunks-count.true c.count.ensures) c.loop-i.invariant.so_far (rw c.in-Ok-Over.field-0-is at c.in-Ok-Over.ensures.ran) (λ e. cc)
+pub returns-in_err-went-clause-ran : goal.returns-in_err-went-clause-ran
+returns-in_err-went-clause-ran g c =
+    let p = err_from_is_err_and c.from_residual.result c.from_residual.ensures.1 in
+    rw (p.1, p.2) (tries_end _ _ _ _ _ _ _ _ _ _ _ _ _ _ _ _ _ c.requires.size (at_layout c.args.layouts.now c.loop-i.i (omega arith)) (test_is _ _ _ c.if-chunks-count.true c.count.ensures) c.loop-i.invariant.so_far c.in_err-went.ensures.ran (λ e. cc))
 
-pub returns-in-Ok-Over-clause-on : goal.returns-in-Ok-Over-clause-on
-returns-in-Ok-Over-clause-on g c = g.met.A.Asker.goes_both c.args.asker.now c.loop-i.asker c.get_layout.new.asker c.loop-i.invariant.on c.get_layout.ensures.on
-
-pub returns-in-Err-clause-ran : goal.returns-in-Err-clause-ran
-returns-in-Err-clause-ran g c =
-    tries_end _ _ _ _ _ _ _ _ _ _ _ _ _ _ _ _ _ c.requires.size (at_layout c.args.layouts.now c.loop-i.i (omega arith)) (test_is _ _ _ c.if-chunks-count.true c.count.ensures) c.loop-i.invariant.so_far c.in-Err.ensures.ran (λ e. cc)
-
-pub returns-in-Err-clause-on : goal.returns-in-Err-clause-on
-returns-in-Err-clause-on g c = g.met.A.Asker.goes_both c.args.asker.now c.loop-i.asker c.get_layout.new.asker c.loop-i.invariant.on c.get_layout.ensures.on
+pub returns-in_err-went-clause-on : goal.returns-in_err-went-clause-on
+returns-in_err-went-clause-on g c = g.met.A.Asker.goes_both c.args.asker.now c.loop-i.asker c.get_layout.new.asker c.loop-i.invariant.on c.get_layout.ensures.on
 
 pub loop-i-preserved : goal.loop-i-preserved
 loop-i-preserved g c =
     elim c.if-chunks-count.branch [
-      | then-chunks-count+in-Ok-Failed w ↦
-          let r = rw w.in-Ok-Failed.field-0-is at w.in-Ok-Failed.ensures.ran in
-          let k = rw w.in-Ok-Failed.field-0-is at w.in-Ok-Failed.ensures.causes in
+      | then-chunks-count+in_ok-went+in-Failed w ↦
+          let r = rw w.in-Failed.is at w.in_ok-went.ensures.ran in
+          let k = rw w.in-Failed.is at w.in_ok-went.ensures.causes in
           rw (w.asked-is, w.asker-is, w.desk-is) record {
             so_far = tries_more _ _ _ _ _ _ _ _ _ _ _ _ _ _ _ _ c.requires.size (at_layout c.args.layouts.now c.loop-i.i (omega arith)) (test_is _ _ _ w.if-chunks-count.true c.count.ensures) c.loop-i.invariant.so_far r;
             on = g.met.A.Asker.goes_both c.args.asker.now c.loop-i.asker w.get_layout.new.asker c.loop-i.invariant.on w.get_layout.ensures.on;

@@ -1,4 +1,4 @@
-use Rattle.std.proofs.Common.{[], ◌∷◌, ◌++◌, refl}
+use Rattle.std.proofs.Common.{[], ◌++◌, refl}
 use Rattle.std.specs.Prelude.{true, false}
 use Rattle.journal_model.specs.declared.answer.Answer.TheVariants.{Dropped}
 use Rattle.journal_model.specs.Rows.{greeting}

@@ -4,7 +4,7 @@ use Rattle.task_store.proofs.ChunkStoreWays.{chunk_there}
 use Rattle.task_store.proofs.chunk_store.ask_there.Goals as goal
 
 pub present-requires-clause-key : goal.present-requires-clause-key
-present-requires-clause-key g c = rw c.view.ensures (chunk_sent (text_of c.args.key) (parts_of c.args.key) _ _ _ c.args.key.spelled c.requires.sent c.in-Ok.ensures)
+present-requires-clause-key g c = rw c.view.ensures (chunk_sent (text_of c.args.store.key) (parts_of c.args.store.key) _ _ _ c.args.store.key.spelled c.args.store.sent c.in_ok-key.ensures)
 
 pub returns-clause-pairs : goal.returns-clause-pairs
-returns-clause-pairs g c = chunk_there _ _ _ _ _ c.in-Ok.ensures (rw c.view.ensures at c.present.ensures.pairs)
+returns-clause-pairs g c = chunk_there _ _ _ _ _ c.in_ok-key.ensures (rw c.view.ensures at c.present.ensures.pairs)

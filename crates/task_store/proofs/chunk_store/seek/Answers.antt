@@ -1,11 +1,12 @@
 use Rattle.std.proofs.Common.{◌∙◌, arith}
-use Rattle.task_store.proofs.ChunkStoreLoops.{seeking_more, seeks_missing, seeks_over}
+use Rattle.std.proofs.lemmas.Result.{err_from_is_err_and}
+use Rattle.task_store.proofs.ChunkStoreLoops.{seeking_more, seeks_without, seeks_missing, seeks_over}
 use Rattle.task_store.proofs.chunk_store.seek.Goals as goal
 
 pub loop-there-preserved : goal.loop-there-preserved
 loop-there-preserved g c =
     let i = c.loop-there.invariant in
-    let h = c.in-Ok.ensures in
+    let h = c.in_ok-verdict.ensures in
     record {
       seeking = seeking_more _ _ _ _ _ _ _ _ i.seeking c.loop-there-test.true h.pairs c.in-There.ensures.said;
       most = omega (arith, c.loop-there-test.true);
@@ -16,7 +17,12 @@ loop-there-preserved g c =
     }
 
 pub returns-in-Missing-clause-pairs : goal.returns-in-Missing-clause-pairs
-returns-in-Missing-clause-pairs g c = seeks_missing _ _ _ _ _ _ _ _ c.loop-there.invariant.seeking c.loop-there-test.true c.in-Ok.ensures.pairs c.in-Missing.ensures.said
+returns-in-Missing-clause-pairs g c = seeks_missing _ _ _ _ _ _ _ _ c.loop-there.invariant.seeking c.loop-there-test.true c.in_ok-verdict.ensures.pairs c.in-Missing.ensures.said
 
 pub returns-in-Over-clause-pairs : goal.returns-in-Over-clause-pairs
-returns-in-Over-clause-pairs g c = seeks_over _ _ _ _ _ _ _ _ _ c.loop-there.invariant.seeking c.loop-there-test.true c.in-Ok.ensures.pairs c.in-Over.ensures.said.0
+returns-in-Over-clause-pairs g c = seeks_over _ _ _ _ _ _ _ _ _ c.loop-there.invariant.seeking c.loop-there-test.true c.in_ok-verdict.ensures.pairs c.in-Over.ensures.said.0
+
+pub returns-in_err-verdict-clause-pairs : goal.returns-in_err-verdict-clause-pairs
+returns-in_err-verdict-clause-pairs g c =
+    let p = err_from_is_err_and c.from_residual.result c.from_residual.ensures.1 in
+    rw (p.1, p.2) (seeks_without _ _ _ _ _ _ _ _ c.loop-there.invariant.seeking c.in_err-verdict.ensures.pairs)

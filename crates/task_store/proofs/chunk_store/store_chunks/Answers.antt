@@ -9,16 +9,16 @@ returns-in-Err-clause-ran g c =
     let r = rw c.view-key.ensures at c.view-key.result.spelled in
     rw c.refused.ensures (refused_ran _ _ _ _ _ _ _ _ _ c.requires.work r c.requires.chunked l)
 
-pub store_missing-requires-clause-sent : goal.store_missing-requires-clause-sent
-store_missing-requires-clause-sent g c = rw c.view-key.ensures (task_key_sent c.args.task.now.key c.requires.task.key_class)
+pub invariant_of-store-clause-sent : goal.invariant_of-store-clause-sent
+invariant_of-store-clause-sent g c = rw c.view-key.ensures (task_key_sent c.args.task.now.key c.requires.task.key_class)
 
-pub store_missing-requires-clause-whole : goal.store_missing-requires-clause-whole
-store_missing-requires-clause-whole g c =
+pub invariant_of-store-clause-whole : goal.invariant_of-store-clause-whole
+invariant_of-store-clause-whole g c =
     let r = rw c.view-key.ensures at c.view-key.result.spelled in
     no_chunk c.args.task.now.key _ r c.requires.task.key_class
 
-pub store_missing-requires-clause-chunk : goal.store_missing-requires-clause-chunk
-store_missing-requires-clause-chunk g c =
+pub invariant_of-store-clause-chunked : goal.invariant_of-store-clause-chunked
+invariant_of-store-clause-chunked g c =
     let r = rw c.view-key.ensures at c.view-key.result.spelled in
     some_chunk c.args.setup.now c.args.task.now _ r c.requires.chunked
 

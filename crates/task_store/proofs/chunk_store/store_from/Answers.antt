@@ -1,4 +1,5 @@
 use Rattle.std.proofs.Common.{◌∙◌, arith, refl}
+use Rattle.std.proofs.lemmas.Result.{err_from_is_err_and}
 use Rattle.task_store.proofs.ChunkStoreLoops.{storing_none, storing_more, storing_ends, storing_done, known_of}
 use Rattle.task_store.proofs.chunk_store.store_from.Goals as goal
 
@@ -17,12 +18,12 @@ loop-stored-init g c = record {
 pub loop-stored-preserved : goal.loop-stored-preserved
 loop-stored-preserved g c =
     let i = c.loop-stored.invariant in
-    let h = c.in-Ok-None.ensures in
+    let h = c.in_ok-store_chunk.ensures in
     let r = c.requires in
-    let s = rw c.in-Ok-None.field-0-is at h.stored in
-    let q = rw c.in-Ok-None.field-0-is at h.causes in
+    let s = rw c.in-None.is at h.stored in
+    let q = rw c.in-None.is at h.causes in
     record {
-      storing = storing_more _ _ _ _ _ _ _ _ _ _ _ _ _ (known_of _ _ _ _ r.chunk r.size r.missing r.small) i.storing (omega (arith, c.count-all.ensures, c.loop-stored-test.true)) s;
+      storing = storing_more _ _ _ _ _ _ _ _ _ _ _ _ _ (known_of _ _ _ _ c.args.store.chunked c.args.store.sized r.missing r.small) i.storing (omega (arith, c.count-all.ensures, c.loop-stored-test.true)) s;
       least = omega (arith, i.least);
       most = omega (arith, c.loop-stored-test.true);
       notes = h.notes ∙ i.notes;
@@ -32,20 +33,21 @@ loop-stored-preserved g c =
       quiet = q.quiet refl ∙ i.quiet;
     }
 
-pub returns-in-Ok-Some-clause-stored : goal.returns-in-Ok-Some-clause-stored
-returns-in-Ok-Some-clause-stored g c =
+pub returns-in-Some-clause-stored : goal.returns-in-Some-clause-stored
+returns-in-Some-clause-stored g c =
     let i = c.loop-stored.invariant in
-    let h = c.in-Ok-Some.ensures in
+    let h = c.in_ok-store_chunk.ensures in
     let r = c.requires in
-    let s = rw c.in-Ok-Some.field-0-is at h.stored in
-    storing_ends _ _ _ _ _ _ _ _ _ _ _ _ _ _ _ _ (known_of _ _ _ _ r.chunk r.size r.missing r.small) i.storing (omega (arith, c.count-all.ensures, c.loop-stored-test.true)) s (λ e. cc) (h.notes ∙ i.notes)
+    let s = rw c.in-Some.is at h.stored in
+    storing_ends _ _ _ _ _ _ _ _ _ _ _ _ _ _ _ _ (known_of _ _ _ _ c.args.store.chunked c.args.store.sized r.missing r.small) i.storing (omega (arith, c.count-all.ensures, c.loop-stored-test.true)) s (λ e. cc) (h.notes ∙ i.notes)
 
-pub returns-in-Err-clause-stored : goal.returns-in-Err-clause-stored
-returns-in-Err-clause-stored g c =
+pub returns-in_err-store_chunk-clause-stored : goal.returns-in_err-store_chunk-clause-stored
+returns-in_err-store_chunk-clause-stored g c =
     let i = c.loop-stored.invariant in
-    let h = c.in-Err.ensures in
+    let h = c.in_err-store_chunk.ensures in
     let r = c.requires in
-    storing_ends _ _ _ _ _ _ _ _ _ _ _ _ _ _ _ _ (known_of _ _ _ _ r.chunk r.size r.missing r.small) i.storing (omega (arith, c.count-all.ensures, c.loop-stored-test.true)) h.stored (λ e. cc) (h.notes ∙ i.notes)
+    let p = err_from_is_err_and c.from_residual.result c.from_residual.ensures.1 in
+    rw (p.1, p.2) (storing_ends _ _ _ _ _ _ _ _ _ _ _ _ _ _ _ _ (known_of _ _ _ _ c.args.store.chunked c.args.store.sized r.missing r.small) i.storing (omega (arith, c.count-all.ensures, c.loop-stored-test.true)) h.stored (λ e. cc) (h.notes ∙ i.notes))
 
 pub returns-clause-stored : goal.returns-clause-stored
 returns-clause-stored g c =
@@ -53,4 +55,4 @@ returns-clause-stored g c =
     let h = c.note_chunks.ensures in
     let r = c.requires in
     let n = rw i.notes at h.notes in
-    rw h.pairs (storing_done _ _ _ _ _ _ _ _ _ _ _ _ _ _ _ (known_of _ _ _ _ r.chunk r.size r.missing r.small) c.count-all.ensures i.storing i.most c.loop-stored-test.false n)
+    rw h.pairs (storing_done _ _ _ _ _ _ _ _ _ _ _ _ _ _ _ (known_of _ _ _ _ c.args.store.chunked c.args.store.sized r.missing r.small) c.count-all.ensures i.storing i.most c.loop-stored-test.false n)

@@ -6,7 +6,7 @@ use Rattle.task_store.proofs.chunk_store.store_from.Given as goal
 
 abbrev pub invariant-loop-stored : goal.invariant-loop-stored
 invariant-loop-stored g l = record {
-  storing : Storing l.setup l.turn (parts_of l.key) l.file l.size l.n (g.A.Asker.pairs l.fn.asker) (g.A.Asker.pairs l.asker) (g.D.Desk.log l.fn.desk) (g.D.Desk.log l.desk) l.stored;
+  storing : Storing l.store.setup.now l.store.turn (parts_of l.store.key) l.store.file.now l.store.size l.n (g.A.Asker.pairs l.fn.asker) (g.A.Asker.pairs l.asker) (g.D.Desk.log l.fn.desk) (g.D.Desk.log l.desk) l.stored;
   least : l.n ≤ l.stored;
   most : l.stored ≤ l.all;
   notes : g.A.Asker.notes l.asker ≡ g.A.Asker.notes l.fn.asker;

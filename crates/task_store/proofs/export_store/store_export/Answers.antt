@@ -1,4 +1,5 @@
 use Rattle.std.proofs.Common.{◌∙◌, sym}
+use Rattle.std.proofs.lemmas.Result.{err_from_is_err_and}
 use Rattle.std.specs.Prelude.{nat_lt, length}
 use Rattle.std.specs.Str.{is_utf8}
 use Rattle.task_run.proofs.ExportRuns.{name_in_line}
@@ -12,10 +13,11 @@ returns-in-Err-clause-ran g c = λ setup layouts.
     let l = rw c.view-file.ensures at c.in-Err.ensures.log in
     rw c.refused.ensures (store_refused_ran _ _ _ _ _ _ _ _ c.requires.work l)
 
-pub returns-in-Err-transfer_named-clause-ran : goal.returns-in-Err-transfer_named-clause-ran
-returns-in-Err-transfer_named-clause-ran g c = λ setup layouts.
+pub returns-in_err-verdict-in-Ok-clause-ran : goal.returns-in_err-verdict-in-Ok-clause-ran
+returns-in_err-verdict-in-Ok-clause-ran g c = λ setup layouts.
     let l = rw c.view-file.ensures at c.in-Ok.ensures.log in
-    rw c.in-Err-transfer_named.ensures.pairs (store_unasked_ran _ _ _ _ _ _ _ _ _ c.requires.work l)
+    let p = err_from_is_err_and c.from_residual.result c.from_residual.ensures.1 in
+    rw (p.1, p.2, c.in_err-verdict-in-Ok.ensures.pairs) (store_unasked_ran _ _ _ _ _ _ _ _ _ c.requires.work l)
 
 pub returns-else-is_size-clause-ran : goal.returns-else-is_size-clause-ran
 returns-else-is_size-clause-ran g c = λ setup layouts.
@@ -23,13 +25,13 @@ returns-else-is_size-clause-ran g c = λ setup layouts.
     let r = rw c.view-key.ensures at c.view-key.result.spelled in
     store_other_size_ran _ _ _ _ _ _ _ _ _ c.requires.work (sized_by c.args.task.now.key _ _ r c.size-in-Ok.ensures) (sym c.is_size.ensures ∙ c.if-is_size.false) l
 
-pub returns-in-Ok-transfer_named-clause-ran : goal.returns-in-Ok-transfer_named-clause-ran
-returns-in-Ok-transfer_named-clause-ran g c = λ setup layouts.
+pub returns-in_ok-verdict-in-Ok-clause-ran : goal.returns-in_ok-verdict-in-Ok-clause-ran
+returns-in_ok-verdict-in-Ok-clause-ran g c = λ setup layouts.
     let l = rw c.view-file.ensures at c.in-Ok.ensures.log in
     let r = rw c.view-key.ensures at c.view-key.result.spelled in
-    let a = rw (c.view-key.ensures, c.view-file.ensures, c.view-name.ensures) at c.in-Ok-transfer_named.ensures.pairs in
+    let a = rw (c.view-key.ensures, c.view-file.ensures, c.view-name.ensures) at c.in_ok-verdict-in-Ok.ensures.pairs in
     store_once_ran _ _ _ _ _ _ _ _ _ _ _ _ c.requires.work (sized_by c.args.task.now.key _ _ r c.size-in-Ok.ensures) (sym c.is_size.ensures ∙ c.if-is_size.true) l a
-    (rw (c.view-key.ensures, c.view-file.ensures) at c.in-Ok-transfer_named.ensures.verdict) c.change_answer.ensures
+    (rw (c.view-key.ensures, c.view-file.ensures) at c.in_ok-verdict-in-Ok.ensures.verdict) c.change_answer.ensures
 
 pub transfer_named-requires-clause-key : goal.transfer_named-requires-clause-key
 transfer_named-requires-clause-key g c = rw c.view-key.ensures (task_key_sent c.args.task.now.key c.requires.task.key_class)

@@ -18,21 +18,21 @@ ask_key-requires-clause-ready g c = g.met.A.Asker.is_ready _ _ c.loop-at.invaria
 
 pub returns-then-not-is_done-clause-asks : goal.returns-then-not-is_done-clause-asks
 returns-then-not-is_done-clause-asks g c =
-    asked_last _ _ _ _ (parts_of c.args.key) _ _ c.in-Ok.piece _ c.loop-at.invariant.asked (rw (c.key_count-at-end.ensures, c.size.ensures) at c.loop-at-test.true) c.in-Ok.ensures.read (rw c.view.ensures at c.in-Ok-ask_key.ensures.pairs)
-    (sym c.is_done.ensures ∙ c.if-not-is_done.true) c.in-Ok-ask_key.ensures.verdict
+    asked_last _ _ _ _ (parts_of c.args.key) _ _ c.in_ok-piece.piece _ c.loop-at.invariant.asked (rw (c.key_count-at-end.ensures, c.size.ensures) at c.loop-at-test.true) c.in_ok-piece.ensures.read (rw c.view.ensures at c.in_ok-verdict.ensures.pairs)
+    (sym c.is_done.ensures ∙ c.if-not-is_done.true) c.in_ok-verdict.ensures.verdict
 
 pub returns-then-not-is_done-clause-on : goal.returns-then-not-is_done-clause-on
-returns-then-not-is_done-clause-on g c = g.met.A.Asker.goes_both _ _ _ c.loop-at.invariant.on c.in-Ok-ask_key.ensures.on
+returns-then-not-is_done-clause-on g c = g.met.A.Asker.goes_both _ _ _ c.loop-at.invariant.on c.in_ok-verdict.ensures.on
 
-pub returns-in-Err-clause-on : goal.returns-in-Err-clause-on
-returns-in-Err-clause-on g c = g.met.A.Asker.goes_both _ _ _ c.loop-at.invariant.on c.in-Err.ensures.on
+pub returns-in_err-verdict-clause-on : goal.returns-in_err-verdict-clause-on
+returns-in_err-verdict-clause-on g c = g.met.A.Asker.goes_both _ _ _ c.loop-at.invariant.on c.in_err-verdict.ensures.on
 
 pub loop-at-preserved : goal.loop-at-preserved
 loop-at-preserved g c =
     let i = c.loop-at.invariant in
-    let e = c.in-Ok-ask_key.ensures in
+    let e = c.in_ok-verdict.ensures in
     record {
-      asked = asked_more _ _ _ _ (parts_of c.args.key) _ _ c.in-Ok.piece _ i.asked (rw (c.key_count-at-end.ensures, c.size.ensures) at c.loop-at-test.true) c.in-Ok.ensures.read (rw c.view.ensures at e.pairs) (sym c.is_done.ensures ∙ c.if-not-is_done.false);
+      asked = asked_more _ _ _ _ (parts_of c.args.key) _ _ c.in_ok-piece.piece _ i.asked (rw (c.key_count-at-end.ensures, c.size.ensures) at c.loop-at-test.true) c.in_ok-piece.ensures.read (rw c.view.ensures at e.pairs) (sym c.is_done.ensures ∙ c.if-not-is_done.false);
       notes = e.notes ∙ i.notes;
       layouts = e.layouts ∙ i.layouts;
       same = same_on _ _ _ _ _ _ _ _ _ i.same e.same;
