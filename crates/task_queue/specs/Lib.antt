@@ -1,0 +1,4 @@
+pub mod Groups
+pub mod Blocks
+pub mod Queues
+pub mod Woken
