@@ -1,0 +1,154 @@
+-- Each task that isn't claimed stays placed.
+use Rattle.std.proofs.Common.{◌≡◌, ◌∙◌, ℕ, ◌+◌, ◌<◌, ◌≤◌, ◌⊎◌, List, [], ◌∷◌, ◌++◌, refl, sym, ap, subst, Bool, true, false, not, length, get_or, set, arith, inl, inr, get_or-set_other, get_or-set_same}
+use Rattle.std.specs.Prelude.{◌==◌, filter}
+use Rattle.std.specs.List.{list_any}
+use Rattle.std.proofs.lemmas.Bool.{cases_eq, eqb-true, eq-eqb}
+use Rattle.std.proofs.lemmas.List.{length-set}
+use Rattle.journal_model.proofs.Named.{any_there}
+use Rattle.task_queue.specs.Groups.{IsFirst, is_set, number_at}
+use Rattle.task_queue.specs.Queues.{ArePlaced, HasReadyBefore, IsPlaced, is_among, is_group_busy}
+use Rattle.task_queue.proofs.Places.{any_last, any_more, any_without, at_set, down_other, marked, set_here, still_down, unmarked}
+
+after : (v t : ℕ) → v ≤ t → (v ≡ t) ⊎ (v < t)
+after v t more = grind arith
+
+same_groups : (groups busy : List ℕ) (b t : ℕ) → is_among busy b ≡ true → number_at groups b ≡ number_at groups t → is_group_busy groups busy t ≡ true
+same_groups groups busy b t among same =
+    any_there (λ (x : ℕ). number_at groups x == number_at groups t) b busy among (eq-eqb (number_at groups b) (number_at groups t) same)
+
+-- ---- a ready task is put off: a busy one of its group is in its way
+
+pub off_group : (groups busy waits : List ℕ) (claimed ready : List Bool) (u b : ℕ) → is_among busy b ≡ true → number_at groups b ≡ number_at groups u
+    → ArePlaced groups busy waits claimed ready → ArePlaced groups busy waits claimed (set ready u false)
+off_group groups busy waits claimed ready u b among same are = record { each = λ t some below free. go t (are.each t some below free) }
+  where
+    held : (t : ℕ) → number_at groups t ≡ number_at groups u → is_group_busy groups busy t ≡ true
+    held t e = same_groups groups busy b t among (same ∙ sym e)
+
+    go : (t : ℕ) → IsPlaced groups busy waits ready t → IsPlaced groups busy waits (set ready u false) t
+    go t (inl r) = by (unmarked ready u t r)
+      where
+        by : (t ≡ u) ⊎ (is_set (set ready u false) t ≡ true) → IsPlaced groups busy waits (set ready u false) t
+        by (inl e) = inr (inr (inl (held t (ap (number_at groups) e))))
+        by (inr k) = inl k
+    go t (inr (inl w)) = inr (inl w)
+    go t (inr (inr (inl g))) = inr (inr (inl g))
+    go t (inr (inr (inr h))) = by (unmarked ready u h.number h.marked)
+      where
+        by : (h.number ≡ u) ⊎ (is_set (set ready u false) h.number ≡ true) → IsPlaced groups busy waits (set ready u false) t
+        by (inl e) = inr (inr (inl (held t (sym h.same ∙ ap (number_at groups) e))))
+        by (inr k) = inr (inr (inr (record { number = h.number; before = h.before; marked = k; same = h.same })))
+
+-- ---- another one is in its way: it waits for that one, and the next of its group is ready
+
+pub off_other : (groups busy waits : List ℕ) (claimed ready : List Bool) (u b v : ℕ) → u < length claimed → length groups ≡ length claimed → length ready ≡ length claimed → length waits ≡ length claimed
+    → is_among busy b ≡ true → IsFirst groups claimed (number_at groups u) (u + 1) v
+    → ArePlaced groups busy waits claimed ready → ArePlaced groups busy (set waits u b) claimed (set (set ready u false) v true)
+off_other groups busy waits claimed ready u b v within groups_long ready_long waits_long among first are = record { each = λ t some below free. go t below free (are.each t some below free) }
+  where
+    here : is_among busy (number_at (set waits u b) u) ≡ true
+    here = subst (λ (n : ℕ). is_among busy n ≡ true) (sym (get_or-set_same waits u b 0 (omega (arith, within, waits_long)))) among
+
+    still : (t : ℕ) → is_among busy (number_at waits t) ≡ true → is_among busy (number_at (set waits u b) t) ≡ true
+    still t h = at_set (λ (n : ℕ). is_among busy n ≡ true) waits u t b 0 (λ e w. among) (λ other. h)
+
+    stays : (t : ℕ) → (t ≡ u → ⊥) → is_set ready t ≡ true → is_set (set (set ready u false) v true) t ≡ true
+    stays t no h = marked (set ready u false) v t (get_or-set_other ready u t false false no ∙ h)
+
+    fresh : v < length claimed → is_set (set (set ready u false) v true) v ≡ true
+    fresh below = set_here (set ready u false) v true (omega (arith, below, ready_long, length-set ready u false))
+
+    follows : (t : ℕ) → t < length claimed → is_set claimed t ≡ false → u < t → number_at groups t ≡ number_at groups u → IsPlaced groups busy (set waits u b) (set (set ready u false) v true) t
+    follows t below free more same = by (after v t (first.least t (omega (arith, more)) (omega (arith, below, groups_long)) same free))
+      where
+        by : (v ≡ t) ⊎ (v < t) → IsPlaced groups busy (set waits u b) (set (set ready u false) v true) t
+        by (inl e) = inl (subst (λ (k : ℕ). is_set (set (set ready u false) v true) k ≡ true) e (fresh (omega (arith, e, below))))
+        by (inr less) = inr (inr (inr (record { number = v; before = less; marked = fresh (omega (arith, less, below)); same = first.own (omega (arith, less, below, groups_long)) ∙ sym same })))
+
+    go : (t : ℕ) → t < length claimed → is_set claimed t ≡ false → IsPlaced groups busy waits ready t → IsPlaced groups busy (set waits u b) (set (set ready u false) v true) t
+    go t below free (inl r) = by (cases_eq t u)
+      where
+        by : (t ≡ u) ⊎ (t ≡ u → ⊥) → IsPlaced groups busy (set waits u b) (set (set ready u false) v true) t
+        by (inl e) = inr (inl (subst (λ (k : ℕ). is_among busy (number_at (set waits u b) k) ≡ true) (sym e) here))
+        by (inr no) = inl (stays t no r)
+    go t below free (inr (inl w)) = inr (inl (still t w))
+    go t below free (inr (inr (inl g))) = inr (inr (inl g))
+    go t below free (inr (inr (inr h))) = by (cases_eq h.number u)
+      where
+        by : (h.number ≡ u) ⊎ (h.number ≡ u → ⊥) → IsPlaced groups busy (set waits u b) (set (set ready u false) v true) t
+        by (inl e) = follows t below free (omega (arith, e, h.before)) (sym h.same ∙ ap (number_at groups) e)
+        by (inr no) = inr (inr (inr (record { number = h.number; before = h.before; marked = stays h.number no h.marked; same = h.same })))
+
+-- ---- a task is claimed
+
+pub claimed_placed : (groups busy waits : List ℕ) (claimed ready : List Bool) (u : ℕ) → ArePlaced groups busy waits claimed ready
+    → ArePlaced groups (busy ++ u ∷ []) waits (set claimed u true) (set ready u false)
+claimed_placed groups busy waits claimed ready u are = record {
+  each = λ t some below free. go t (are.each t some (omega (arith, below, length-set claimed u true)) (still_down claimed u t free));
+}
+  where
+    held : (t : ℕ) → number_at groups t ≡ number_at groups u → is_group_busy groups (busy ++ u ∷ []) t ≡ true
+    held t e = any_last (λ (x : ℕ). number_at groups x == number_at groups t) busy u (eq-eqb (number_at groups u) (number_at groups t) (sym e))
+
+    go : (t : ℕ) → IsPlaced groups busy waits ready t → IsPlaced groups (busy ++ u ∷ []) waits (set ready u false) t
+    go t (inl r) = by (unmarked ready u t r)
+      where
+        by : (t ≡ u) ⊎ (is_set (set ready u false) t ≡ true) → IsPlaced groups (busy ++ u ∷ []) waits (set ready u false) t
+        by (inl e) = inr (inr (inl (held t (ap (number_at groups) e))))
+        by (inr k) = inl k
+    go t (inr (inl w)) = inr (inl (any_more (λ (x : ℕ). x == number_at waits t) busy u w))
+    go t (inr (inr (inl g))) = inr (inr (inl (any_more (λ (x : ℕ). number_at groups x == number_at groups t) busy u g)))
+    go t (inr (inr (inr h))) = by (unmarked ready u h.number h.marked)
+      where
+        by : (h.number ≡ u) ⊎ (is_set (set ready u false) h.number ≡ true) → IsPlaced groups (busy ++ u ∷ []) waits (set ready u false) t
+        by (inl e) = inr (inr (inl (held t (sym h.same ∙ ap (number_at groups) e))))
+        by (inr k) = inr (inr (inr (record { number = h.number; before = h.before; marked = k; same = h.same })))
+
+-- ---- a busy task is let go: those that waited for it are ready, and the first of its group
+
+pub let_go_placed : (groups busy waits : List ℕ) (claimed ready woken : List Bool) (u v : ℕ) → length groups ≡ length claimed → length woken ≡ length claimed
+    → ((t : ℕ) → is_set ready t ≡ true → is_set woken t ≡ true)
+    → ((t : ℕ) → t < length claimed → number_at waits t ≡ u → is_set claimed t ≡ false → is_set woken t ≡ true)
+    → IsFirst groups claimed (number_at groups u) 0 v
+    → ArePlaced groups busy waits claimed ready → ArePlaced groups (filter (λ b. not (b == u)) busy) waits claimed (set woken v true)
+let_go_placed groups busy waits claimed ready woken u v groups_long woken_long kept wakes first are = record { each = λ t some below free. go t below free (are.each t some below free) }
+  where
+    fresh : v < length claimed → is_set (set woken v true) v ≡ true
+    fresh below = set_here woken v true (omega (arith, below, woken_long))
+
+    follows : (t : ℕ) → t < length claimed → is_set claimed t ≡ false → number_at groups t ≡ number_at groups u → IsPlaced groups (filter (λ (b : ℕ). not (b == u)) busy) waits (set woken v true) t
+    follows t below free same = by (after v t (first.least t (omega arith) (omega (arith, below, groups_long)) same free))
+      where
+        by : (v ≡ t) ⊎ (v < t) → IsPlaced groups (filter (λ (b : ℕ). not (b == u)) busy) waits (set woken v true) t
+        by (inl e) = inl (subst (λ (k : ℕ). is_set (set woken v true) k ≡ true) e (fresh (omega (arith, e, below))))
+        by (inr less) = inr (inr (inr (record { number = v; before = less; marked = fresh (omega (arith, less, below)); same = first.own (omega (arith, less, below, groups_long)) ∙ sym same })))
+
+    go : (t : ℕ) → t < length claimed → is_set claimed t ≡ false → IsPlaced groups busy waits ready t → IsPlaced groups (filter (λ (b : ℕ). not (b == u)) busy) waits (set woken v true) t
+    go t below free (inl r) = inl (marked woken v t (kept t r))
+    go t below free (inr (inl w)) = by (any_without (λ (b : ℕ). b == number_at waits t) u busy w)
+      where
+        by : ((u == number_at waits t) ≡ true) ⊎ (is_among (filter (λ (b : ℕ). not (b == u)) busy) (number_at waits t) ≡ true) → IsPlaced groups (filter (λ (b : ℕ). not (b == u)) busy) waits (set woken v true) t
+        by (inl e) = inl (marked woken v t (wakes t below (sym (eqb-true u (number_at waits t) e)) free))
+        by (inr k) = inr (inl k)
+    go t below free (inr (inr (inl g))) = by (any_without (λ (b : ℕ). number_at groups b == number_at groups t) u busy g)
+      where
+        by : ((number_at groups u == number_at groups t) ≡ true) ⊎ (is_group_busy groups (filter (λ (b : ℕ). not (b == u)) busy) t ≡ true) → IsPlaced groups (filter (λ (b : ℕ). not (b == u)) busy) waits (set woken v true) t
+        by (inl e) = follows t below free (sym (eqb-true (number_at groups u) (number_at groups t) e))
+        by (inr k) = inr (inr (inl k))
+    go t below free (inr (inr (inr h))) = inr (inr (inr (record { number = h.number; before = h.before; marked = marked woken v h.number (kept h.number h.marked); same = h.same })))
+
+-- ---- a task is to be claimed again
+
+pub renewed_placed : (groups busy waits : List ℕ) (claimed ready : List Bool) (u : ℕ) → length ready ≡ length claimed → ArePlaced groups busy waits claimed ready
+    → ArePlaced groups busy waits (set claimed u false) (set ready u true)
+renewed_placed groups busy waits claimed ready u long are = record { each = λ t some below free. by t some (omega (arith, below, length-set claimed u false)) free (cases_eq t u) }
+  where
+    go : (t : ℕ) → IsPlaced groups busy waits ready t → IsPlaced groups busy waits (set ready u true) t
+    go t (inl r) = inl (marked ready u t r)
+    go t (inr (inl w)) = inr (inl w)
+    go t (inr (inr (inl g))) = inr (inr (inl g))
+    go t (inr (inr (inr h))) = inr (inr (inr (record { number = h.number; before = h.before; marked = marked ready u h.number h.marked; same = h.same })))
+
+    by : (t : ℕ) → 0 < t → t < length claimed → is_set (set claimed u false) t ≡ false → (t ≡ u) ⊎ (t ≡ u → ⊥) → IsPlaced groups busy waits (set ready u true) t
+    by t some below free (inl e) = inl (subst (λ (k : ℕ). is_set (set ready u true) k ≡ true) (sym e) (set_here ready u true (omega (arith, e, below, long))))
+    by t some below free (inr no) = go t (are.each t some below (down_other claimed u t no free))
