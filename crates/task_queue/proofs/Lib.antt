@@ -5,3 +5,4 @@ pub mod Placing
 pub mod Ordering
 pub mod Finding
 pub mod Turning
+pub mod Beginning
