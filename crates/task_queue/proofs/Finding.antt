@@ -1,6 +1,7 @@
 -- The first task that nothing is in the way of is the least free one.
-use Rattle.std.proofs.Common.{◌≡◌, ◌∙◌, cond, ℕ, zero, suc, ◌+◌, ◌<◌, ◌≤◌, ◌⊎◌, List, [], ◌∷◌, refl, sym, ap, subst, Bool, true, false, not, Option, Some, None, length, arith, inl, inr}
-use Rattle.std.specs.Prelude.{◌==◌, ◌&&◌, ◌||◌, find}
+use Rattle.std.proofs.Common.{◌≡◌, ◌∙◌, cond, ℕ, zero, suc, ◌+◌, ◌<◌, ◌≤◌, ◌⊎◌, Vec, List, [], ◌∷◌, refl, sym, ap, subst, Bool, true, false, not, Option, Some, None, length, arith, inl, inr}
+use Rattle.std.specs.Prelude.{◌==◌, ◌&&◌, ◌||◌, count_by, find, vec_capacity}
+use Rattle.std.specs.declared.alloc.Global.{Global}
 use Rattle.std.specs.List.{list_any, range_with_len}
 use Rattle.std.proofs.lemmas.Bool.{and_from, and_left, and_parts, and_right, cases_eq, eq-eqb, eqb-true, false_from_ne_true, not_from_false, not_from_true, or_cases, or_left, or_right}
 use Rattle.journal_model.specs.declared.entry.Entry.{Entry}
@@ -149,3 +150,20 @@ pub none_found : (o : Opening) (past : List Entry) (q : Queue) → IsQueued o pa
 none_found o past q are bare =
     least_none (is_free o past) 1 (length o.tasks)
     (λ t from below. unfree o past q t are (omega (arith, from)) (omega (arith, below, are.fits.long)) (record { each = λ s less. bare s }))
+
+-- ---- a queue with the same tasks claimed and busy says the same
+
+pub same_queued : (o : Opening) (past : List Entry) (q r : Queue) → r.claimed ≡ q.claimed → r.busy ≡ q.busy → IsOrdered r → IsOf o r → IsQueued o past q → IsQueued o past r
+same_queued o past q r claimed busy ordered fits are = record {
+  ordered = ordered;
+  roomy = record {
+    left = subst (λ (b : Vec ℕ Global). length b.items + count_by not r.claimed.items ≤ length r.claimed.items) (sym busy)
+        (subst (λ (c : Vec Bool Global). length q.busy.items + count_by not c.items ≤ length c.items) (sym claimed) are.roomy.left);
+    room = subst (λ (b : Vec ℕ Global). length r.claimed.items ≤ vec_capacity b) (sym busy) (subst (λ (c : Vec Bool Global). length c.items ≤ vec_capacity q.busy) (sym claimed) are.roomy.room);
+  };
+  fits = fits;
+  said = record {
+    claimed = subst (λ (c : Vec Bool Global). (t : ℕ) → t < length c.items → is_set c.items t ≡ is_claimed past t) (sym claimed) are.said.claimed;
+    busy = subst (λ (b : Vec ℕ Global). (t : ℕ) → is_among b.items t ≡ is_busy past t) (sym busy) are.said.busy;
+  };
+}

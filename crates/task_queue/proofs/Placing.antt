@@ -1,13 +1,14 @@
 -- Each task that isn't claimed stays placed.
-use Rattle.std.proofs.Common.{◌≡◌, ◌∙◌, ℕ, ◌+◌, ◌<◌, ◌≤◌, ◌⊎◌, List, [], ◌∷◌, ◌++◌, refl, sym, ap, subst, Bool, true, false, not, length, get_or, set, arith, inl, inr, get_or-set_other, get_or-set_same}
-use Rattle.std.specs.Prelude.{◌==◌, filter}
+use Rattle.std.proofs.Common.{◌≡◌, ◌∙◌, cond, ℕ, ◌+◌, ◌<◌, ◌≤◌, ◌⊎◌, List, [], ◌∷◌, ◌++◌, refl, sym, ap, subst, Bool, true, false, not, length, get_or, set, arith, inl, inr, get_or-set_other, get_or-set_same}
+use Rattle.std.specs.Prelude.{◌==◌, ◌&&◌, filter}
 use Rattle.std.specs.List.{list_any}
-use Rattle.std.proofs.lemmas.Bool.{cases_eq, eqb-true, eq-eqb}
+use Rattle.std.proofs.lemmas.Bool.{and_from, and_parts, cases_eq, eqb-true, eq-eqb, not-true, not_from_false}
 use Rattle.std.proofs.lemmas.List.{length-set}
 use Rattle.journal_model.proofs.Named.{any_there}
 use Rattle.task_queue.specs.Groups.{IsFirst, is_set, number_at}
 use Rattle.task_queue.specs.Queues.{ArePlaced, HasReadyBefore, IsPlaced, is_among, is_group_busy}
-use Rattle.task_queue.proofs.Places.{any_last, any_more, any_without, at_set, down_other, marked, set_here, still_down, unmarked}
+use Rattle.task_queue.specs.Woken.{AreWatched, AreWoken}
+use Rattle.task_queue.proofs.Places.{any_last, any_more, any_without, at_set, down_other, marked, marked_from, set_here, still_down, unmarked}
 
 after : (v t : ℕ) → v ≤ t → (v ≡ t) ⊎ (v < t)
 after v t more = grind arith
@@ -152,3 +153,56 @@ renewed_placed groups busy waits claimed ready u long are = record { each = λ t
     by : (t : ℕ) → 0 < t → t < length claimed → is_set (set claimed u false) t ≡ false → (t ≡ u) ⊎ (t ≡ u → ⊥) → IsPlaced groups busy waits (set ready u true) t
     by t some below free (inl e) = inl (subst (λ (k : ℕ). is_set (set ready u true) k ≡ true) (sym e) (set_here ready u true (omega (arith, e, below, long))))
     by t some below free (inr no) = go t (are.each t some below (down_other claimed u t no free))
+
+-- ---- those that wait for a task are woken
+
+pub none_woken : (waits : List ℕ) (claimed flags : List Bool) (task : ℕ) → AreWoken waits claimed task 0 flags flags
+none_woken waits claimed flags task = record { long = refl; kept = λ t h. h; woken = λ t low below waiting free. absurd (omega (arith, low)); others = λ t h. inl h }
+
+-- nobody waits for one that isn't watched
+pub none_waits : (waits : List ℕ) (watched claimed flags : List Bool) (task number : ℕ) → AreWatched waits watched → 0 < task → is_set watched task ≡ false → AreWoken waits claimed task number flags flags
+none_waits waits watched claimed flags task number are some none = record {
+  long = refl;
+  kept = λ t h. h;
+  woken = λ t low below waiting free.
+      absurd (let bad : true ≡ false = sym (are.each t (omega (arith, waiting, some))) ∙ ap (is_set watched) waiting ∙ none in cc);
+  others = λ t h. inl h;
+}
+
+pub woken_next : (waits : List ℕ) (claimed old flags new : List Bool) (task number : ℕ)
+    → new ≡ cond (number_at waits number == task && not (is_set claimed number)) (set flags number true) flags
+    → AreWoken waits claimed task number old flags → AreWoken waits claimed task (number + 1) old new
+woken_next waits claimed old flags new task number is are = subst (AreWoken waits claimed task (number + 1) old) (sym is) (go (number_at waits number == task && not (is_set claimed number)) refl)
+  where
+    last : (t : ℕ) → t < number + 1 → (t < number) ⊎ (t ≡ number)
+    last t low = grind arith
+
+    go : (c : Bool) → (number_at waits number == task && not (is_set claimed number)) ≡ c → AreWoken waits claimed task (number + 1) old (cond c (set flags number true) flags)
+    go true e = record {
+      long = length-set flags number true ∙ are.long;
+      kept = λ t h. marked flags number t (are.kept t h);
+      woken = λ t low below waiting free. by t below waiting free (last t low);
+      others = λ t h. from t (marked_from flags number t h);
+    }
+      where
+        by : (t : ℕ) → t < length old → number_at waits t ≡ task → is_set claimed t ≡ false → (t < number) ⊎ (t ≡ number) → is_set (set flags number true) t ≡ true
+        by t below waiting free (inl low) = marked flags number t (are.woken t low below waiting free)
+        by t below waiting free (inr same) = ap (is_set (set flags number true)) same ∙ set_here flags number true (omega (arith, same, below, are.long))
+
+        from : (t : ℕ) → (t ≡ number) ⊎ (is_set flags t ≡ true) → (is_set old t ≡ true) ⊎ (is_set claimed t ≡ false)
+        from t (inl same) = inr (ap (is_set claimed) same ∙ not-true (is_set claimed number) (and_parts (number_at waits number == task) (not (is_set claimed number)) e).1)
+        from t (inr k) = are.others t k
+    go false e = record {
+      long = are.long;
+      kept = are.kept;
+      woken = λ t low below waiting free. by t low below waiting free (last t low);
+      others = are.others;
+    }
+      where
+        by : (t : ℕ) → t < number + 1 → t < length old → number_at waits t ≡ task → is_set claimed t ≡ false → (t < number) ⊎ (t ≡ number) → is_set flags t ≡ true
+        by t low below waiting free (inl less) = are.woken t less below waiting free
+        by t low below waiting free (inr same) =
+            let here : (number_at waits number == task && not (is_set claimed number)) ≡ true =
+                and_from (number_at waits number == task) (not (is_set claimed number)) (eq-eqb (number_at waits number) task (ap (number_at waits) (sym same) ∙ waiting))
+                (not_from_false (is_set claimed number) (ap (is_set claimed) (sym same) ∙ free)) in
+            absurd (let bad : false ≡ true = sym e ∙ here in cc)

@@ -8,6 +8,7 @@ use Rattle.journal_model.specs.declared.opening.Opening.{Opening}
 use Rattle.journal_model.specs.Legality.{both_conflict, claimed_after, is_busy, is_claimed, task_of}
 use Rattle.task_queue.specs.Groups.{AreFirsts, AreGroups, AreNext, AreWithin, is_set, number_at}
 use Rattle.task_queue.specs.Blocks.{AreInBlocks}
+use Rattle.task_queue.specs.Woken.{AreWatched}
 use Rattle.task_queue.specs.declared.queue.Queue.{Queue}
 
 -- ---- why a task that isn't claimed needn't be looked at
@@ -51,10 +52,6 @@ pub record AreUnclaimed (claimed ready : List Bool) : Type 0 where
 -- each busy number is that of a task
 pub record AreTasks (busy : List ℕ) (long : ℕ) : Type 0 where
   pub each : (t : ℕ) → is_among busy t ≡ true → (0 < t) × (t < long)
-
--- each task that another waits for is watched
-pub record AreWatched (waits : List ℕ) (watched : List Bool) : Type 0 where
-  pub each : (t : ℕ) → 0 < number_at waits t → is_set watched (number_at waits t) ≡ true
 
 -- each list has a place for each task, and for 0
 pub record AreLong (q : Queue) : Type 0 where

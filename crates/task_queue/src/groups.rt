@@ -121,7 +121,7 @@ pub(super) fn first_unclaimed(claimed: &[bool], groups: &Groups, from: u32) -> u
     ensures first { (group low : ℕ) → IsFirst groups.now.of.items claimed.now group low from → IsFirst groups.now.of.items claimed.now group low result }
 {
     let mut task = from;
-    while is_set(claimed, task as usize) {
+    'tasks: while is_set(claimed, task as usize) {
         task = number_at(&groups.next, task);
     }
     task

@@ -78,9 +78,10 @@ impl Marks {
         let place = number as usize;
         put_flag(&mut self.flags, place, false);
         let block = place / BLOCK;
-        if is_bare(&self.flags, block) {
-            put_flag(&mut self.blocks, block, false);
+        if !is_bare(&self.flags, block) {
+            return;
         }
+        put_flag(&mut self.blocks, block, false);
     }
 
     /// The least number from that one on that is marked.

@@ -7,7 +7,7 @@ ghost use Rattle.journal_model.specs.Legality.{both_conflict, least_free, task_o
 ghost use Rattle.journal_model.specs.Limits.{most_tasks};
 ghost use Rattle.task_queue.specs.Groups.{is_set, number_at};
 ghost use Rattle.task_queue.specs.Blocks.{AreInBlocks};
-ghost use Rattle.task_queue.specs.Woken.{AreWoken};
+ghost use Rattle.task_queue.specs.Woken.{AreWatched, AreWoken};
 
 use crate::groups::{Groups, first_unclaimed, groups_of};
 use crate::lists::{is_set, number_at, put_flag, put_number};
@@ -151,9 +151,13 @@ impl Queue {
         ensures busy { self.new.busy.items ≡ filter (λ b. not (b == task)) self.old.busy.items }
         ensures less { length self.new.busy.items < length self.old.busy.items }
     {
-        if is_set(&self.watched, task as usize) {
-            wake(&mut self.ready, &self.waits, &self.claimed, task);
-        }
+        wake_watchers(
+            &mut self.ready,
+            &self.waits,
+            &self.watched,
+            &self.claimed,
+            task,
+        );
         let group = number_at(&self.groups.of, task);
         let first = number_at(&self.groups.firsts, group);
         let first = first_unclaimed(&self.claimed, &self.groups, first);
@@ -203,9 +207,10 @@ fn wake_one(ready: &mut Marks, waits: &[u32], claimed: &[bool], task: u32, other
     ensures flags { ready.new.flags.items ≡ (if number_at waits.now task == other && not (is_set claimed.now task) then slice_set ready.old.flags.items task true else ready.old.flags.items) }
     ensures blocks { AreInBlocks ready.new.flags.items ready.new.blocks.items }
 {
-    if number_at(waits, task) == other && !is_set(claimed, task as usize) {
-        ready.mark(task);
+    if number_at(waits, task) != other || is_set(claimed, task as usize) {
+        return;
     }
+    ready.mark(task);
 }
 
 /// Marks the tasks that wait for that one and aren't claimed.
@@ -218,4 +223,25 @@ fn wake(ready: &mut Marks, waits: &[u32], claimed: &[bool], task: u32)
     for other in 0..waits.len() as u32 {
         wake_one(ready, waits, claimed, other, task);
     }
+}
+
+/// The same, where none may wait for it.
+fn wake_watchers(
+    ready: &mut Marks,
+    waits: &[u32],
+    watched: &[bool],
+    claimed: &[bool],
+    task: u32,
+)
+    requires few { length waits.now < 2 ^ 32 }
+    requires some { 0 < task }
+    requires watched { AreWatched waits.now watched.now }
+    requires blocks { AreInBlocks ready.old.flags.items ready.old.blocks.items }
+    ensures woken { AreWoken waits.now claimed.now task (length waits.now) ready.old.flags.items ready.new.flags.items }
+    ensures blocks { AreInBlocks ready.new.flags.items ready.new.blocks.items }
+{
+    if !is_set(watched, task as usize) {
+        return;
+    }
+    wake(ready, waits, claimed, task);
 }
