@@ -39,8 +39,8 @@ new_ordered q n new within chained blocks = record {
     watched = ap length new.watched ∙ length-replicate n false ∙ sym claimed_long;
   };
   within = within;
-  next = record { each = λ t below. chained.next t (omega arith) below };
-  firsts = record { long = chained.firsts_long; each = λ g below. first_less q.groups.of.items [] q.claimed.items g 0 (number_at q.groups.firsts.items g) (λ t free. refl) (chained.firsts g below) };
+  next = record { each = λ t below. chained.each_next t (omega arith) below };
+  firsts = record { long = chained.firsts_long; each = λ g below. first_less q.groups.of.items [] q.claimed.items g 0 (number_at q.groups.firsts.items g) (λ t free. refl) (chained.each_first g below) };
   blocks = blocks;
   busy = record { each = λ t h. absurd (let bad : false ≡ true = ap (λ (l : List ℕ). is_among l t) (sym new.busy) ∙ h in cc) };
   watched = record { each = λ t some. absurd (omega (arith, some, no_number n q.waits.items t new.waits)) };

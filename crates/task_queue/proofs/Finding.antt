@@ -30,7 +30,7 @@ any_number p a (suc n) u low high h = go (cases_eq u a) (λ (more : a + 1 ≤ u)
   where
     go : (u ≡ a) ⊎ (u ≡ a → ⊥) → (a + 1 ≤ u → list_any p (range_with_len (a + 1) n) ≡ true) → (p a || list_any p (range_with_len (a + 1) n)) ≡ true
     go (inl e) r = or_left (p a) (list_any p (range_with_len (a + 1) n)) (ap p (sym e) ∙ h)
-    go (inr no) r = or_right (p a) (list_any p (range_with_len (a + 1) n)) (r (beyond a u low no))
+    go (inr apart) r = or_right (p a) (list_any p (range_with_len (a + 1) n)) (r (beyond a u low apart))
 
 pub found_some : (p : ℕ → Bool) (xs : List ℕ) (u : ℕ) → find p xs ≡ Some u → (is_among xs u ≡ true) × (p u ≡ true)
 found_some p [] u h = absurd cc
@@ -59,7 +59,7 @@ least_some p a (suc n) u low high none here =
   where
     go : (u ≡ a) ⊎ (u ≡ a → ⊥) → (a + 1 ≤ u → find p (range_with_len (a + 1) n) ≡ Some u) → cond (p a) (Some a) (find p (range_with_len (a + 1) n)) ≡ Some u
     go (inl e) r = (let passes : p a ≡ true = ap p (sym e) ∙ here in rw passes (ap Some (sym e)))
-    go (inr no) r = (let fails : p a ≡ false = none a (omega arith) (omega (arith, beyond a u low no)) in rw fails (r (beyond a u low no)))
+    go (inr apart) r = (let fails : p a ≡ false = none a (omega arith) (omega (arith, beyond a u low apart)) in rw fails (r (beyond a u low apart)))
 
 pub least_none : (p : ℕ → Bool) (a n : ℕ) → ((t : ℕ) → a ≤ t → t < a + n → p t ≡ false) → find p (range_with_len a n) ≡ None
 least_none p a zero none = refl
@@ -108,10 +108,10 @@ unhindered o past q t are below ready none =
     let unclaimed : is_claimed past t ≡ false = sym (are.said.claimed t below) ∙ are.ordered.unclaimed.each t ready in
     and_from (not (is_claimed past t)) (not (list_any (λ u. is_busy past u && both_conflict (task_of o u) (task_of o t)) (numbers_of o)))
     (not_from_false (is_claimed past t) unclaimed)
-    (not_from_false _ (false_from_ne_true (list_any (λ u. is_busy past u && both_conflict (task_of o u) (task_of o t)) (numbers_of o)) no))
+    (not_from_false _ (false_from_ne_true (list_any (λ u. is_busy past u && both_conflict (task_of o u) (task_of o t)) (numbers_of o)) apart))
   where
-    no : list_any (λ (u : ℕ). is_busy past u && both_conflict (task_of o u) (task_of o t)) (numbers_of o) ≡ true → ⊥
-    no h =
+    apart : list_any (λ (u : ℕ). is_busy past u && both_conflict (task_of o u) (task_of o t)) (numbers_of o) ≡ true → ⊥
+    apart h =
         let w = any_found (λ (u : ℕ). is_busy past u && both_conflict (task_of o u) (task_of o t)) (numbers_of o) h in
         let both = and_parts (is_busy past w.0) (both_conflict (task_of o w.0) (task_of o t)) w.2 in
         let hindered : list_any (λ (b : ℕ). is_in_way o q.groups.of.items b t) q.busy.items ≡ true =

@@ -88,12 +88,12 @@ pub chained : (groups next firsts : List ℕ) (task : ℕ) → AreWithin groups 
 chained groups next firsts task in_it within are = record {
   long = length-set next task first ∙ are.long;
   firsts_long = length-set firsts group task ∙ are.firsts_long;
-  next = λ t from below. at_set (λ (n : ℕ). IsFirst groups [] (number_at groups t) (t + 1) n) next task t first 0
-      (λ e w. subst (λ (s : ℕ). IsFirst groups [] (number_at groups s) (s + 1) first) (sym e) (are.firsts group (in_it.each task within)))
-      (λ other. are.next t (beyond task t from (λ e. (let past = other e in let no : ⊥ = omega (arith, past, are.long, within) in no))) below);
-  firsts = λ g below. at_set (λ (n : ℕ). IsFirst groups [] g task n) firsts group g task 0
+  each_next = λ t from below. at_set (λ (n : ℕ). IsFirst groups [] (number_at groups t) (t + 1) n) next task t first 0
+      (λ e w. subst (λ (s : ℕ). IsFirst groups [] (number_at groups s) (s + 1) first) (sym e) (are.each_first group (in_it.each task within)))
+      (λ other. are.each_next t (beyond task t from (λ e. (let past = other e in let no : ⊥ = omega (arith, past, are.long, within) in no))) below);
+  each_first = λ g below. at_set (λ (n : ℕ). IsFirst groups [] g task n) firsts group g task 0
       (λ e w. record { above = omega arith; least = λ t from b same free. from; own = λ b. sym e })
-      (λ other. lower g (λ e. (let past = other e in let no : ⊥ = omega (arith, past, are.firsts_long, in_it.each task within) in no)) (are.firsts g below));
+      (λ other. lower g (λ e. (let past = other e in let no : ⊥ = omega (arith, past, are.firsts_long, in_it.each task within) in no)) (are.each_first g below));
 }
   where
     group : ℕ
@@ -114,8 +114,8 @@ pub none_chained : (groups next firsts : List ℕ) → length next ≡ length gr
 none_chained groups next firsts long firsts_long none = record {
   long = long;
   firsts_long = firsts_long;
-  next = λ t from below. absurd (omega (arith, from, below));
-  firsts = λ g below. record {
+  each_next = λ t from below. absurd (omega (arith, from, below));
+  each_first = λ g below. record {
     above = omega (arith, none g below);
     least = λ t from b same free. absurd (omega (arith, from, b));
     own = λ b. absurd (omega (arith, b, none g below));
@@ -188,7 +188,7 @@ firsts_renewed groups firsts claimed u within in_it are = record {
       where
         by : (t : ℕ) → t < length groups → number_at groups t ≡ group → is_set (set claimed u false) t ≡ false → (t ≡ u) ⊎ (t ≡ u → ⊥) → lower ≤ t
         by t below same free (inl e) = omega (arith, e)
-        by t below same free (inr no) = (let less = is.least t (omega arith) below same (down_other claimed u t no free) in omega (arith, less))
+        by t below same free (inr apart) = (let less = is.least t (omega arith) below same (down_other claimed u t apart free) in omega (arith, less))
 
         own : lower < length groups → (lower ≡ first) ⊎ (lower ≡ u) → number_at groups lower ≡ group
         own below (inl e) = ap (number_at groups) e ∙ is.own (omega (arith, e, below))
@@ -200,3 +200,10 @@ firsts_renewed groups firsts claimed u within in_it are = record {
       least = λ t from below same free. is.least t from below same (down_other claimed u t (λ e. other (sym same ∙ ap (number_at groups) e)) free);
       own = is.own;
     }
+
+pub set_within : (flags : List Bool) (t : ℕ) → is_set flags t ≡ true → t < length flags
+set_within flags t h = go (cases_lt t (length flags))
+  where
+    go : (t < length flags) ⊎ (length flags ≤ t) → t < length flags
+    go (inl within) = within
+    go (inr past) = absurd (let bad : false ≡ true = sym (get_or_past flags t false past) ∙ h in cc)

@@ -5,6 +5,7 @@ use Rattle.std.specs.List.{list_any}
 use Rattle.std.proofs.lemmas.Bool.{cases_eq, cases_lt, eqb-true, eqb-false, or_cases, or_left, or_right}
 use Rattle.std.proofs.lemmas.List.{set_past}
 use Rattle.std.proofs.lemmas.List.Folds.{list_any-append}
+use Rattle.std.proofs.lemmas.List.Sums.{sum_by-set}
 use Rattle.task_queue.specs.Groups.{is_set}
 use Rattle.task_queue.specs.Queues.{is_among}
 
@@ -17,7 +18,7 @@ at_set {X} P xs n t x d here other = go (cases_eq t n) (cases_lt n (length xs))
     go : (t ≡ n) ⊎ (t ≡ n → ⊥) → (n < length xs) ⊎ (length xs ≤ n) → P (get_or (set xs n x) t d)
     go (inl e) (inl within) = subst P (sym (ap (λ (k : ℕ). get_or (set xs n x) k d) e ∙ get_or-set_same xs n x d within)) (here e within)
     go (inl e) (inr past) = subst P (sym (ap (λ (l : List X). get_or l t d) (set_past xs n x past))) (other (λ same. past))
-    go (inr no) w = subst P (sym (get_or-set_other xs n t x d no)) (other (λ same. absurd (no same)))
+    go (inr apart) w = subst P (sym (get_or-set_other xs n t x d apart)) (other (λ same. absurd (apart same)))
 
 pub set_here : (flags : List Bool) (n : ℕ) (b : Bool) → n < length flags → is_set (set flags n b) n ≡ b
 set_here flags n b within = get_or-set_same flags n b false within
@@ -28,7 +29,7 @@ unmarked flags n t h = go (cases_eq t n)
   where
     go : (t ≡ n) ⊎ (t ≡ n → ⊥) → (t ≡ n) ⊎ (is_set (set flags n false) t ≡ true)
     go (inl e) = inl e
-    go (inr no) = inr (get_or-set_other flags n t false false no ∙ h)
+    go (inr apart) = inr (get_or-set_other flags n t false false apart ∙ h)
 
 pub unmarked_was : (flags : List Bool) (n t : ℕ) → is_set (set flags n false) t ≡ true → is_set flags t ≡ true
 unmarked_was flags n t =
@@ -53,7 +54,7 @@ still_down flags n t =
     at_set (λ (b : Bool). b ≡ false → is_set flags t ≡ false) flags n t true false (λ e within h. absurd (let bad : true ≡ false = h in cc)) (λ other h. h)
 
 pub down_other : (flags : List Bool) (n t : ℕ) → (t ≡ n → ⊥) → is_set (set flags n false) t ≡ false → is_set flags t ≡ false
-down_other flags n t no h = sym (get_or-set_other flags n t false false no) ∙ h
+down_other flags n t apart h = sym (get_or-set_other flags n t false false apart) ∙ h
 
 pub written : (flags : List Bool) (n t : ℕ) (b : Bool) → t < length flags → is_set (set flags n b) t ≡ cond (n == t) b (is_set flags t)
 written flags n t b within = go (n == t) refl
@@ -63,21 +64,23 @@ written flags n t b within = go (n == t) refl
     go false e = get_or-set_other flags n t b false (λ same. eqb-false n t e (sym same))
 
 pub beyond : (a t : ℕ) → a ≤ t → (t ≡ a → ⊥) → a + 1 ≤ t
-beyond a t more no = grind arith
+beyond a t more apart = grind arith
 
 -- ---- how many flags are down
 
+abbrev one_if_not : Bool → ℕ
+one_if_not b = cond (not b) 1 0
+
 pub count_up : (flags : List Bool) (n : ℕ) → n < length flags → is_set flags n ≡ false → count_by not (set flags n true) + 1 ≡ count_by not flags
-count_up [] n within h = absurd (omega arith)
-count_up (true ∷ flags) zero within h = absurd cc
-count_up (false ∷ flags) zero within h = omega arith
-count_up (x ∷ flags) (suc n) within h = (let more = count_up flags n (omega arith) h in omega (arith, more))
+count_up flags n within h =
+    omega (arith, ap one_if_not h, sum_by-set one_if_not flags n true false within)
 
 pub count_down : (flags : List Bool) (n : ℕ) → count_by not (set flags n false) ≤ count_by not flags + 1
-count_down [] n = omega arith
-count_down (true ∷ flags) zero = omega arith
-count_down (false ∷ flags) zero = omega arith
-count_down (x ∷ flags) (suc n) = (let more = count_down flags n in omega (arith, more))
+count_down flags n = go (cases_lt n (length flags))
+  where
+    go : (n < length flags) ⊎ (length flags ≤ n) → count_by not (set flags n false) ≤ count_by not flags + 1
+    go (inl within) = omega (arith, sum_by-set one_if_not flags n false false within)
+    go (inr past) = (let same : count_by not (set flags n false) ≡ count_by not flags = ap (count_by not) (set_past flags n false past) in omega (arith, same))
 
 -- ---- the busy ones
 

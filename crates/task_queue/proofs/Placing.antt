@@ -54,7 +54,7 @@ off_other groups busy waits claimed ready u b v within groups_long ready_long wa
     still t h = at_set (λ (n : ℕ). is_among busy n ≡ true) waits u t b 0 (λ e w. among) (λ other. h)
 
     stays : (t : ℕ) → (t ≡ u → ⊥) → is_set ready t ≡ true → is_set (set (set ready u false) v true) t ≡ true
-    stays t no h = marked (set ready u false) v t (get_or-set_other ready u t false false no ∙ h)
+    stays t apart h = marked (set ready u false) v t (get_or-set_other ready u t false false apart ∙ h)
 
     fresh : v < length claimed → is_set (set (set ready u false) v true) v ≡ true
     fresh below = set_here (set ready u false) v true (omega (arith, below, ready_long, length-set ready u false))
@@ -71,14 +71,14 @@ off_other groups busy waits claimed ready u b v within groups_long ready_long wa
       where
         by : (t ≡ u) ⊎ (t ≡ u → ⊥) → IsPlaced groups busy (set waits u b) (set (set ready u false) v true) t
         by (inl e) = inr (inl (subst (λ (k : ℕ). is_among busy (number_at (set waits u b) k) ≡ true) (sym e) here))
-        by (inr no) = inl (stays t no r)
+        by (inr apart) = inl (stays t apart r)
     go t below free (inr (inl w)) = inr (inl (still t w))
     go t below free (inr (inr (inl g))) = inr (inr (inl g))
     go t below free (inr (inr (inr h))) = by (cases_eq h.number u)
       where
         by : (h.number ≡ u) ⊎ (h.number ≡ u → ⊥) → IsPlaced groups busy (set waits u b) (set (set ready u false) v true) t
         by (inl e) = follows t below free (omega (arith, e, h.before)) (sym h.same ∙ ap (number_at groups) e)
-        by (inr no) = inr (inr (inr (record { number = h.number; before = h.before; marked = stays h.number no h.marked; same = h.same })))
+        by (inr apart) = inr (inr (inr (record { number = h.number; before = h.before; marked = stays h.number apart h.marked; same = h.same })))
 
 -- ---- a task is claimed
 
@@ -152,7 +152,7 @@ renewed_placed groups busy waits claimed ready u long are = record { each = λ t
 
     by : (t : ℕ) → 0 < t → t < length claimed → is_set (set claimed u false) t ≡ false → (t ≡ u) ⊎ (t ≡ u → ⊥) → IsPlaced groups busy waits (set ready u true) t
     by t some below free (inl e) = inl (subst (λ (k : ℕ). is_set (set ready u true) k ≡ true) (sym e) (set_here ready u true (omega (arith, e, below, long))))
-    by t some below free (inr no) = go t (are.each t some below (down_other claimed u t no free))
+    by t some below free (inr apart) = go t (are.each t some below (down_other claimed u t apart free))
 
 -- ---- those that wait for a task are woken
 

@@ -44,5 +44,5 @@ pub record AreFirsts (groups : List ℕ) (claimed : List Bool) (firsts : List �
 pub record AreChained (groups next firsts : List ℕ) (from : ℕ) : Type 0 where
   pub long : length next ≡ length groups
   pub firsts_long : length firsts ≡ length groups
-  pub next : (t : ℕ) → from ≤ t → t < length groups → IsFirst groups [] (number_at groups t) (t + 1) (number_at next t)
-  pub firsts : (group : ℕ) → group < length groups → IsFirst groups [] group from (number_at firsts group)
+  pub each_next : (t : ℕ) → from ≤ t → t < length groups → IsFirst groups [] (number_at groups t) (t + 1) (number_at next t)
+  pub each_first : (group : ℕ) → group < length groups → IsFirst groups [] group from (number_at firsts group)

@@ -62,6 +62,17 @@ fn sorted(alloc: Global, opening: &Opening) -> Result<Vec<u32>, NoMemory>
     Ok(numbers)
 }
 
+/// Puts a task into the group of another one, if they have the same key.
+fn join(opening: &Opening, groups: &mut Vec<u32>, one: u32, other: u32)
+    ensures { AreGroups opening.now groups.old.items × AreWithin groups.old.items → AreGroups opening.now groups.new.items × AreWithin groups.new.items }
+{
+    if !has_same_key(opening, one, other) {
+        return;
+    }
+    let group = number_at(groups, one);
+    put_number(groups, other, group);
+}
+
 /// Of each task the number of its group.
 fn grouped(alloc: Global, opening: &Opening) -> Result<Vec<u32>, NoMemory>
     requires { length opening.now.tasks ≤ most_tasks }
@@ -71,10 +82,7 @@ fn grouped(alloc: Global, opening: &Opening) -> Result<Vec<u32>, NoMemory>
     let mut groups = numbers_of(alloc, opening)?;
     let mut before = 0;
     for task in &sorted {
-        if has_same_key(opening, before, *task) {
-            let group = number_at(&groups, before);
-            put_number(&mut groups, *task, group);
-        }
+        join(opening, &mut groups, before, *task);
         before = *task;
     }
     Ok(groups)
