@@ -9,7 +9,8 @@ use Rattle.journal_model.specs.declared.opening.Opening.{Opening}
 use Rattle.journal_model.specs.Legality.{both_conflict, is_busy, is_claimed, is_free, least_free, numbers_of, task_of}
 use Rattle.journal_model.proofs.Named.{any_there}
 use Rattle.task_queue.specs.Groups.{is_set, number_at}
-use Rattle.task_queue.specs.Queues.{AreBare, HasReadyBefore, IsOf, IsOrdered, IsPlaced, IsQueued, IsSaid, is_among, is_group_busy, is_in_way}
+use Rattle.task_queue.specs.Queues.{HasReadyBefore, IsOf, IsOrdered, IsPlaced, IsQueued, IsSaid, is_among, is_group_busy}
+use Rattle.task_queue.specs.Ways.{AreBare, is_in_way}
 use Rattle.task_queue.specs.declared.queue.Queue.{Queue}
 use Rattle.task_queue.proofs.Grouping.{same_conflict}
 use Rattle.task_queue.proofs.Places.{beyond}

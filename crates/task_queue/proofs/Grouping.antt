@@ -207,3 +207,17 @@ set_within flags t h = go (cases_lt t (length flags))
     go : (t < length flags) ⊎ (length flags ≤ t) → t < length flags
     go (inl within) = within
     go (inr past) = absurd (let bad : false ≡ true = sym (get_or_past flags t false past) ∙ h in cc)
+
+-- what is found from one that is right, where the flags are equal ones
+pub found_first : (groups : List ℕ) (claimed given : List Bool) (group low from first : ℕ) → given ≡ claimed
+    → ((g l : ℕ) → IsFirst groups given g l from → IsFirst groups given g l first) → IsFirst groups claimed group low from → IsFirst groups claimed group low first
+found_first groups claimed given group low from first same finds is =
+    subst (λ (l : List Bool). IsFirst groups l group low first) same (finds group low (subst (λ (l : List Bool). IsFirst groups l group low from) (sym same) is))
+
+-- from the next one of its group on
+pub found_next : (groups next : List ℕ) (claimed given : List Bool) (task from first : ℕ) → AreNext groups next → task < length groups → from ≡ number_at next task → given ≡ claimed
+    → ((g l : ℕ) → IsFirst groups given g l from → IsFirst groups given g l first) → IsFirst groups claimed (number_at groups task) (task + 1) first
+found_next groups next claimed given task from first are within is same finds =
+    found_first groups claimed given (number_at groups task) (task + 1) from first same finds
+    (subst (IsFirst groups claimed (number_at groups task) (task + 1)) (sym is)
+    (first_less groups [] claimed (number_at groups task) (task + 1) (number_at next task) (λ t free. refl) (are.each task within)))

@@ -13,7 +13,8 @@ use Rattle.task_queue.specs.declared.marks.Marks.{Marks}
 use Rattle.task_queue.specs.declared.queue.Queue.{Queue}
 use Rattle.task_queue.specs.Blocks.{AreInBlocks}
 use Rattle.task_queue.specs.Groups.{AreFirsts, IsFirst, is_set, number_at}
-use Rattle.task_queue.specs.Queues.{AreBare, ArePlaced, AreTasks, AreUnclaimed, HasRoom, IsOf, IsOrdered, is_among}
+use Rattle.task_queue.specs.Queues.{ArePlaced, AreTasks, AreUnclaimed, HasRoom, IsOf, IsOrdered, is_among}
+use Rattle.task_queue.specs.Ways.{AreBare}
 use Rattle.task_queue.specs.Woken.{AreWatched, AreWoken}
 use Rattle.task_queue.proofs.Grouping.{firsts_claimed, firsts_let_go, firsts_renewed}
 use Rattle.task_queue.proofs.Places.{any_kept, at_set, count_down, count_up, marked, marked_from, set_here, unmarked_other, unmarked_was}

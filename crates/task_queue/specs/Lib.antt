@@ -2,3 +2,4 @@ pub mod Groups
 pub mod Blocks
 pub mod Queues
 pub mod Woken
+pub mod Ways

@@ -35,15 +35,7 @@ IsPlaced groups busy waits ready t =
 pub record ArePlaced (groups busy waits : List ℕ) (claimed ready : List Bool) : Type 0 where
   pub each : (t : ℕ) → 0 < t → t < length claimed → is_set claimed t ≡ false → IsPlaced groups busy waits ready t
 
--- a busy task of the same group, or of which another text is in its way
-abbrev pub is_in_way : Opening → List ℕ → ℕ → ℕ → Bool
-is_in_way o groups b t = number_at groups b == number_at groups t || both_conflict (task_of o b) (task_of o t)
-
 -- ---- a queue in order
-
--- no task below this one is ready
-pub record AreBare (ready : List Bool) (low : ℕ) : Type 0 where
-  pub each : (t : ℕ) → t < low → is_set ready t ≡ false
 
 -- only tasks that aren't claimed are ready
 pub record AreUnclaimed (claimed ready : List Bool) : Type 0 where

@@ -7,6 +7,7 @@ ghost use Rattle.journal_model.specs.Legality.{both_conflict, least_free, task_o
 ghost use Rattle.journal_model.specs.Limits.{most_tasks};
 ghost use Rattle.task_queue.specs.Groups.{is_set, number_at};
 ghost use Rattle.task_queue.specs.Blocks.{AreInBlocks};
+ghost use Rattle.task_queue.specs.Ways.{AreBare, is_in_way};
 ghost use Rattle.task_queue.specs.Woken.{AreWatched, AreWoken};
 
 use crate::groups::{Groups, first_unclaimed, groups_of};
@@ -48,6 +49,21 @@ fn no_waits(alloc: Global, numbers: usize) -> Result<Vec<u32>, NoMemory>
     Ok(waits)
 }
 
+/// Whether the one task is in the way of the other: most often they have the same key.
+fn is_in_way(opening: &Opening, groups: &Groups, one: u32, other: u32) -> bool
+    ensures { result ≡ is_in_way opening.now groups.now.of.items one other }
+{
+    groups.is_same(one, other) || both_conflict(opening, one, other)
+}
+
+fn add(busy: &mut Vec<u32>, task: u32)
+    requires { length busy.old.items < vec_capacity busy.old }
+    ensures items { busy.new.items ≡ busy.old.items ++ task ∷ [] }
+    ensures room { vec_capacity busy.old ≤ vec_capacity busy.new }
+{
+    let _fits = busy.push(task);
+}
+
 fn let_go(busy: &mut Vec<u32>, task: u32)
     ensures items { busy.new.items ≡ filter (λ b. not (b == task)) busy.old.items }
     ensures room { vec_capacity busy.new ≡ vec_capacity busy.old }
@@ -56,7 +72,7 @@ fn let_go(busy: &mut Vec<u32>, task: u32)
 }
 
 impl Queue {
-    ghost use Rattle.task_queue.specs.Queues.{AreBare, HasRoom, IsNext, IsOf, IsOrdered, IsQueued, IsTurned, is_among, is_in_way};
+    ghost use Rattle.task_queue.specs.Queues.{HasRoom, IsNext, IsOf, IsOrdered, IsQueued, IsTurned, is_among};
 
     /// The queue of the opening's tasks, none of which is claimed. It takes all the memory that is ever needed.
     pub fn new(alloc: Global, opening: &Opening) -> Result<Queue, NoMemory>
@@ -81,7 +97,7 @@ impl Queue {
     {
         self.busy
             .iter()
-            .find(|b| self.groups.is_same(**b, task) || both_conflict(opening, **b, task))
+            .find(|b| is_in_way(opening, &self.groups, **b, task))
             .copied()
     }
 
@@ -137,7 +153,7 @@ impl Queue {
     {
         put_flag(&mut self.claimed, task as usize, true);
         self.ready.unmark(task);
-        let _fits = self.busy.push(task);
+        add(&mut self.busy, task);
     }
 
     /// A busy task is let go.

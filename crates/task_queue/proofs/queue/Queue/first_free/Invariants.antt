@@ -1,5 +1,6 @@
 use Rattle.std.proofs.Common.{◌≡◌, ◌-◌, ◌<◌, length}
-use Rattle.task_queue.specs.Queues.{AreBare, IsOf, IsOrdered}
+use Rattle.task_queue.specs.Queues.{IsOf, IsOrdered}
+use Rattle.task_queue.specs.Ways.{AreBare}
 use Rattle.task_queue.proofs.queue.Queue.first_free.Given as goal
 
 abbrev pub invariant-loop-task : goal.invariant-loop-task
