@@ -3,11 +3,12 @@ use Rattle.std.proofs.Common.{◌≡◌, ◌∙◌, cond, ℕ, zero, suc, ◌+�
 use Rattle.std.specs.Prelude.{◌==◌, ◌&&◌, ◌||◌, count_by, find, vec_capacity}
 use Rattle.std.specs.declared.alloc.Global.{Global}
 use Rattle.std.specs.List.{list_any, range_with_len}
-use Rattle.std.proofs.lemmas.Bool.{and_from, and_left, and_parts, and_right, cases_eq, eq-eqb, eqb-true, false_from_ne_true, not_from_false, not_from_true, or_cases, or_left, or_right}
+use Rattle.std.proofs.lemmas.Bool.{and_from, and_left, and_parts, and_right, cases_eq, cases_lt, eq-eqb, eqb-true, false_from_ne_true, not_from_false, not_from_true, or_cases, or_left, or_right}
 use Rattle.journal_model.specs.declared.entry.Entry.{Entry}
 use Rattle.journal_model.specs.declared.opening.Opening.{Opening}
 use Rattle.journal_model.specs.Legality.{both_conflict, is_busy, is_claimed, is_free, least_free, numbers_of, task_of}
 use Rattle.journal_model.proofs.Named.{any_there}
+use Rattle.task_queue.specs.Blocks.{IsNextMark}
 use Rattle.task_queue.specs.Groups.{is_set, number_at}
 use Rattle.task_queue.specs.Queues.{HasReadyBefore, IsOf, IsOrdered, IsPlaced, IsQueued, IsSaid, is_among, is_group_busy}
 use Rattle.task_queue.specs.Ways.{AreBare, is_in_way}
@@ -98,15 +99,15 @@ unfree o past q t are some below bare = go (is_set q.claimed.items t) refl
     go : (c : Bool) → is_set q.claimed.items t ≡ c → is_free o past t ≡ false
     go true e =
         and_left (not (is_claimed past t)) (not (list_any (λ u. is_busy past u && both_conflict (task_of o u) (task_of o t)) (numbers_of o)))
-        (not_from_true (is_claimed past t) (sym (are.said.claimed t below) ∙ e))
+        (not_from_true (is_claimed past t) (sym (are.said.claimed t some below) ∙ e))
     go false e = placed (are.ordered.placed.each t some below e)
 
 -- ---- a ready task that no busy one is in the way of
 
-pub unhindered : (o : Opening) (past : List Entry) (q : Queue) (t : ℕ) → IsQueued o past q → t < length q.claimed.items → is_set q.ready.flags.items t ≡ true
+pub unhindered : (o : Opening) (past : List Entry) (q : Queue) (t : ℕ) → IsQueued o past q → 0 < t → t < length q.claimed.items → is_set q.ready.flags.items t ≡ true
     → find (λ b. is_in_way o q.groups.of.items b t) q.busy.items ≡ None → is_free o past t ≡ true
-unhindered o past q t are below ready none =
-    let unclaimed : is_claimed past t ≡ false = sym (are.said.claimed t below) ∙ are.ordered.unclaimed.each t ready in
+unhindered o past q t are some below ready none =
+    let unclaimed : is_claimed past t ≡ false = sym (are.said.claimed t some below) ∙ are.ordered.unclaimed.each t ready in
     and_from (not (is_claimed past t)) (not (list_any (λ u. is_busy past u && both_conflict (task_of o u) (task_of o t)) (numbers_of o)))
     (not_from_false (is_claimed past t) unclaimed)
     (not_from_false _ (false_from_ne_true (list_any (λ u. is_busy past u && both_conflict (task_of o u) (task_of o t)) (numbers_of o)) apart))
@@ -137,6 +138,30 @@ hindered o q b t ordered fits found = (found_at.0, go (or_cases (number_at q.gro
 
 -- ---- the least free task
 
+pub bare_more : (flags : List Bool) (from task : ℕ) → AreBare flags from → IsNextMark flags from task → AreBare flags task
+bare_more flags from task bare next = record { each = λ t below. go t below (cases_lt t from) }
+  where
+    go : (t : ℕ) → t < task → (t < from) ⊎ (from ≤ t) → is_set flags t ≡ false
+    go t below (inl less) = bare.each t less
+    go t below (inr more) = next.first t more below
+
+pub bare_all : (flags : List Bool) (from : ℕ) → AreBare flags from → ((t : ℕ) → from ≤ t → is_set flags t ≡ false) → (t : ℕ) → is_set flags t ≡ false
+bare_all flags from bare none t = go (cases_lt t from)
+  where
+    go : (t < from) ⊎ (from ≤ t) → is_set flags t ≡ false
+    go (inl less) = bare.each t less
+    go (inr more) = none t more
+
+-- number 0 isn't ready
+pub first_bare : (q : Queue) → IsOrdered q → AreBare q.ready.flags.items 1
+first_bare q ordered = record { each = λ t below. false_from_ne_true (is_set q.ready.flags.items t) (λ h. apart t below h) }
+  where
+    apart : (t : ℕ) → t < 1 → is_set q.ready.flags.items t ≡ true → ⊥
+    apart t below h =
+        let zero_is : t ≡ 0 = omega (arith, below) in
+        let bad : false ≡ true = sym (ordered.unclaimed.each t h) ∙ ap (is_set q.claimed.items) zero_is ∙ ordered.no_task in
+        cc
+
 bare_less : (flags : List Bool) (low less : ℕ) → less ≤ low → AreBare flags low → AreBare flags less
 bare_less flags low less more bare = record { each = λ t below. bare.each t (omega (arith, more, below)) }
 
@@ -145,7 +170,7 @@ pub least_found : (o : Opening) (past : List Entry) (q : Queue) (t : ℕ) → Is
 least_found o past q t are some below bare ready none =
     least_some (is_free o past) 1 (length o.tasks) t (omega (arith, some)) (omega (arith, below, are.fits.long))
     (λ s from less. unfree o past q s are (omega (arith, from)) (omega (arith, less, below)) (bare_less q.ready.flags.items t (s + 1) (omega (arith, less)) bare))
-    (unhindered o past q t are below ready none)
+    (unhindered o past q t are some below ready none)
 
 pub none_found : (o : Opening) (past : List Entry) (q : Queue) → IsQueued o past q → ((t : ℕ) → is_set q.ready.flags.items t ≡ false) → least_free o past ≡ None
 none_found o past q are bare =
@@ -164,7 +189,7 @@ same_queued o past q r claimed busy ordered fits are = record {
   };
   fits = fits;
   said = record {
-    claimed = subst (λ (c : Vec Bool Global). (t : ℕ) → t < length c.items → is_set c.items t ≡ is_claimed past t) (sym claimed) are.said.claimed;
+    claimed = subst (λ (c : Vec Bool Global). (t : ℕ) → 0 < t → t < length c.items → is_set c.items t ≡ is_claimed past t) (sym claimed) are.said.claimed;
     busy = subst (λ (b : Vec ℕ Global). (t : ℕ) → is_among b.items t ≡ is_busy past t) (sym busy) are.said.busy;
   };
 }

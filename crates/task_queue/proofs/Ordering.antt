@@ -1,5 +1,5 @@
 -- A queue stays in order, with room, and that of its opening.
-use Rattle.std.proofs.Common.{◌≡◌, ◌∙◌, ℕ, ◌+◌, ◌<◌, ◌≤◌, ◌⊎◌, Vec, List, [], ◌∷◌, ◌++◌, refl, sym, ap, subst, Bool, true, false, not, length, get_or, set, replicate, min, arith, inl, inr, length-append}
+use Rattle.std.proofs.Common.{◌≡◌, ◌∙◌, ℕ, ◌+◌, ◌<◌, ◌≤◌, ◌⊎◌, Vec, List, [], ◌∷◌, ◌++◌, refl, sym, ap, subst, Bool, true, false, not, length, get_or, set, replicate, min, arith, inl, inr, length-append, get_or-set_other}
 use Rattle.std.specs.Prelude.{◌==◌, ◌||◌, filter, count_by, vec_capacity}
 use Rattle.std.specs.List.{list_any}
 use Rattle.std.specs.declared.alloc.Global.{Global}
@@ -17,7 +17,7 @@ use Rattle.task_queue.specs.Queues.{ArePlaced, AreTasks, AreUnclaimed, HasRoom, 
 use Rattle.task_queue.specs.Ways.{AreBare}
 use Rattle.task_queue.specs.Woken.{AreWatched, AreWoken}
 use Rattle.task_queue.proofs.Grouping.{firsts_claimed, firsts_let_go, firsts_renewed}
-use Rattle.task_queue.proofs.Places.{any_kept, at_set, count_down, count_up, marked, marked_from, set_here, unmarked_other, unmarked_was}
+use Rattle.task_queue.proofs.Places.{any_kept, at_set, count_up, marked, marked_from, set_here, unmarked_other, unmarked_was}
 use Rattle.task_queue.proofs.Placing.{claimed_placed, let_go_placed, off_group, off_other, renewed_placed}
 
 up : (a b : List Bool) (t : ℕ) → a ≡ b → is_set a t ≡ true → is_set b t ≡ true
@@ -33,6 +33,7 @@ off_group_ordered q ready u b are among same flags blocks = record {
   next = are.next;
   firsts = are.firsts;
   blocks = blocks;
+  no_task = are.no_task;
   busy = are.busy;
   watched = are.watched;
   unclaimed = record { each = λ t h. are.unclaimed.each t (unmarked_was q.ready.flags.items u t (up ready.flags.items (set q.ready.flags.items u false) t flags h)) };
@@ -56,6 +57,7 @@ off_other_ordered q ready waits watched u b v are within among first free flags 
   next = are.next;
   firsts = are.firsts;
   blocks = blocks;
+  no_task = are.no_task;
   busy = are.busy;
   watched = subst (λ (l : List ℕ). AreWatched l watched.items) (sym waits_is) (subst (AreWatched (set q.waits.items u b)) (sym watched_is) watched_so);
   unclaimed = record { each = λ t h. free_at t (marked_from (set q.ready.flags.items u false) v t (up ready.flags.items (set (set q.ready.flags.items u false) v true) t flags h)) };
@@ -115,6 +117,7 @@ claimed_ordered q claimed ready busy u are some within claimed_is flags blocks b
   next = are.next;
   firsts = subst (λ (l : List Bool). AreFirsts q.groups.of.items l q.groups.firsts.items) (sym claimed_is) (firsts_claimed q.groups.of.items q.groups.firsts.items q.claimed.items u are.firsts);
   blocks = blocks;
+  no_task = ap (λ (l : List Bool). is_set l 0) claimed_is ∙ marked q.claimed.items u 0 are.no_task;
   busy = subst (λ (l : List ℕ). AreTasks l (length claimed.items)) (sym busy_is) (subst (AreTasks (q.busy.items ++ u ∷ [])) (sym long) tasks);
   watched = are.watched;
   unclaimed = subst (λ (l : List Bool). AreUnclaimed l ready.flags.items) (sym claimed_is) (subst (AreUnclaimed (set q.claimed.items u true)) (sym flags) unclaimed);
@@ -170,6 +173,7 @@ let_go_ordered q firsts woken ready busy u v are among wakes first free firsts_i
   firsts = subst (AreFirsts q.groups.of.items q.claimed.items) (sym firsts_is)
       (firsts_let_go q.groups.of.items q.groups.firsts.items q.claimed.items (number_at q.groups.of.items u) v first are.firsts);
   blocks = blocks;
+  no_task = are.no_task;
   busy = subst (λ (l : List ℕ). AreTasks l (length q.claimed.items)) (sym busy_is)
       (record { each = λ t h. are.busy.each t (any_kept (λ (b : ℕ). b == t) (λ (b : ℕ). not (b == u)) q.busy.items h) });
   watched = are.watched;
@@ -193,12 +197,12 @@ let_go_ordered q firsts woken ready busy u v are among wakes first free firsts_i
 
 -- ---- a task is to be claimed again
 
-pub renewed_ordered : (q : Queue) (claimed : Vec Bool Global) (firsts : Vec ℕ Global) (ready : Marks) (u : ℕ) → IsOrdered q → u < length q.claimed.items
+pub renewed_ordered : (q : Queue) (claimed : Vec Bool Global) (firsts : Vec ℕ Global) (ready : Marks) (u : ℕ) → IsOrdered q → 0 < u → u < length q.claimed.items
     → claimed.items ≡ set q.claimed.items u false
     → firsts.items ≡ set q.groups.firsts.items (number_at q.groups.of.items u) (min (number_at q.groups.firsts.items (number_at q.groups.of.items u)) u)
     → ready.flags.items ≡ set q.ready.flags.items u true → AreInBlocks ready.flags.items ready.blocks.items
     → IsOrdered (record q { claimed = claimed; groups = record q.groups { firsts = firsts }; ready = ready })
-renewed_ordered q claimed firsts ready u are within claimed_is firsts_is flags blocks = record {
+renewed_ordered q claimed firsts ready u are some within claimed_is firsts_is flags blocks = record {
   long = record { groups = are.long.groups ∙ sym long; ready = ap length flags ∙ length-set q.ready.flags.items u true ∙ are.long.ready ∙ sym long; waits = are.long.waits ∙ sym long; watched = are.long.watched ∙ sym long };
   within = are.within;
   next = are.next;
@@ -206,6 +210,7 @@ renewed_ordered q claimed firsts ready u are within claimed_is firsts_is flags b
       (subst (AreFirsts q.groups.of.items (set q.claimed.items u false)) (sym firsts_is)
       (firsts_renewed q.groups.of.items q.groups.firsts.items q.claimed.items u (omega (arith, within, are.long.groups)) are.within are.firsts));
   blocks = blocks;
+  no_task = ap (λ (l : List Bool). is_set l 0) claimed_is ∙ get_or-set_other q.claimed.items u 0 false false (λ e. (let none : ⊥ = omega (arith, e, some) in none)) ∙ are.no_task;
   busy = subst (AreTasks q.busy.items) (sym long) are.busy;
   watched = are.watched;
   unclaimed = subst (λ (l : List Bool). AreUnclaimed l ready.flags.items) (sym claimed_is) (subst (AreUnclaimed (set q.claimed.items u false)) (sym flags) unclaimed);
@@ -223,10 +228,3 @@ renewed_ordered q claimed firsts ready u are within claimed_is firsts_is flags b
         by : (t : ℕ) → (t ≡ u) ⊎ (is_set q.ready.flags.items t ≡ true) → is_set (set q.claimed.items u false) t ≡ false
         by t (inl e) = ap (is_set (set q.claimed.items u false)) e ∙ set_here q.claimed.items u false within
         by t (inr k) = at_set (λ (b : Bool). b ≡ false) q.claimed.items u t false false (λ e w. refl) (λ other. are.unclaimed.each t k)
-
--- one fewer is busy, and at most one more isn't claimed
-pub renewed_room : (q r : Queue) (u : ℕ) → HasRoom q → length r.busy.items < length q.busy.items → r.claimed.items ≡ set q.claimed.items u false → vec_capacity r.busy ≡ vec_capacity q.busy → HasRoom r
-renewed_room q r u are less claimed_is room = record {
-  left = (let one = count_down q.claimed.items u in omega (arith, are.left, less, ap length claimed_is, length-set q.claimed.items u false, ap (count_by not) claimed_is, one));
-  room = omega (arith, are.room, ap length claimed_is, length-set q.claimed.items u false, room);
-}

@@ -75,13 +75,6 @@ pub count_up : (flags : List Bool) (n : ℕ) → n < length flags → is_set fla
 count_up flags n within h =
     omega (arith, ap one_if_not h, sum_by-set one_if_not flags n true false within)
 
-pub count_down : (flags : List Bool) (n : ℕ) → count_by not (set flags n false) ≤ count_by not flags + 1
-count_down flags n = go (cases_lt n (length flags))
-  where
-    go : (n < length flags) ⊎ (length flags ≤ n) → count_by not (set flags n false) ≤ count_by not flags + 1
-    go (inl within) = omega (arith, sum_by-set one_if_not flags n false false within)
-    go (inr past) = (let same : count_by not (set flags n false) ≡ count_by not flags = ap (count_by not) (set_past flags n false past) in omega (arith, same))
-
 -- ---- the busy ones
 
 pub any_more : (p : ℕ → Bool) (xs : List ℕ) (x : ℕ) → list_any p xs ≡ true → list_any p (xs ++ x ∷ []) ≡ true

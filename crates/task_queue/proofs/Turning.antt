@@ -1,5 +1,5 @@
 -- What a queue says after one more entry.
-use Rattle.std.proofs.Common.{◌≡◌, ◌∙◌, cond, ℕ, ◌<◌, ◌≤◌, ◌⊎◌, List, [], ◌∷◌, ◌++◌, refl, sym, ap, Bool, true, false, not, length, set, replicate, arith, inl, inr}
+use Rattle.std.proofs.Common.{◌≡◌, ◌∙◌, cond, ℕ, ◌<◌, ◌≤◌, ◌⊎◌, List, [], ◌∷◌, ◌++◌, refl, sym, ap, Bool, true, false, not, length, set, replicate, arith, inl, inr, get_or-set_other}
 use Rattle.std.specs.Prelude.{◌==◌, ◌&&◌, ◌||◌, filter, count_by}
 use Rattle.std.specs.List.{list_any}
 use Rattle.std.proofs.lemmas.Bool.{cases_lt}
@@ -11,7 +11,7 @@ use Rattle.journal_model.specs.declared.answer.Answer.{Answer}
 use Rattle.journal_model.specs.declared.entry.What.{What}
 use Rattle.journal_model.specs.declared.entry.What.TheVariants.{Claim, Answer as Answered, Again}
 use Rattle.journal_model.specs.declared.entry.Entry.{Entry}
-use Rattle.journal_model.specs.Legality.{is_busy, is_claimed}
+use Rattle.journal_model.specs.Legality.{claimed_after, is_busy, is_claimed}
 use Rattle.task_queue.specs.Groups.{is_set}
 use Rattle.task_queue.specs.Queues.{IsSaid, IsTurned, busy_after, is_among}
 use Rattle.task_queue.specs.declared.queue.Queue.{Queue}
@@ -42,9 +42,9 @@ among_without busy u t = any-filter_same (λ (b : ℕ). b == t) (λ (b : ℕ). n
 
 pub said_claim : (past after : List Entry) (q r : Queue) (u child : ℕ) → IsTurned past (Claim u child) after → r.claimed.items ≡ set q.claimed.items u true → r.busy.items ≡ q.busy.items ++ u ∷ [] → IsSaid past q → IsSaid after r
 said_claim past after q r u child turned claimed_is busy_is said = record {
-  claimed = λ t below.
+  claimed = λ t some below.
       let within : t < length q.claimed.items = omega (arith, below, ap length claimed_is, length-set q.claimed.items u true) in
-      ap (λ (l : List Bool). is_set l t) claimed_is ∙ written q.claimed.items u t true within ∙ ap (cond (u == t) true) (said.claimed t within) ∙ claims (u == t) (is_claimed past t) ∙ sym (turned.claimed t);
+      ap (λ (l : List Bool). is_set l t) claimed_is ∙ written q.claimed.items u t true within ∙ ap (cond (u == t) true) (said.claimed t some within) ∙ claims (u == t) (is_claimed past t) ∙ sym (turned.claimed t);
   busy = λ t. ap (λ (l : List ℕ). is_among l t) busy_is ∙ among_last q.busy.items u t ∙ ap (λ (c : Bool). c || u == t) (said.busy t) ∙ sym (turned.busy t);
 }
   where
@@ -56,15 +56,15 @@ said_claim past after q r u child turned claimed_is busy_is said = record {
 
 pub said_answer : (past after : List Entry) (q r : Queue) (u : ℕ) (answer : Answer) → IsTurned past (Answered u answer) after → r.claimed.items ≡ q.claimed.items → r.busy.items ≡ filter (λ b. not (b == u)) q.busy.items → IsSaid past q → IsSaid after r
 said_answer past after q r u answer turned claimed_is busy_is said = record {
-  claimed = λ t below. ap (λ (l : List Bool). is_set l t) claimed_is ∙ said.claimed t (omega (arith, below, ap length claimed_is)) ∙ sym (turned.claimed t);
+  claimed = λ t some below. ap (λ (l : List Bool). is_set l t) claimed_is ∙ said.claimed t some (omega (arith, below, ap length claimed_is)) ∙ sym (turned.claimed t);
   busy = λ t. ap (λ (l : List ℕ). is_among l t) busy_is ∙ among_without q.busy.items u t ∙ ap (λ (c : Bool). c && not (u == t)) (said.busy t) ∙ sym (turned.busy t);
 }
 
 pub said_again : (past after : List Entry) (q r : Queue) (u : ℕ) (answer : Answer) → IsTurned past (Again u answer) after → r.claimed.items ≡ set q.claimed.items u false → r.busy.items ≡ filter (λ b. not (b == u)) q.busy.items → IsSaid past q → IsSaid after r
 said_again past after q r u answer turned claimed_is busy_is said = record {
-  claimed = λ t below.
+  claimed = λ t some below.
       let within : t < length q.claimed.items = omega (arith, below, ap length claimed_is, length-set q.claimed.items u false) in
-      ap (λ (l : List Bool). is_set l t) claimed_is ∙ written q.claimed.items u t false within ∙ ap (cond (u == t) false) (said.claimed t within) ∙ renews (u == t) (is_claimed past t) ∙ sym (turned.claimed t);
+      ap (λ (l : List Bool). is_set l t) claimed_is ∙ written q.claimed.items u t false within ∙ ap (cond (u == t) false) (said.claimed t some within) ∙ renews (u == t) (is_claimed past t) ∙ sym (turned.claimed t);
   busy = λ t. ap (λ (l : List ℕ). is_among l t) busy_is ∙ among_without q.busy.items u t ∙ ap (λ (c : Bool). c && not (u == t)) (said.busy t) ∙ sym (turned.busy t);
 }
   where
@@ -83,5 +83,30 @@ none_set n flags t is = ap (λ (l : List Bool). is_set l t) is ∙ go (cases_lt 
     go (inl within) = get_or-replicate n t false false within
     go (inr past) = get_or_past (replicate n false) t false (omega (arith, past, length-replicate n false))
 
-pub none_said : (q : Queue) (n : ℕ) → q.claimed.items ≡ replicate n false → q.busy.items ≡ [] → IsSaid [] q
-none_said q n claimed_is busy_is = record { claimed = λ t below. none_set n q.claimed.items t claimed_is; busy = λ t. ap (λ (l : List ℕ). is_among l t) busy_is }
+pub none_said : (q : Queue) (n : ℕ) → q.claimed.items ≡ set (replicate n false) 0 true → q.busy.items ≡ [] → IsSaid [] q
+none_said q n claimed_is busy_is = record {
+  claimed = λ t some below.
+      ap (λ (l : List Bool). is_set l t) claimed_is ∙ get_or-set_other (replicate n false) 0 t true false (λ e. (let none : ⊥ = omega (arith, e, some) in none)) ∙ none_set n (replicate n false) t refl;
+  busy = λ t. ap (λ (l : List ℕ). is_among l t) busy_is;
+}
+
+-- ---- an entry of another kind
+
+claimed_other : (t : ℕ) (w : What) (b : Bool) → ((task child : ℕ) → w ≡ Claim task child → ⊥) → ((task : ℕ) (answer : Answer) → w ≡ Again task answer → ⊥) → claimed_after t b w ≡ b
+claimed_other t (Claim task child) b claim again = absurd (claim task child refl)
+claimed_other t (Again task answer) b claim again = absurd (again task answer refl)
+claimed_other t w b claim again = refl
+
+busy_other : (t : ℕ) (w : What) (b : Bool) → ((task child : ℕ) → w ≡ Claim task child → ⊥) → ((task : ℕ) (answer : Answer) → w ≡ Answered task answer → ⊥) → ((task : ℕ) (answer : Answer) → w ≡ Again task answer → ⊥)
+    → busy_after t b w ≡ b
+busy_other t (Claim task child) b claim answer again = absurd (claim task child refl)
+busy_other t (Answered task a) b claim answer again = absurd (answer task a refl)
+busy_other t (Again task a) b claim answer again = absurd (again task a refl)
+busy_other t w b claim answer again = refl
+
+pub said_other : (past after : List Entry) (q : Queue) (w : What) → ((task child : ℕ) → w ≡ Claim task child → ⊥) → ((task : ℕ) (answer : Answer) → w ≡ Answered task answer → ⊥)
+    → ((task : ℕ) (answer : Answer) → w ≡ Again task answer → ⊥) → IsTurned past w after → IsSaid past q → IsSaid after q
+said_other past after q w claim answer again turned said = record {
+  claimed = λ t some below. said.claimed t some below ∙ sym (claimed_other t w (is_claimed past t) claim again) ∙ sym (turned.claimed t);
+  busy = λ t. said.busy t ∙ sym (busy_other t w (is_busy past t) claim answer again) ∙ sym (turned.busy t);
+}

@@ -52,12 +52,14 @@ pub record AreLong (q : Queue) : Type 0 where
   pub waits : length q.waits.items ≡ length q.claimed.items
   pub watched : length q.watched.items ≡ length q.claimed.items
 
+-- number 0, which no task has, counts as claimed
 pub record IsOrdered (q : Queue) : Type 0 where
   pub long : AreLong q
   pub within : AreWithin q.groups.of.items
   pub next : AreNext q.groups.of.items q.groups.next.items
   pub firsts : AreFirsts q.groups.of.items q.claimed.items q.groups.firsts.items
   pub blocks : AreInBlocks q.ready.flags.items q.ready.blocks.items
+  pub no_task : is_set q.claimed.items 0 ≡ true
   pub busy : AreTasks q.busy.items (length q.claimed.items)
   pub watched : AreWatched q.waits.items q.watched.items
   pub unclaimed : AreUnclaimed q.claimed.items q.ready.flags.items
@@ -78,7 +80,7 @@ pub record IsOf (o : Opening) (q : Queue) : Type 0 where
 
 -- it says which tasks are claimed and busy
 pub record IsSaid (past : List Entry) (q : Queue) : Type 0 where
-  pub claimed : (t : ℕ) → t < length q.claimed.items → is_set q.claimed.items t ≡ is_claimed past t
+  pub claimed : (t : ℕ) → 0 < t → t < length q.claimed.items → is_set q.claimed.items t ≡ is_claimed past t
   pub busy : (t : ℕ) → is_among q.busy.items t ≡ is_busy past t
 
 -- it is the queue of the opening's tasks after the journal

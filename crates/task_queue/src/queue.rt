@@ -1,5 +1,5 @@
 // The tasks of a run: which are claimed, which are busy, and which of the others may be free.
-ghost use Rattle.std.specs.Prelude.{ℕ, ◌≡◌, ◌<◌, ◌≤◌, ◌+◌, ◌==◌, ◌^◌, ◌++◌, ◌∷◌, [], not, Bool, List, length, filter, find, replicate, true, false, if◌then◌else◌, ◌&&◌, min, IfOk, vec_capacity};
+ghost use Rattle.std.specs.Prelude.{ℕ, ◌≡◌, ◌<◌, ◌≤◌, ◌+◌, ◌==◌, ◌^◌, ◌++◌, ◌∷◌, [], not, Bool, List, length, filter, find, replicate, true, false, if◌then◌else◌, ◌&&◌, min, IfOk, option_copied, vec_capacity};
 ghost use Rattle.std.specs.List.{slice_set};
 ghost use Rattle.journal_model.specs.declared.entry.Entry.{Entry};
 ghost use Rattle.journal_model.specs.declared.opening.Opening.{Opening};
@@ -41,6 +41,25 @@ fn flags(alloc: Global, numbers: usize) -> Result<Vec<bool>, NoMemory>
     Ok(flags)
 }
 
+/// No task is claimed. Number 0, which no task has, counts as claimed.
+fn none_claimed(alloc: Global, numbers: usize) -> Result<Vec<bool>, NoMemory>
+    ensures { IfOk result (λ claimed. claimed.items ≡ slice_set (replicate numbers false) 0 true) }
+{
+    let mut claimed = flags(alloc, numbers)?;
+    put_flag(&mut claimed, 0, true);
+    Ok(claimed)
+}
+
+/// Each task is ready.
+fn all_ready(alloc: Global, numbers: u32) -> Result<Marks, NoMemory>
+    ensures flags { IfOk result (λ ready. ready.flags.items ≡ slice_set (replicate numbers true) 0 false) }
+    ensures blocks { IfOk result (λ ready. AreInBlocks ready.flags.items ready.blocks.items) }
+{
+    let mut ready = marks::all(alloc, numbers)?;
+    ready.unmark(0);
+    Ok(ready)
+}
+
 fn no_waits(alloc: Global, numbers: usize) -> Result<Vec<u32>, NoMemory>
     ensures { IfOk result (λ waits. waits.items ≡ replicate numbers 0) }
 {
@@ -54,6 +73,17 @@ fn is_in_way(opening: &Opening, groups: &Groups, one: u32, other: u32) -> bool
     ensures { result ≡ is_in_way opening.now groups.now.of.items one other }
 {
     groups.is_same(one, other) || both_conflict(opening, one, other)
+}
+
+fn find_in_way<'a>(
+    opening: &Opening,
+    groups: &Groups,
+    busy: &'a [u32],
+    task: u32,
+) -> Option<&'a u32>
+    ensures { option_copied result ≡ find (λ b. is_in_way opening.now groups.now.of.items b task) busy.entry.now }
+{
+    busy.iter().find(|b| is_in_way(opening, groups, **b, task))
 }
 
 fn add(busy: &mut Vec<u32>, task: u32)
@@ -82,10 +112,10 @@ impl Queue {
         let groups = groups_of(alloc, opening)?;
         let numbers = groups.of.len();
         Ok(Queue {
-            claimed: flags(alloc, numbers)?,
+            claimed: none_claimed(alloc, numbers)?,
             busy: Vec::with_capacity(alloc, numbers)?,
             groups,
-            ready: marks::all(alloc, numbers as u32)?,
+            ready: all_ready(alloc, numbers as u32)?,
             waits: no_waits(alloc, numbers)?,
             watched: flags(alloc, numbers)?,
         })
@@ -95,10 +125,10 @@ impl Queue {
     fn in_way(&self, opening: &Opening, task: u32) -> Option<u32>
         ensures { result ≡ find (λ b. is_in_way opening.now self.now.groups.of.items b task) self.now.busy.items }
     {
-        self.busy
-            .iter()
-            .find(|b| is_in_way(opening, &self.groups, **b, task))
-            .copied()
+        match find_in_way(opening, &self.groups, &self.busy, task) {
+            Some(other) => Some(*other),
+            None => None,
+        }
     }
 
     /// A busy task is in the way of a ready one, which isn't looked at again before that one is let go.

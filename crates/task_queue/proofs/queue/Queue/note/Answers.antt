@@ -2,7 +2,7 @@ use Rattle.std.proofs.Common.{◌≡◌, Vec, List, Bool, subst, sym, ap}
 use Rattle.std.specs.declared.alloc.Global.{Global}
 use Rattle.journal_model.specs.declared.entry.What.{What}
 use Rattle.task_queue.specs.Queues.{IsTurned}
-use Rattle.task_queue.proofs.Turning.{said_again, said_answer, said_claim}
+use Rattle.task_queue.proofs.Turning.{said_again, said_answer, said_claim, said_other}
 use Rattle.task_queue.proofs.queue.Queue.note.Goals as goal
 
 pub returns-in-Claim : goal.returns-in-Claim
@@ -28,4 +28,12 @@ returns-in-Again c = λ o past after turned are. record {
   roomy = c.renew.ensures.room;
   fits = c.renew.ensures.fits o are.fits;
   said = said_again past after c.args.self.now c.renew.new.self c.in-Again.task c.in-Again.answer (subst (λ (w : What). IsTurned past w after) c.in-Again.is turned) c.renew.ensures.claimed c.renew.ensures.busy are.said;
+}
+
+pub returns-in_default : goal.returns-in_default
+returns-in_default c = λ o past after turned are. record {
+  ordered = are.ordered;
+  roomy = are.roomy;
+  fits = are.fits;
+  said = said_other past after c.args.self.now c.args.what.now c.in_default.not-Claim c.in_default.not-Answer c.in_default.not-Again turned are.said;
 }
