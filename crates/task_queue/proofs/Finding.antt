@@ -75,8 +75,8 @@ least_none p a (suc n) none =
 blocked : (o : Opening) (past : List Entry) (b t : ℕ) → 0 < b → b < length o.tasks + 1 → is_busy past b ≡ true → both_conflict (task_of o b) (task_of o t) ≡ true → is_free o past t ≡ false
 blocked o past b t some within busy conflict =
     let here : list_any (λ u. is_busy past u && both_conflict (task_of o u) (task_of o t)) (numbers_of o) ≡ true =
-        any_number (λ (u : ℕ). is_busy past u && both_conflict (task_of o u) (task_of o t)) 1 (length o.tasks) b (omega (arith, some)) (omega (arith, within))
-        (and_from (is_busy past b) (both_conflict (task_of o b) (task_of o t)) busy conflict) in
+    any_number (λ (u : ℕ). is_busy past u && both_conflict (task_of o u) (task_of o t)) 1 (length o.tasks) b (omega (arith, some)) (omega (arith, within))
+    (and_from (is_busy past b) (both_conflict (task_of o b) (task_of o t)) busy conflict) in
     and_right (not (is_claimed past t)) (not (list_any (λ u. is_busy past u && both_conflict (task_of o u) (task_of o t)) (numbers_of o))) (not_from_true _ here)
 
 pub unfree : (o : Opening) (past : List Entry) (q : Queue) (t : ℕ) → IsQueued o past q → 0 < t → t < length q.claimed.items → AreBare q.ready.flags.items (t + 1) → is_free o past t ≡ false
@@ -117,8 +117,8 @@ unhindered o past q t are some below ready none =
         let w = any_found (λ (u : ℕ). is_busy past u && both_conflict (task_of o u) (task_of o t)) (numbers_of o) h in
         let both = and_parts (is_busy past w.0) (both_conflict (task_of o w.0) (task_of o t)) w.2 in
         let hindered : list_any (λ (b : ℕ). is_in_way o q.groups.of.items b t) q.busy.items ≡ true =
-            any_there (λ (b : ℕ). is_in_way o q.groups.of.items b t) w.0 q.busy.items (are.said.busy w.0 ∙ both.0)
-            (or_right (number_at q.groups.of.items w.0 == number_at q.groups.of.items t) (both_conflict (task_of o w.0) (task_of o t)) both.1) in
+        any_there (λ (b : ℕ). is_in_way o q.groups.of.items b t) w.0 q.busy.items (are.said.busy w.0 ∙ both.0)
+        (or_right (number_at q.groups.of.items w.0 == number_at q.groups.of.items t) (both_conflict (task_of o w.0) (task_of o t)) both.1) in
         let bad : false ≡ true = sym (found_none (λ (b : ℕ). is_in_way o q.groups.of.items b t) q.busy.items none) ∙ hindered in
         cc
 

@@ -203,6 +203,6 @@ woken_next waits claimed old flags new task number is are = subst (AreWoken wait
         by t low below waiting free (inl less) = are.woken t less below waiting free
         by t low below waiting free (inr same) =
             let here : (number_at waits number == task && not (is_set claimed number)) ≡ true =
-                and_from (number_at waits number == task) (not (is_set claimed number)) (eq-eqb (number_at waits number) task (ap (number_at waits) (sym same) ∙ waiting))
-                (not_from_false (is_set claimed number) (ap (is_set claimed) (sym same) ∙ free)) in
+            and_from (number_at waits number == task) (not (is_set claimed number)) (eq-eqb (number_at waits number) task (ap (number_at waits) (sym same) ∙ waiting))
+            (not_from_false (is_set claimed number) (ap (is_set claimed) (sym same) ∙ free)) in
             absurd (let bad : false ≡ true = sym e ∙ here in cc)

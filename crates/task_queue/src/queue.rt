@@ -272,13 +272,7 @@ fn wake(ready: &mut Marks, waits: &[u32], claimed: &[bool], task: u32)
 }
 
 /// The same, where none may wait for it.
-fn wake_watchers(
-    ready: &mut Marks,
-    waits: &[u32],
-    watched: &[bool],
-    claimed: &[bool],
-    task: u32,
-)
+fn wake_watchers(ready: &mut Marks, waits: &[u32], watched: &[bool], claimed: &[bool], task: u32)
     requires few { length waits.now < 2 ^ 32 }
     requires some { 0 < task }
     requires watched { AreWatched waits.now watched.now }

@@ -8,7 +8,7 @@ returns c = λ are. (
     let o = c.args.opening.now in
     let groups = c.args.groups.now.items in
     let is : c.put_number.new.numbers.items ≡ set groups c.args.other (number_at groups c.args.one) =
-        c.put_number.ensures ∙ ap (set groups c.args.other) (c.number_at-group.ensures ∙ ap (λ (l : List ℕ). number_at l c.args.one) c.deref.ensures.value) in
+    c.put_number.ensures ∙ ap (set groups c.args.other) (c.number_at-group.ensures ∙ ap (λ (l : List ℕ). number_at l c.args.one) c.deref.ensures.value) in
     subst (λ (l : List ℕ). AreGroups o l × AreWithin l) (sym is)
     (regrouped o groups c.args.one c.args.other (c.has_same_key.ensures c.if-not-has_same_key.false) are)
     )

@@ -16,6 +16,7 @@ use Rattle.host_core.specs.Books.{notes_after}
 use Rattle.host_core.specs.CoreValue.{CoreValue}
 use Rattle.host_core.specs.Mays.{IsMadeBy}
 use Rattle.host_core.specs.Moves.{group_made, group_room}
+use Rattle.host_core.specs.Queued.{IsTurnedIn}
 use Rattle.host_core.specs.Runs.{AreRuns}
 use Rattle.host_core.specs.Settings.{set_in, registers_after, IsServed}
 use Rattle.host_core.proofs.Sharing.{step_made}
@@ -23,6 +24,7 @@ use Rattle.host_core.proofs.Stepping.{Legal-step}
 use Rattle.host_core.proofs.Pushing.{group_fits, few_entries, free_room, free_first}
 use Rattle.host_core.proofs.Sparing.{event_free}
 use Rattle.host_core.proofs.Noting.{note_fits, notes_grow}
+use Rattle.host_core.proofs.Queueing.{queue_fits, queue_turns}
 use Rattle.host_core.proofs.Running.{runs_fit, runs_grow}
 use Rattle.host_core.proofs.Setting.{settings_group, line_fits, registers_grow}
 use Rattle.host_core.proofs.machine.Core.step.Goals as goal
@@ -53,6 +55,28 @@ note-requires c =
     let past : List Entry = c.self.inside.journal.entries in
     let few = few_entries o past c.self.inside.journal.room c.self.invariant.0 c.self.invariant.2 c.self.invariant.3 in
     runs_fit o past c.args.by c.args.event c.in_ok-step.step.what c.in_ok-step.step.due c.self.inside.runs.items few c.self.invariant.1.again c.self.invariant.6 c.in_ok-step.ensures.step.group_is
+
+pub free_task-requires-clause-ordered : goal.free_task-requires-clause-ordered
+free_task-requires-clause-ordered c = c.self.invariant.7.ordered
+
+pub free_task-requires-clause-fits : goal.free_task-requires-clause-fits
+free_task-requires-clause-fits c = c.self.invariant.7.fits
+
+pub move_of-requires-clause-free : goal.move_of-requires-clause-free
+move_of-requires-clause-free c = λ child claims. c.free_task-free.ensures.free c.self.inside.journal.entries child c.self.invariant.7 claims
+
+pub note-2-requires-clause-ordered : goal.note-2-requires-clause-ordered
+note-2-requires-clause-ordered c = (c.free_task-free.ensures.kept c.self.inside.journal.entries c.self.invariant.7).ordered
+
+pub note-2-requires-clause-room : goal.note-2-requires-clause-room
+note-2-requires-clause-room c = (c.free_task-free.ensures.kept c.self.inside.journal.entries c.self.invariant.7).roomy
+
+pub note-2-requires-clause-next : goal.note-2-requires-clause-next
+note-2-requires-clause-next c =
+    let o : Opening = c.self.inside.opening in
+    let past : List Entry = c.self.inside.journal.entries in
+    let few = few_entries o past c.self.inside.journal.room c.self.invariant.0 c.self.invariant.2 c.self.invariant.3 in
+    queue_fits o past c.args.by c.args.event c.in_ok-step.step.what c.in_ok-step.step.due c.free_task-free.new.queue few (c.free_task-free.ensures.kept past c.self.invariant.7) c.in_ok-step.ensures.step.group_is
 
 pub push_group-requires : goal.push_group-requires
 push_group-requires c =
@@ -129,6 +153,8 @@ invariant_of-self-2 c =
       subst (λ (es : List Entry). AreRuns o es c.note.new.runs.items) (sym grown)
           (subst (AreRuns o (past ++ group_made past c.args.by what due)) (sym c.note.ensures)
           (runs_grow o past c.args.by c.args.event what due c.self.inside.runs.items few c.self.invariant.1.again c.self.invariant.6 e)),
+      c.note-2.ensures o past c.push_group.new.journal.entries (subst (IsTurnedIn past what) (sym grown) (queue_turns o past c.args.by c.args.event what due c.free_task-free.new.queue few (c.free_task-free.ensures.kept past c.self.invariant.7) e))
+      (c.free_task-free.ensures.kept past c.self.invariant.7),
     )
 
 pub returns-clause-reply : goal.returns-clause-reply

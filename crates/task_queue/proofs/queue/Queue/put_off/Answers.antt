@@ -26,7 +26,7 @@ returns-clause-ordered c =
     let at : c.number_at-next.result ≡ number_at q.groups.next.items task = c.number_at-next.ensures ∙ ap (λ (l : List ℕ). number_at l task) c.deref.ensures.value in
     let within : task < length groups = omega (arith, c.requires.within, c.requires.ordered.long.groups) in
     let first : IsFirst groups claimed (number_at groups task) (task + 1) next =
-        found_next groups q.groups.next.items claimed c.deref-2.result.now task c.number_at-next.result next c.requires.ordered.next within at c.deref-2.ensures.value c.first_unclaimed-next.ensures.first in
+    found_next groups q.groups.next.items claimed c.deref-2.result.now task c.number_at-next.result next c.requires.ordered.next within at c.deref-2.ensures.value c.first_unclaimed-next.ensures.first in
     let free : is_set claimed next ≡ false = ap (λ (l : List Bool). is_set l next) (sym c.deref-2.ensures.value) ∙ c.first_unclaimed-next.ensures.unclaimed in
     off_other_ordered q c.mark.new.self c.put_number.new.numbers c.put_flag.new.flags task c.args.other next c.requires.ordered c.requires.within c.requires.busy first free
     (c.mark.ensures.flags ∙ ap (λ (l : List Bool). set l next true) c.unmark.ensures.flags) c.mark.ensures.blocks c.put_number.ensures c.put_flag.ensures
@@ -47,6 +47,6 @@ returns-clause-bare c =
     let at : c.number_at-next.result ≡ number_at q.groups.next.items task = c.number_at-next.ensures ∙ ap (λ (l : List ℕ). number_at l task) c.deref.ensures.value in
     let within : task < length groups = omega (arith, c.requires.within, c.requires.ordered.long.groups) in
     let first : IsFirst groups claimed (number_at groups task) (task + 1) next =
-        found_next groups q.groups.next.items claimed c.deref-2.result.now task c.number_at-next.result next c.requires.ordered.next within at c.deref-2.ensures.value c.first_unclaimed-next.ensures.first in
+    found_next groups q.groups.next.items claimed c.deref-2.result.now task c.number_at-next.result next c.requires.ordered.next within at c.deref-2.ensures.value c.first_unclaimed-next.ensures.first in
     off_other_bare q.ready.flags.items c.mark.new.self.flags.items task next (omega (arith, c.requires.within, c.requires.ordered.long.ready)) (omega (arith, first.above))
     (c.mark.ensures.flags ∙ ap (λ (l : List Bool). set l next true) c.unmark.ensures.flags)

@@ -13,7 +13,7 @@ returns-clause-ordered c =
     let within : task < length r.claimed.items = omega (arith, (c.requires.ordered.busy.each task c.requires.busy).1, ap (λ (v : Vec Bool Global). length v.items) c.release.ensures.claimed) in
     let group : c.number_at-group.result ≡ number_at groups task = c.number_at-group.ensures ∙ ap (λ (l : List ℕ). number_at l task) c.deref.ensures.value in
     let first : c.number_at-first.result ≡ number_at r.groups.firsts.items (number_at groups task) =
-        c.number_at-first.ensures ∙ ap (λ (l : List ℕ). number_at l c.number_at-group.result) c.deref-2.ensures.value ∙ ap (number_at r.groups.firsts.items) group in
+    c.number_at-first.ensures ∙ ap (λ (l : List ℕ). number_at l c.number_at-group.result) c.deref-2.ensures.value ∙ ap (number_at r.groups.firsts.items) group in
     let lower : c.min.result ≡ min (number_at r.groups.firsts.items (number_at groups task)) task = c.min.ensures ∙ ap (λ (n : ℕ). min n task) first in
     renewed_ordered r c.put_flag.new.flags c.put_number.new.numbers c.mark.new.self task c.release.ensures.ordered (c.requires.ordered.busy.each task c.requires.busy).0 within c.put_flag.ensures
     (c.put_number.ensures ∙ ap (λ (g : ℕ). set r.groups.firsts.items g c.min.result) group ∙ ap (set r.groups.firsts.items (number_at groups task)) lower)
