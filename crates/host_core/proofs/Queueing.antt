@@ -84,7 +84,7 @@ next_so o past by (Claim task child) q are may =
     let within : task < length q.claimed.items = omega (arith, found.1, are.fits.long) in
     let unclaimed : is_claimed past task ≡ false =
         not-true (is_claimed past task) (both (not (is_claimed past task)) (not (list_any (λ (u : ℕ). is_busy past u && both_conflict (task_of o u) (task_of o task)) (numbers_of o))) found.2).0 in
-    (omega (arith, found.0), within, are.said.claimed task within ∙ unclaimed)
+    (omega (arith, found.0), within, are.said.claimed task (omega (arith, found.0)) within ∙ unclaimed)
 next_so o past by (Answered task answer) q are may =
     held_among o past q by task are
     (both (is_claimed_by past by task) (not (has_open_job past task)) (both (is_claimed_by past by task && not (has_open_job past task)) (not (is_run_again o past task answer)) may).0).0

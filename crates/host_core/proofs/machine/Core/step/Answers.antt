@@ -56,23 +56,11 @@ note-requires c =
     let few = few_entries o past c.self.inside.journal.room c.self.invariant.0 c.self.invariant.2 c.self.invariant.3 in
     runs_fit o past c.args.by c.args.event c.in_ok-step.step.what c.in_ok-step.step.due c.self.inside.runs.items few c.self.invariant.1.again c.self.invariant.6 c.in_ok-step.ensures.step.group_is
 
-pub free_task-requires-clause-ordered : goal.free_task-requires-clause-ordered
-free_task-requires-clause-ordered c = c.self.invariant.7.ordered
-
-pub free_task-requires-clause-fits : goal.free_task-requires-clause-fits
-free_task-requires-clause-fits c = c.self.invariant.7.fits
-
 pub move_of-requires-clause-free : goal.move_of-requires-clause-free
 move_of-requires-clause-free c = λ child claims. c.free_task-free.ensures.free c.self.inside.journal.entries child c.self.invariant.7 claims
 
-pub note-2-requires-clause-ordered : goal.note-2-requires-clause-ordered
-note-2-requires-clause-ordered c = (c.free_task-free.ensures.kept c.self.inside.journal.entries c.self.invariant.7).ordered
-
-pub note-2-requires-clause-room : goal.note-2-requires-clause-room
-note-2-requires-clause-room c = (c.free_task-free.ensures.kept c.self.inside.journal.entries c.self.invariant.7).roomy
-
-pub note-2-requires-clause-next : goal.note-2-requires-clause-next
-note-2-requires-clause-next c =
+pub note-requires-2-clause-next : goal.note-requires-2-clause-next
+note-requires-2-clause-next c =
     let o : Opening = c.self.inside.opening in
     let past : List Entry = c.self.inside.journal.entries in
     let few = few_entries o past c.self.inside.journal.room c.self.invariant.0 c.self.invariant.2 c.self.invariant.3 in
@@ -178,8 +166,7 @@ returns-clause-few c =
 
 pub returns-in_err-step-clause-few : goal.returns-in_err-step-clause-few
 returns-in_err-step-clause-few c =
-    subst (λ (v : CoreValue). length v.journal < 2 ^ 64) c.self.view_is
-    (few_entries c.self.inside.opening c.self.inside.journal.entries c.self.inside.journal.room c.self.invariant.0 c.self.invariant.2 c.self.invariant.3)
+    few_entries c.self.inside.opening c.self.inside.journal.entries c.self.inside.journal.room c.self.invariant.0 c.self.invariant.2 c.self.invariant.3
 
 pub returns-in_err-take_room-clause-few : goal.returns-in_err-take_room-clause-few
 returns-in_err-take_room-clause-few c =
@@ -246,4 +233,4 @@ returns-in_err-keep_group-clause-few c =
     (few_entries c.self.inside.opening c.self.inside.journal.entries c.self.inside.journal.room c.self.invariant.0 c.self.invariant.2 c.self.invariant.3)
 
 pub returns-in_err-step-clause-notes : goal.returns-in_err-step-clause-notes
-returns-in_err-step-clause-notes c = subst (λ (v : CoreValue). v.notes ≡ notes_after v.opening v.journal) c.self.view_is c.self.invariant.5.given
+returns-in_err-step-clause-notes c = c.self.invariant.5.given
