@@ -10,9 +10,10 @@ use Rattle.journal_model.specs.Legality.{Legal}
 use Rattle.journal_model.specs.Room.{room_of}
 use Rattle.journal_model.specs.Replies.{set_by_all}
 use Rattle.journal_model.specs.Registers.{settings}
+use Rattle.task_queue.specs.Queues.{IsQueued}
 use Rattle.host_core.specs.declared.due.Due.{Due}
 use Rattle.host_core.specs.Steps.{step_of, told, unless_shut, is_free}
-use Rattle.host_core.specs.Books.{notes_after}
+use Rattle.host_core.specs.Books.{IsNoted, notes_after}
 use Rattle.host_core.specs.CoreValue.{CoreValue}
 use Rattle.host_core.specs.Mays.{IsMadeBy}
 use Rattle.host_core.specs.Moves.{group_made, group_room}
@@ -58,6 +59,9 @@ note-requires c =
 
 pub move_of-requires-clause-free : goal.move_of-requires-clause-free
 move_of-requires-clause-free c = λ child claims. c.free_task-free.ensures.free c.self.inside.journal.entries child c.self.invariant.7 claims
+
+pub note-requires-2-clause-ordered : goal.note-requires-2-clause-ordered
+note-requires-2-clause-ordered c = (c.free_task-free.ensures.kept c.self.inside.journal.entries c.self.invariant.7).ordered
 
 pub note-requires-2-clause-next : goal.note-requires-2-clause-next
 note-requires-2-clause-next c =
@@ -234,3 +238,87 @@ returns-in_err-keep_group-clause-few c =
 
 pub returns-in_err-step-clause-notes : goal.returns-in_err-step-clause-notes
 returns-in_err-step-clause-notes c = c.self.invariant.5.given
+
+-- ---- where memory runs out
+
+pub invariant_of-self : goal.invariant_of-self
+invariant_of-self c = (
+  c.self.invariant.0,
+  c.self.invariant.1,
+  c.self.invariant.2,
+  c.self.invariant.3,
+  c.self.invariant.4,
+  c.self.invariant.5,
+  c.self.invariant.6,
+  c.free_task-free.ensures.kept c.self.inside.journal.entries c.self.invariant.7,
+)
+
+pub invariant_of-self-in_err-more : goal.invariant_of-self-in_err-more
+invariant_of-self-in_err-more c = (
+  c.self.invariant.0,
+  c.self.invariant.1,
+  c.self.invariant.2,
+  c.self.invariant.3,
+  c.self.invariant.4,
+  c.self.invariant.5,
+  c.self.invariant.6,
+  c.free_task-free.ensures.kept c.self.inside.journal.entries c.self.invariant.7,
+)
+
+pub returns-in_err-more-clause-few : goal.returns-in_err-more-clause-few
+returns-in_err-more-clause-few c =
+    few_entries c.self.inside.opening c.self.inside.journal.entries c.self.inside.journal.room c.self.invariant.0 c.self.invariant.2 c.self.invariant.3
+
+pub returns-in_err-more-clause-free : goal.returns-in_err-more-clause-free
+returns-in_err-more-clause-free c = λ free. (
+    let o : Opening = c.self.inside.opening in
+    let past : List Entry = c.self.inside.journal.entries in
+    let what : Option What = c.in_ok-step.step.what in
+    let due : Due = c.in_ok-step.step.due in
+    let e : group_made past c.args.by what due ≡ (step_of o past c.args.by c.args.event).group = c.in_ok-step.ensures.step.group_is in
+    let f : is_free (step_of o past c.args.by c.args.event) ≡ true = subst (λ (v : CoreValue). is_free (step_of v.opening v.journal c.args.by c.args.event) ≡ true) (sym c.self.view_is) free in
+    absurd (omega (arith, c.in_err-more.ensures, free_room o past c.args.by c.args.event what due f e))
+    )
+
+pub returns-in_err-more-clause-free_event : goal.returns-in_err-more-clause-free_event
+returns-in_err-more-clause-free_event c = λ free. (
+    let o : Opening = c.self.inside.opening in
+    let past : List Entry = c.self.inside.journal.entries in
+    let what : Option What = c.in_ok-step.step.what in
+    let due : Due = c.in_ok-step.step.due in
+    let e : group_made past c.args.by what due ≡ (step_of o past c.args.by c.args.event).group = c.in_ok-step.ensures.step.group_is in
+    let f : is_free (step_of o past c.args.by c.args.event) ≡ true = event_free o past c.args.by c.args.event free in
+    absurd (omega (arith, c.in_err-more.ensures, free_room o past c.args.by c.args.event what due f e))
+    )
+
+pub invariant_of-self-in_err-take_room : goal.invariant_of-self-in_err-take_room
+invariant_of-self-in_err-take_room c =
+    let o : Opening = c.self.inside.opening in
+    let past : List Entry = c.self.inside.journal.entries in
+    let same = sym c.take_room.ensures.entries in
+    let rooms : room_of o c.take_room.new.self.entries ≡ room_of o past = ap (room_of o) c.take_room.ensures.entries in (
+      subst (Legal o) same c.self.invariant.0,
+      c.self.invariant.1,
+      omega (arith, rooms, c.self.invariant.2, c.in_err-take_room.ensures.err),
+      c.take_room.ensures.small,
+      subst (λ (es : List Entry). IsServed o es c.self.inside.registers) same c.self.invariant.4,
+      subst (λ (es : List Entry). IsNoted o es c.self.inside.notes) same c.self.invariant.5,
+      subst (λ (es : List Entry). AreRuns o es c.self.inside.runs.items) same c.self.invariant.6,
+      subst (λ (es : List Entry). IsQueued o es c.free_task-free.new.queue) same (c.free_task-free.ensures.kept past c.self.invariant.7),
+    )
+
+pub invariant_of-self-in_err-keep_group : goal.invariant_of-self-in_err-keep_group
+invariant_of-self-in_err-keep_group c =
+    let o : Opening = c.self.inside.opening in
+    let past : List Entry = c.self.inside.journal.entries in
+    let same = sym c.take_room.ensures.entries in
+    let rooms : room_of o c.take_room.new.self.entries ≡ room_of o past = ap (room_of o) c.take_room.ensures.entries in (
+      subst (Legal o) same c.self.invariant.0,
+      c.self.invariant.1,
+      omega (arith, rooms, c.self.invariant.2, c.in_ok-take_room.ensures.room),
+      c.take_room.ensures.small,
+      subst (λ (es : List Entry). IsServed o es c.keep_group.new.registers) same (subst (IsServed o past) (sym c.in_err-keep_group.ensures.registers) c.self.invariant.4),
+      subst (λ (es : List Entry). IsNoted o es c.keep_group.new.notes) same (subst (IsNoted o past) (sym c.in_err-keep_group.ensures.notes) c.self.invariant.5),
+      subst (λ (es : List Entry). AreRuns o es c.self.inside.runs.items) same c.self.invariant.6,
+      subst (λ (es : List Entry). IsQueued o es c.free_task-free.new.queue) same (c.free_task-free.ensures.kept past c.self.invariant.7),
+    )
