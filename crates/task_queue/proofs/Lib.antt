@@ -1,5 +1,4 @@
 pub mod Places
-pub mod Blocking
 pub mod Grouping
 pub mod Placing
 pub mod Ordering

@@ -18,16 +18,16 @@ pub(super) struct Marks {
     pub blocks: Vec<bool>,
 }
 
-/// Marks at each of the first numbers.
-pub(super) fn all(alloc: Global, numbers: u32) -> Result<Marks, NoMemory>
-    ensures flags { IfOk result (λ m. m.flags.items ≡ replicate numbers true) }
+/// No marks, with a place for each of the first numbers.
+pub(super) fn none(alloc: Global, numbers: u32) -> Result<Marks, NoMemory>
+    ensures flags { IfOk result (λ m. m.flags.items ≡ replicate numbers false) }
     ensures blocks { IfOk result (λ m. AreInBlocks m.flags.items m.blocks.items) }
 {
     let numbers = numbers as usize;
     let mut flags = Vec::new(alloc);
-    flags.resize(numbers, true)?;
+    flags.resize(numbers, false)?;
     let mut blocks = Vec::new(alloc);
-    blocks.resize(numbers / BLOCK + 1, true)?;
+    blocks.resize(numbers / BLOCK + 1, false)?;
     Ok(Marks { flags, blocks })
 }
 

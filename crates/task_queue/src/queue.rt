@@ -7,7 +7,7 @@ ghost use Rattle.journal_model.specs.Legality.{both_conflict, least_free, task_o
 ghost use Rattle.journal_model.specs.Limits.{most_tasks};
 ghost use Rattle.task_queue.specs.Groups.{is_set, number_at};
 ghost use Rattle.task_queue.specs.Blocks.{AreInBlocks};
-ghost use Rattle.task_queue.specs.Ways.{AreBare, is_in_way};
+ghost use Rattle.task_queue.specs.Ways.{AreBare, AreReady, is_in_way};
 ghost use Rattle.task_queue.specs.Woken.{AreWatched, AreWoken};
 
 use crate::groups::{Groups, first_unclaimed, groups_of};
@@ -50,12 +50,16 @@ fn none_claimed(alloc: Global, numbers: usize) -> Result<Vec<bool>, NoMemory>
     Ok(claimed)
 }
 
-/// Each task is ready.
-fn all_ready(alloc: Global, numbers: u32) -> Result<Marks, NoMemory>
-    ensures flags { IfOk result (λ ready. ready.flags.items ≡ slice_set (replicate numbers true) 0 false) }
+/// The first task of each group is ready.
+fn firsts_ready(alloc: Global, firsts: &[u32]) -> Result<Marks, NoMemory>
+    requires { length firsts.now < 2 ^ 32 }
+    ensures ready { IfOk result (λ ready. AreReady firsts.now ready.flags.items) }
     ensures blocks { IfOk result (λ ready. AreInBlocks ready.flags.items ready.blocks.items) }
 {
-    let mut ready = marks::all(alloc, numbers)?;
+    let mut ready = marks::none(alloc, firsts.len() as u32)?;
+    for first in firsts {
+        ready.mark(*first);
+    }
     ready.unmark(0);
     Ok(ready)
 }
@@ -111,11 +115,12 @@ impl Queue {
     {
         let groups = groups_of(alloc, opening)?;
         let numbers = groups.of.len();
+        let ready = firsts_ready(alloc, &groups.firsts)?;
         Ok(Queue {
             claimed: none_claimed(alloc, numbers)?,
             busy: Vec::with_capacity(alloc, numbers)?,
             groups,
-            ready: all_ready(alloc, numbers as u32)?,
+            ready,
             waits: no_waits(alloc, numbers)?,
             watched: flags(alloc, numbers)?,
         })

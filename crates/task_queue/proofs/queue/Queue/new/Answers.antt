@@ -9,7 +9,7 @@ returns c =
       claimed = c.in_ok-none_claimed.field-0;
       busy = c.in_ok-with_capacity.field-0;
       groups = c.in_ok-groups.groups;
-      ready = c.in_ok-all_ready.field-0;
+      ready = c.in_ok-ready.ready;
       waits = c.in_ok-no_waits.field-0;
       watched = c.in_ok-flags.field-0;
     } in
@@ -20,6 +20,6 @@ returns c =
       room = c.in_ok-with_capacity.ensures.capacity;
       waits = c.in_ok-no_waits.ensures;
       watched = c.in_ok-flags.ensures;
-      ready = c.in_ok-all_ready.ensures.flags;
+      ready = ?;
     } in
-    new_queued c.args.opening.now q c.len-numbers.result new c.in_ok-groups.ensures.groups c.in_ok-groups.ensures.within c.in_ok-groups.ensures.chained c.in_ok-all_ready.ensures.blocks
+    new_queued c.args.opening.now q c.len-numbers.result new c.in_ok-groups.ensures.groups c.in_ok-groups.ensures.within c.in_ok-groups.ensures.chained c.in_ok-ready.ensures.blocks
