@@ -1,5 +1,6 @@
-use Rattle.std.proofs.Common.{rules}
+use Rattle.std.proofs.Common.{rules, ℕ, List, subst}
 use Rattle.task_queue.specs.declared.queue.Queue.{Queue}
+use Rattle.task_queue.specs.Ways.{AreReady}
 use Rattle.task_queue.proofs.Beginning.{IsNew, new_queued}
 use Rattle.task_queue.proofs.queue.Queue.new.Goals as goal
 
@@ -20,6 +21,6 @@ returns c =
       room = c.in_ok-with_capacity.ensures.capacity;
       waits = c.in_ok-no_waits.ensures;
       watched = c.in_ok-flags.ensures;
-      ready = ?;
+      ready = subst (λ (firsts : List ℕ). AreReady firsts c.in_ok-ready.ready.flags.items) c.deref.ensures.value c.in_ok-ready.ensures.ready;
     } in
     new_queued c.args.opening.now q c.len-numbers.result new c.in_ok-groups.ensures.groups c.in_ok-groups.ensures.within c.in_ok-groups.ensures.chained c.in_ok-ready.ensures.blocks
