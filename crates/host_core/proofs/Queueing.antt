@@ -83,7 +83,7 @@ next_so o past by (Claim task child) q are may =
     let found = number_found (is_free o past) 1 (length o.tasks) task (both (is_number task (least_free o past)) _ may).0 in
     let within : task < length q.claimed.items = omega (arith, found.1, are.fits.long) in
     let unclaimed : is_claimed past task ≡ false =
-        not-true (is_claimed past task) (both (not (is_claimed past task)) (not (list_any (λ (u : ℕ). is_busy past u && both_conflict (task_of o u) (task_of o task)) (numbers_of o))) found.2).0 in
+    not-true (is_claimed past task) (both (not (is_claimed past task)) (not (list_any (λ (u : ℕ). is_busy past u && both_conflict (task_of o u) (task_of o task)) (numbers_of o))) found.2).0 in
     (omega (arith, found.0), within, are.said.claimed task (omega (arith, found.0)) within ∙ unclaimed)
 next_so o past by (Answered task answer) q are may =
     held_among o past q by task are

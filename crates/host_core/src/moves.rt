@@ -28,8 +28,7 @@ use ann_key::{Bytes, NoMemory};
 use journal_look::{
     Journal, are_all_claimed, has_busy_task, has_no_open_job, has_open_job, has_spoken,
     is_all_sent, is_asked, is_claimed_by, is_ended, is_full, is_live, is_mute, is_prepared,
-    is_started, may_note, next_job, on_wire, starts_so_far, task_of, verdict_of,
-    why_of,
+    is_started, may_note, next_job, on_wire, starts_so_far, task_of, verdict_of, why_of,
 };
 use journal_model::{Answer, Opening, What, Why};
 use std::alloc::Global;

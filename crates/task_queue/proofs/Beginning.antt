@@ -1,6 +1,6 @@
 -- A queue in which no task is claimed.
-use Rattle.std.proofs.Common.{◌≡◌, ◌∙◌, ℕ, ◌+◌, ◌<◌, ◌≤◌, ◌⊎◌, List, [], ◌∷◌, refl, sym, ap, subst, Bool, true, false, not, Option, Some, None, length, set, replicate, arith, inl, inr, get_or-set_other}
-use Rattle.std.specs.Prelude.{count_by, is_some, option_map, vec_capacity}
+use Rattle.std.proofs.Common.{◌≡◌, ◌∙◌, ℕ, ◌<◌, ◌≤◌, ◌⊎◌, List, [], refl, sym, ap, subst, Bool, true, false, not, Option, Some, None, length, set, replicate, arith, inl, inr, get_or-set_other}
+use Rattle.std.specs.Prelude.{is_some, option_map, vec_capacity}
 use Rattle.std.proofs.lemmas.Bool.{cases_eq, cases_lt}
 use Rattle.std.proofs.lemmas.List.{get_or-replicate, get_or_past, length-replicate, length-set}
 use Rattle.std.proofs.lemmas.List.Sums.{count_by-le-length}
@@ -11,7 +11,7 @@ use Rattle.task_queue.specs.declared.queue.Queue.{Queue}
 use Rattle.task_queue.specs.Blocks.{AreInBlocks}
 use Rattle.task_queue.specs.Groups.{AreChained, AreGroups, AreWithin, IsFirst, is_set, key_of, number_at}
 use Rattle.task_queue.specs.Ways.{AreReady}
-use Rattle.task_queue.specs.Queues.{HasRoom, HasReadyBefore, IsOf, IsOrdered, IsPlaced, IsQueued, is_among}
+use Rattle.task_queue.specs.Queues.{HasRoom, IsOrdered, IsPlaced, IsQueued, is_among}
 use Rattle.task_queue.proofs.Grouping.{first_less, is_task}
 use Rattle.task_queue.proofs.Places.{set_here}
 use Rattle.task_queue.proofs.Turning.{none_said, none_set}

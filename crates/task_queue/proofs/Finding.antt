@@ -1,5 +1,5 @@
 -- The first task that nothing is in the way of is the least free one.
-use Rattle.std.proofs.Common.{◌≡◌, ◌∙◌, cond, ℕ, zero, suc, ◌+◌, ◌<◌, ◌≤◌, ◌⊎◌, Vec, List, [], ◌∷◌, refl, sym, ap, subst, Bool, true, false, not, Option, Some, None, length, arith, inl, inr}
+use Rattle.std.proofs.Common.{◌≡◌, ◌∙◌, cond, ℕ, zero, suc, ◌+◌, ◌<◌, ◌≤◌, ◌⊎◌, Vec, List, [], ◌∷◌, refl, sym, ap, subst, Bool, true, false, not, Some, None, length, arith, inl, inr}
 use Rattle.std.specs.Prelude.{◌==◌, ◌&&◌, ◌||◌, count_by, find, vec_capacity}
 use Rattle.std.specs.declared.alloc.Global.{Global}
 use Rattle.std.specs.List.{list_any, range_with_len}
@@ -10,7 +10,7 @@ use Rattle.journal_model.specs.Legality.{both_conflict, is_busy, is_claimed, is_
 use Rattle.journal_model.proofs.Named.{any_there}
 use Rattle.task_queue.specs.Blocks.{IsNextMark}
 use Rattle.task_queue.specs.Groups.{is_set, number_at}
-use Rattle.task_queue.specs.Queues.{HasReadyBefore, IsOf, IsOrdered, IsPlaced, IsQueued, IsSaid, is_among, is_group_busy}
+use Rattle.task_queue.specs.Queues.{IsOf, IsOrdered, IsPlaced, IsQueued, is_among}
 use Rattle.task_queue.specs.Ways.{AreBare, is_in_way}
 use Rattle.task_queue.specs.declared.queue.Queue.{Queue}
 use Rattle.task_queue.proofs.Grouping.{same_conflict}

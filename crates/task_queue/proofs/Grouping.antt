@@ -1,6 +1,6 @@
 -- Groups, and which task is the next of one.
-use Rattle.std.proofs.Common.{◌≡◌, ◌∙◌, ℕ, zero, suc, ◌+◌, ◌-◌, ◌<◌, ◌≤◌, ◌⊎◌, List, [], ◌∷◌, refl, sym, ap, subst, Bool, true, false, Option, Some, None, length, get_or, set, min, arith, inl, inr, get_or-set_other}
-use Rattle.std.specs.Prelude.{◌==◌, ◌||◌, bytes_eq, is_some, option_map, slice_get}
+use Rattle.std.proofs.Common.{◌≡◌, ◌∙◌, ℕ, zero, suc, ◌+◌, ◌-◌, ◌<◌, ◌≤◌, ◌⊎◌, List, [], ◌∷◌, refl, sym, ap, subst, Bool, true, false, Option, Some, None, length, set, min, arith, inl, inr}
+use Rattle.std.specs.Prelude.{◌==◌, bytes_eq, is_some, option_map, slice_get}
 use Rattle.std.proofs.lemmas.Bool.{cases_eq, cases_lt}
 use Rattle.std.proofs.lemmas.List.{get_or_past, length-set}
 use Rattle.std.proofs.lemmas.Slice.Eq.{bytes_eq-Decides}

@@ -1,14 +1,12 @@
 -- A queue stays in order, with room, and that of its opening.
-use Rattle.std.proofs.Common.{◌≡◌, ◌∙◌, ℕ, ◌+◌, ◌<◌, ◌≤◌, ◌⊎◌, Vec, List, [], ◌∷◌, ◌++◌, refl, sym, ap, subst, Bool, true, false, not, length, get_or, set, replicate, min, arith, inl, inr, length-append, get_or-set_other}
-use Rattle.std.specs.Prelude.{◌==◌, ◌||◌, filter, count_by, vec_capacity}
-use Rattle.std.specs.List.{list_any}
+use Rattle.std.proofs.Common.{◌≡◌, ◌∙◌, ℕ, ◌+◌, ◌<◌, ◌≤◌, ◌⊎◌, Vec, List, [], ◌∷◌, ◌++◌, refl, sym, ap, subst, Bool, true, false, not, length, set, min, arith, inl, inr, length-append, get_or-set_other}
+use Rattle.std.specs.Prelude.{◌==◌, filter, count_by, vec_capacity}
 use Rattle.std.specs.declared.alloc.Global.{Global}
 use Rattle.std.proofs.lemmas.Bool.{eqb-true, or_cases}
 use Rattle.std.proofs.lemmas.List.{length-set}
 use Rattle.std.proofs.lemmas.List.Folds.{list_any-append}
 use Rattle.journal_model.specs.declared.opening.Opening.{Opening}
 use Rattle.journal_model.specs.Legality.{both_conflict, task_of}
-use Rattle.task_queue.specs.declared.groups.Groups.{Groups}
 use Rattle.task_queue.specs.declared.marks.Marks.{Marks}
 use Rattle.task_queue.specs.declared.queue.Queue.{Queue}
 use Rattle.task_queue.specs.Blocks.{AreInBlocks}

@@ -1,6 +1,6 @@
 -- A place of a list after a write, and what stays of the busy ones.
-use Rattle.std.proofs.Common.{◌≡◌, ◌∙◌, cond, ℕ, zero, suc, ◌+◌, ◌<◌, ◌≤◌, ◌⊎◌, List, [], ◌∷◌, ◌++◌, refl, sym, ap, subst, Bool, true, false, not, length, get_or, set, arith, inl, inr, get_or-set_other, get_or-set_same}
-use Rattle.std.specs.Prelude.{◌==◌, ◌&&◌, ◌||◌, filter, count_by}
+use Rattle.std.proofs.Common.{◌≡◌, ◌∙◌, cond, ℕ, suc, ◌+◌, ◌<◌, ◌≤◌, ◌⊎◌, List, [], ◌∷◌, ◌++◌, refl, sym, ap, subst, Bool, true, false, not, length, get_or, set, arith, inl, inr, get_or-set_other, get_or-set_same}
+use Rattle.std.specs.Prelude.{◌==◌, ◌||◌, filter, count_by}
 use Rattle.std.specs.List.{list_any}
 use Rattle.std.proofs.lemmas.Bool.{cases_eq, cases_lt, eqb-true, eqb-false, or_cases, or_left, or_right}
 use Rattle.std.proofs.lemmas.List.{set_past}

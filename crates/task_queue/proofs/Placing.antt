@@ -1,12 +1,11 @@
 -- Each task that isn't claimed stays placed.
-use Rattle.std.proofs.Common.{◌≡◌, ◌∙◌, cond, ℕ, ◌+◌, ◌<◌, ◌≤◌, ◌⊎◌, List, [], ◌∷◌, ◌++◌, refl, sym, ap, subst, Bool, true, false, not, length, get_or, set, arith, inl, inr, get_or-set_other, get_or-set_same}
+use Rattle.std.proofs.Common.{◌≡◌, ◌∙◌, cond, ℕ, ◌+◌, ◌<◌, ◌≤◌, ◌⊎◌, List, [], ◌∷◌, ◌++◌, refl, sym, ap, subst, Bool, true, false, not, length, set, arith, inl, inr, get_or-set_other, get_or-set_same}
 use Rattle.std.specs.Prelude.{◌==◌, ◌&&◌, filter}
-use Rattle.std.specs.List.{list_any}
 use Rattle.std.proofs.lemmas.Bool.{and_from, and_parts, cases_eq, eqb-true, eq-eqb, not-true, not_from_false}
 use Rattle.std.proofs.lemmas.List.{length-set}
 use Rattle.journal_model.proofs.Named.{any_there}
 use Rattle.task_queue.specs.Groups.{IsFirst, is_set, number_at}
-use Rattle.task_queue.specs.Queues.{ArePlaced, HasReadyBefore, IsPlaced, is_among, is_group_busy}
+use Rattle.task_queue.specs.Queues.{ArePlaced, IsPlaced, is_among, is_group_busy}
 use Rattle.task_queue.specs.Woken.{AreWatched, AreWoken}
 use Rattle.task_queue.proofs.Places.{any_last, any_more, any_without, at_set, down_other, marked, marked_from, set_here, still_down, unmarked}
 

@@ -54,7 +54,7 @@ fn none_claimed(alloc: Global, numbers: usize) -> Result<Vec<bool>, NoMemory>
 fn firsts_ready(alloc: Global, firsts: &[u32]) -> Result<Marks, NoMemory>
     requires { length firsts.now < 2 ^ 32 }
     ensures ready { IfOk result (λ ready. AreReady firsts.now ready.flags.items) }
-    ensures blocks { IfOk result (λ ready. AreInBlocks ready.flags.items ready.blocks.items) }
+    ensures in_blocks { IfOk result (λ ready. AreInBlocks ready.flags.items ready.blocks.items) }
 {
     let mut ready = marks::none(alloc, firsts.len() as u32)?;
     for first in firsts {

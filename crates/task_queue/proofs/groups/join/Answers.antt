@@ -1,4 +1,4 @@
-use Rattle.std.proofs.Common.{◌≡◌, ◌∙◌, ℕ, List, sym, ap, subst, set, true}
+use Rattle.std.proofs.Common.{◌≡◌, ◌∙◌, ℕ, List, sym, ap, subst, set}
 use Rattle.task_queue.specs.Groups.{AreGroups, AreWithin, number_at}
 use Rattle.task_queue.proofs.Grouping.{regrouped}
 use Rattle.task_queue.proofs.groups.join.Goals as goal

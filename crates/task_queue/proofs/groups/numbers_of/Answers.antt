@@ -1,5 +1,4 @@
-use Rattle.std.proofs.Common.{◌≡◌, ◌+◌, ◌<◌, ℕ, ap, length, arith}
-use Rattle.task_queue.specs.Groups.{number_at}
+use Rattle.std.proofs.Common.{◌≡◌, ◌+◌, ap, length, arith}
 use Rattle.task_queue.proofs.Grouping.{each_alone}
 use Rattle.task_queue.proofs.groups.numbers_of.Goals as goal
 

@@ -146,7 +146,7 @@ invariant_of-self-2 c =
           (subst (AreRuns o (past ++ group_made past c.args.by what due)) (sym c.note.ensures)
           (runs_grow o past c.args.by c.args.event what due c.self.inside.runs.items few c.self.invariant.1.again c.self.invariant.6 e)),
       c.note-2.ensures o past c.push_group.new.journal.entries (subst (IsTurnedIn past what) (sym grown) (queue_turns o past c.args.by c.args.event what due c.free_task-free.new.queue few (c.free_task-free.ensures.kept past c.self.invariant.7) e))
-      (c.free_task-free.ensures.kept past c.self.invariant.7),
+          (c.free_task-free.ensures.kept past c.self.invariant.7),
     )
 
 pub returns-clause-reply : goal.returns-clause-reply

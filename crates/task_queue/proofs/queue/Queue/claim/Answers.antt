@@ -1,4 +1,4 @@
-use Rattle.std.proofs.Common.{◌≡◌, ◌∙◌, length, length-append, ap, arith}
+use Rattle.std.proofs.Common.{◌∙◌, length, ap, arith}
 use Rattle.std.proofs.lemmas.List.{length-set}
 use Rattle.task_queue.proofs.Ordering.{claimed_ordered, claimed_room}
 use Rattle.task_queue.proofs.Places.{count_up}

@@ -1,6 +1,4 @@
-use Rattle.std.proofs.Common.{◌≡◌, ◌∙◌, ◌+◌, ◌<◌, ℕ, Some, None, rules, sym, refl, length, arith}
-use Rattle.std.specs.Prelude.{find}
-use Rattle.task_queue.specs.Ways.{AreBare, is_in_way}
+use Rattle.std.proofs.Common.{◌∙◌, rules, sym, refl, arith}
 use Rattle.task_queue.proofs.Finding.{bare_all, bare_more, first_bare, hindered, least_found, none_found, same_queued}
 use Rattle.task_queue.proofs.queue.Queue.first_free.Goals as goal
 

@@ -23,4 +23,4 @@ returns c =
       watched = c.in_ok-flags.ensures;
       ready = subst (λ (firsts : List ℕ). AreReady firsts c.in_ok-ready.ready.flags.items) c.deref.ensures.value c.in_ok-ready.ensures.ready;
     } in
-    new_queued c.args.opening.now q c.len-numbers.result new c.in_ok-groups.ensures.groups c.in_ok-groups.ensures.within c.in_ok-groups.ensures.chained c.in_ok-ready.ensures.blocks
+    new_queued c.args.opening.now q c.len-numbers.result new c.in_ok-groups.ensures.groups c.in_ok-groups.ensures.within c.in_ok-groups.ensures.chained c.in_ok-ready.ensures.in_blocks

@@ -1,4 +1,4 @@
-use Rattle.std.proofs.Common.{◌≡◌, Vec, List, Bool, subst, sym, ap}
+use Rattle.std.proofs.Common.{Vec, Bool, subst, ap}
 use Rattle.std.specs.declared.alloc.Global.{Global}
 use Rattle.journal_model.specs.declared.entry.What.{What}
 use Rattle.task_queue.specs.Queues.{IsTurned}

@@ -2,7 +2,7 @@ use Rattle.std.proofs.Common.{◌≡◌, ◌∙◌, ℕ, ◌+◌, ◌<◌, List,
 use Rattle.std.proofs.lemmas.Bool.{eqb-true}
 use Rattle.task_queue.specs.Groups.{IsFirst, is_set, number_at}
 use Rattle.task_queue.proofs.Grouping.{found_next}
-use Rattle.task_queue.proofs.Ordering.{off_group_bare, off_group_ordered, off_other_bare, off_other_of, off_other_ordered}
+use Rattle.task_queue.proofs.Ordering.{off_group_ordered, off_other_bare, off_other_of, off_other_ordered}
 use Rattle.task_queue.proofs.queue.Queue.put_off.Goals as goal
 
 pub returns-then-is_same-clause-ordered : goal.returns-then-is_same-clause-ordered

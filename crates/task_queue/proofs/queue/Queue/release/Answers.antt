@@ -1,5 +1,4 @@
-use Rattle.std.proofs.Common.{◌≡◌, ◌∙◌, ℕ, ◌+◌, ◌<◌, ◌≤◌, List, Bool, true, false, not, sym, ap, subst, set, length, arith}
-use Rattle.std.specs.Prelude.{◌==◌, filter}
+use Rattle.std.proofs.Common.{◌≡◌, ◌∙◌, ℕ, ◌<◌, List, Bool, false, sym, ap, subst, set, length, arith}
 use Rattle.task_queue.specs.Groups.{IsFirst, is_set, number_at}
 use Rattle.task_queue.specs.Woken.{AreWoken}
 use Rattle.task_queue.proofs.Grouping.{found_first}

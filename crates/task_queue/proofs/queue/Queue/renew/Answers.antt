@@ -1,4 +1,4 @@
-use Rattle.std.proofs.Common.{◌≡◌, ◌∙◌, ℕ, ◌<◌, Vec, List, Bool, true, false, sym, ap, subst, set, min, length, arith}
+use Rattle.std.proofs.Common.{◌≡◌, ◌∙◌, ℕ, ◌<◌, Vec, List, Bool, false, ap, set, min, length, arith}
 use Rattle.std.proofs.lemmas.List.{length-set}
 use Rattle.std.specs.declared.alloc.Global.{Global}
 use Rattle.task_queue.specs.Groups.{number_at}
