@@ -10,3 +10,4 @@ pub mod Sparing
 pub mod Answered
 pub mod Noting
 pub mod Running
+pub mod Queueing

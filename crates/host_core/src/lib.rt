@@ -9,6 +9,7 @@ pub mod laws;
 mod lines;
 mod machine;
 mod moves;
+mod queued;
 mod requests;
 mod runs;
 mod serving;

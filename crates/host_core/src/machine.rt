@@ -13,7 +13,7 @@ use crate::event::{Event, Reply};
 use crate::runs::{self, Run};
 use crate::serving::Past;
 use crate::waits::{Turn, Waits};
-use crate::{group, keeping, moves};
+use crate::{group, keeping, moves, queued};
 use ann_key::NoMemory;
 use chunk_log::NoteBook;
 use journal_look::{Journal, is_tagged, unclaimed};
@@ -21,6 +21,7 @@ use journal_model::Opening;
 use reg_file::Registers;
 use std::alloc::Global;
 use std::marker::Model;
+use task_queue::Queue;
 
 /// The core of a run: what it began with, the journal so far, which is legal, and the registers and the notes after it; and
 /// whether it is shut. It keeps room for all that can come of the entries so far.
@@ -33,6 +34,7 @@ pub struct Core {
     notes: NoteBook,
     // of each task, by its number
     runs: Vec<Run>,
+    queue: Queue,
     shut: bool,
     // whom the last event concerns
     waits: Waits,
@@ -47,12 +49,13 @@ impl Model for Core {
     ghost use Rattle.host_core.specs.Books.{IsNoted};
     ghost use Rattle.host_core.specs.CoreValue.{CoreValue};
     ghost use Rattle.host_core.specs.Settings.{IsServed};
+    ghost use Rattle.task_queue.specs.Queues.{IsQueued};
 
     ghost Value = { CoreValue };
 
     ghost view = { λ c. record { opening = c.opening; journal = c.journal.entries; registers = c.registers; notes = c.notes; shut = c.shut } };
 
-    ghost invariant = { λ c. Legal c.opening c.journal.entries × MayBegin c.opening × (room_of c.opening c.journal.entries ≤ c.journal.room) × (c.journal.room < 2 ^ 64) × IsServed c.opening c.journal.entries c.registers × IsNoted c.opening c.journal.entries c.notes × AreRuns c.opening c.journal.entries c.runs.items };
+    ghost invariant = { λ c. Legal c.opening c.journal.entries × MayBegin c.opening × (room_of c.opening c.journal.entries ≤ c.journal.room) × (c.journal.room < 2 ^ 64) × IsServed c.opening c.journal.entries c.registers × IsNoted c.opening c.journal.entries c.notes × AreRuns c.opening c.journal.entries c.runs.items × IsQueued c.opening c.journal.entries c.queue };
 }
 
 impl Core {
@@ -65,6 +68,7 @@ impl Core {
     {
         let (journal, registers, notes) = begun(alloc, &opening)?;
         let runs = runs::first_runs(alloc, &opening)?;
+        let queue = Queue::new(alloc, &opening)?;
         let _kept = opening.registers.wanted();
         let _in_order = opening.notes.line(0);
         Ok(Core {
@@ -74,6 +78,7 @@ impl Core {
             registers,
             notes,
             runs,
+            queue,
             shut: false,
             waits: Waits::none(),
         })
@@ -98,12 +103,14 @@ impl Core {
         let waits = moves::is_waiting(&event);
         let over = moves::shut_for(&self.journal, &event, self.shut);
         let shut = moves::shut_by(by, &event, self.shut);
+        let free = queued::free_task(&mut self.queue, &self.opening, &event);
         let past = Past {
             opening: &self.opening,
             journal: &self.journal,
             registers: &self.registers,
             notes: &self.notes,
             runs: self.runs.as_slice(),
+            free,
         };
         let step = moves::move_of(self.alloc, past, by, event)?;
         let more = group::group_room(&step.what, &step.due)?;
@@ -119,6 +126,7 @@ impl Core {
             &step.due,
         )?;
         runs::note(&mut self.runs, &step.what);
+        queued::note(&mut self.queue, &step.what);
         group::push_group(&mut self.journal, by, step.what, step.due);
         let reply = moves::told(waits, over, step.reply);
         self.shut = shut;

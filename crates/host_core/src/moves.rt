@@ -28,8 +28,7 @@ use ann_key::{Bytes, NoMemory};
 use journal_look::{
     Journal, are_all_claimed, has_busy_task, has_no_open_job, has_open_job, has_spoken,
     is_all_sent, is_asked, is_claimed_by, is_ended, is_full, is_live, is_mute, is_prepared,
-    is_started, least_free, may_note, next_job, on_wire, starts_so_far, task_of, verdict_of,
-    why_of,
+    is_started, may_note, next_job, on_wire, starts_so_far, task_of, verdict_of, why_of,
 };
 use journal_model::{Answer, Opening, What, Why};
 use std::alloc::Global;
@@ -80,13 +79,21 @@ fn gone(journal: &Journal, child: u32) -> Reply
 }
 
 /// The least free task, claimed for the child.
-fn least(opening: &Opening, journal: &Journal, runs: &[Run], by: u32, child: u32) -> Move
+fn least(
+    opening: &Opening,
+    journal: &Journal,
+    runs: &[Run],
+    by: u32,
+    child: u32,
+    free: Option<u32>,
+) -> Move
     requires few { length opening.now.tasks ≤ most_tasks }
+    requires free { free ≡ least_free opening.now journal.now.entries }
     requires runs { AreRuns opening.now journal.now.entries runs.now }
     ensures step { IsStep journal.now.entries by (claim opening.now journal.now.entries by child (least_free opening.now journal.now.entries)) result }
     ensures reply { IsDueReply journal.now.entries result.what result.due }
 {
-    match least_free(opening, journal) {
+    match free {
         Some(task) => {
             let turn = runs::turn_of_task(runs, task);
             append(What::Claim { task, child }, Reply::Task { task, turn })
@@ -101,14 +108,22 @@ fn least(opening: &Opening, journal: &Journal, runs: &[Run], by: u32, child: u32
     }
 }
 
-fn claim(opening: &Opening, journal: &Journal, runs: &[Run], by: u32, child: u32) -> Move
+fn claim(
+    opening: &Opening,
+    journal: &Journal,
+    runs: &[Run],
+    by: u32,
+    child: u32,
+    free: Option<u32>,
+) -> Move
     requires few { length opening.now.tasks ≤ most_tasks }
+    requires free { free ≡ least_free opening.now journal.now.entries }
     requires runs { AreRuns opening.now journal.now.entries runs.now }
     ensures step { IsStep journal.now.entries by (step_of opening.now journal.now.entries by (Event.Claim child)) result }
     ensures reply { IsDueReply journal.now.entries result.what result.due }
 {
     if child == 0 && by == 0 {
-        return least(opening, journal, runs, by, child);
+        return least(opening, journal, runs, by, child, free);
     }
     if !is_started(journal, child) || !is_prepared(journal, child) {
         return only(Reply::Odd);
@@ -116,7 +131,7 @@ fn claim(opening: &Opening, journal: &Journal, runs: &[Run], by: u32, child: u32
     if is_gone(journal, child) {
         return only(gone(journal, child));
     }
-    least(opening, journal, runs, by, child)
+    least(opening, journal, runs, by, child, free)
 }
 
 fn start(opening: &Opening, journal: &Journal, by: u32, slot: u32, offer: bool) -> Move
@@ -567,6 +582,7 @@ pub(super) fn move_of(
     requires served { IsServed past.opening.now past.journal.now.entries past.registers.now }
     requires noted { IsNoted past.opening.now past.journal.now.entries past.notes.now }
     requires runs { AreRuns past.opening.now past.journal.now.entries past.runs.now }
+    requires free { (child : ℕ) → event ≡ Event.Claim child → past.free ≡ least_free past.opening.now past.journal.now.entries }
     ensures step { IfOk result (IsStep past.entry.journal.now.entries by (step_of past.entry.opening.now past.entry.journal.now.entries by event)) }
     ensures reply { IfOk result (λ m. IsDueReply past.entry.journal.now.entries m.what m.due) }
     ensures free { is_free (step_of past.entry.opening.now past.entry.journal.now.entries by event) ≡ true → IsOk result }
@@ -575,7 +591,7 @@ pub(super) fn move_of(
     let journal = past.journal;
     let runs = past.runs;
     let step = match event {
-        Event::Claim { child } => claim(opening, journal, runs, by, child),
+        Event::Claim { child } => claim(opening, journal, runs, by, child, past.free),
         Event::Start { slot, offer } => start(opening, journal, by, slot, offer),
         Event::NoStart { slot } => no_start(opening, journal, by, slot),
         Event::Ask {

@@ -22,7 +22,8 @@ use reg_file::Registers;
 use std::alloc::Global;
 use wire_msg::{RemoteMsg, read_remote};
 
-/// What stands so far: what the run began with, the journal, and after it the registers, the notes, and what is kept of each task.
+/// What stands so far: what the run began with, the journal, and after it the registers, the notes, and what is kept of each task;
+/// and the first free task, where one is to be claimed.
 #[derive(Clone, Copy)]
 pub struct Past<'a> {
     pub opening: &'a Opening,
@@ -30,6 +31,7 @@ pub struct Past<'a> {
     pub registers: &'a Registers,
     pub notes: &'a NoteBook,
     pub runs: &'a [Run],
+    pub free: Option<u32>,
 }
 
 /// The lines as they stand on the wire in that job.

@@ -10,12 +10,14 @@ use Rattle.journal_model.specs.Legality.{Legal}
 use Rattle.journal_model.specs.Room.{room_of}
 use Rattle.journal_model.specs.Replies.{set_by_all}
 use Rattle.journal_model.specs.Registers.{settings}
+use Rattle.task_queue.specs.Queues.{IsQueued}
 use Rattle.host_core.specs.declared.due.Due.{Due}
 use Rattle.host_core.specs.Steps.{step_of, told, unless_shut, is_free}
-use Rattle.host_core.specs.Books.{notes_after}
+use Rattle.host_core.specs.Books.{IsNoted, notes_after}
 use Rattle.host_core.specs.CoreValue.{CoreValue}
 use Rattle.host_core.specs.Mays.{IsMadeBy}
 use Rattle.host_core.specs.Moves.{group_bytes, group_made, group_room}
+use Rattle.host_core.specs.Queued.{IsTurnedIn}
 use Rattle.host_core.specs.Runs.{AreRuns}
 use Rattle.host_core.specs.Settings.{set_in, registers_after, IsServed}
 use Rattle.host_core.proofs.Sharing.{step_made}
@@ -23,6 +25,7 @@ use Rattle.host_core.proofs.Stepping.{Legal-step}
 use Rattle.host_core.proofs.Pushing.{group_fits, few_entries, free_bytes, free_room, free_first}
 use Rattle.host_core.proofs.Sparing.{event_free}
 use Rattle.host_core.proofs.Noting.{note_fits, notes_grow}
+use Rattle.host_core.proofs.Queueing.{queue_fits, queue_turns}
 use Rattle.host_core.proofs.Running.{runs_fit, runs_grow}
 use Rattle.host_core.proofs.Setting.{settings_group, line_fits, registers_grow}
 use Rattle.host_core.proofs.machine.Core.step.Goals as goal
@@ -57,6 +60,19 @@ note-requires c =
     let past : List Entry = c.self.inside.journal.entries in
     let few = few_entries o past c.self.inside.journal.room c.self.invariant.0 c.self.invariant.2 c.self.invariant.3 in
     runs_fit o past c.args.by c.args.event c.in_ok-step.step.what c.in_ok-step.step.due c.self.inside.runs.items few c.self.invariant.1.again c.self.invariant.6 c.in_ok-step.ensures.step.group_is
+
+pub move_of-requires-clause-free : goal.move_of-requires-clause-free
+move_of-requires-clause-free c = λ child claims. c.free_task-free.ensures.free c.self.inside.journal.entries child c.self.invariant.7 claims
+
+pub note-requires-2-clause-ordered : goal.note-requires-2-clause-ordered
+note-requires-2-clause-ordered c = (c.free_task-free.ensures.kept c.self.inside.journal.entries c.self.invariant.7).ordered
+
+pub note-requires-2-clause-next : goal.note-requires-2-clause-next
+note-requires-2-clause-next c =
+    let o : Opening = c.self.inside.opening in
+    let past : List Entry = c.self.inside.journal.entries in
+    let few = few_entries o past c.self.inside.journal.room c.self.invariant.0 c.self.invariant.2 c.self.invariant.3 in
+    queue_fits o past c.args.by c.args.event c.in_ok-step.step.what c.in_ok-step.step.due c.free_task-free.new.queue few (c.free_task-free.ensures.kept past c.self.invariant.7) c.in_ok-step.ensures.step.group_is
 
 pub push_group-requires-clause-room : goal.push_group-requires-clause-room
 push_group-requires-clause-room c =
@@ -133,6 +149,8 @@ invariant_of-self-2 c =
       subst (λ (es : List Entry). AreRuns o es c.note.new.runs.items) (sym grown)
           (subst (AreRuns o (past ++ group_made past c.args.by what due)) (sym c.note.ensures)
           (runs_grow o past c.args.by c.args.event what due c.self.inside.runs.items few c.self.invariant.1.again c.self.invariant.6 e)),
+      c.note-2.ensures o past c.push_group.new.journal.entries (subst (IsTurnedIn past what) (sym grown) (queue_turns o past c.args.by c.args.event what due c.free_task-free.new.queue few (c.free_task-free.ensures.kept past c.self.invariant.7) e))
+          (c.free_task-free.ensures.kept past c.self.invariant.7),
     )
 
 pub returns-clause-reply : goal.returns-clause-reply
@@ -156,8 +174,7 @@ returns-clause-few c =
 
 pub returns-in_err-step-clause-few : goal.returns-in_err-step-clause-few
 returns-in_err-step-clause-few c =
-    subst (λ (v : CoreValue). length v.journal < 2 ^ 64) c.self.view_is
-    (few_entries c.self.inside.opening c.self.inside.journal.entries c.self.inside.journal.room c.self.invariant.0 c.self.invariant.2 c.self.invariant.3)
+    few_entries c.self.inside.opening c.self.inside.journal.entries c.self.inside.journal.room c.self.invariant.0 c.self.invariant.2 c.self.invariant.3
 
 pub returns-in_err-take_room-clause-few : goal.returns-in_err-take_room-clause-few
 returns-in_err-take_room-clause-few c =
@@ -226,15 +243,75 @@ returns-in_err-keep_group-clause-few c =
     (few_entries c.self.inside.opening c.self.inside.journal.entries c.self.inside.journal.room c.self.invariant.0 c.self.invariant.2 c.self.invariant.3)
 
 pub returns-in_err-step-clause-notes : goal.returns-in_err-step-clause-notes
-returns-in_err-step-clause-notes c = subst (λ (v : CoreValue). v.notes ≡ notes_after v.opening v.journal) c.self.view_is c.self.invariant.5.given
+returns-in_err-step-clause-notes c = c.self.invariant.5.given
 
-pub returns-in_err-bytes-clause-notes : goal.returns-in_err-bytes-clause-notes
-returns-in_err-bytes-clause-notes c = subst (λ (v : CoreValue). v.notes ≡ notes_after v.opening v.journal) c.self.view_is c.self.invariant.5.given
+-- ---- where memory runs out
+
+pub invariant_of-self : goal.invariant_of-self
+invariant_of-self c = (
+  c.self.invariant.0,
+  c.self.invariant.1,
+  c.self.invariant.2,
+  c.self.invariant.3,
+  c.self.invariant.4,
+  c.self.invariant.5,
+  c.self.invariant.6,
+  c.free_task-free.ensures.kept c.self.inside.journal.entries c.self.invariant.7,
+)
+
+pub invariant_of-self-in_err-more : goal.invariant_of-self-in_err-more
+invariant_of-self-in_err-more c = (
+  c.self.invariant.0,
+  c.self.invariant.1,
+  c.self.invariant.2,
+  c.self.invariant.3,
+  c.self.invariant.4,
+  c.self.invariant.5,
+  c.self.invariant.6,
+  c.free_task-free.ensures.kept c.self.inside.journal.entries c.self.invariant.7,
+)
+
+pub returns-in_err-more-clause-few : goal.returns-in_err-more-clause-few
+returns-in_err-more-clause-few c =
+    few_entries c.self.inside.opening c.self.inside.journal.entries c.self.inside.journal.room c.self.invariant.0 c.self.invariant.2 c.self.invariant.3
+
+pub returns-in_err-more-clause-free : goal.returns-in_err-more-clause-free
+returns-in_err-more-clause-free c = λ free. (
+    let o : Opening = c.self.inside.opening in
+    let past : List Entry = c.self.inside.journal.entries in
+    let what : Option What = c.in_ok-step.step.what in
+    let due : Due = c.in_ok-step.step.due in
+    let e : group_made past c.args.by what due ≡ (step_of o past c.args.by c.args.event).group = c.in_ok-step.ensures.step.group_is in
+    let f : is_free (step_of o past c.args.by c.args.event) ≡ true = subst (λ (v : CoreValue). is_free (step_of v.opening v.journal c.args.by c.args.event) ≡ true) (sym c.self.view_is) free in
+    absurd (omega (arith, c.in_err-more.ensures, free_room o past c.args.by c.args.event what due f e))
+    )
+
+pub returns-in_err-more-clause-free_event : goal.returns-in_err-more-clause-free_event
+returns-in_err-more-clause-free_event c = λ free. (
+    let o : Opening = c.self.inside.opening in
+    let past : List Entry = c.self.inside.journal.entries in
+    let what : Option What = c.in_ok-step.step.what in
+    let due : Due = c.in_ok-step.step.due in
+    let e : group_made past c.args.by what due ≡ (step_of o past c.args.by c.args.event).group = c.in_ok-step.ensures.step.group_is in
+    let f : is_free (step_of o past c.args.by c.args.event) ≡ true = event_free o past c.args.by c.args.event free in
+    absurd (omega (arith, c.in_err-more.ensures, free_room o past c.args.by c.args.event what due f e))
+    )
+
+pub invariant_of-self-in_err-bytes : goal.invariant_of-self-in_err-bytes
+invariant_of-self-in_err-bytes c = (
+  c.self.invariant.0,
+  c.self.invariant.1,
+  c.self.invariant.2,
+  c.self.invariant.3,
+  c.self.invariant.4,
+  c.self.invariant.5,
+  c.self.invariant.6,
+  c.free_task-free.ensures.kept c.self.inside.journal.entries c.self.invariant.7,
+)
 
 pub returns-in_err-bytes-clause-few : goal.returns-in_err-bytes-clause-few
 returns-in_err-bytes-clause-few c =
-    subst (λ (v : CoreValue). length v.journal < 2 ^ 64) c.self.view_is
-    (few_entries c.self.inside.opening c.self.inside.journal.entries c.self.inside.journal.room c.self.invariant.0 c.self.invariant.2 c.self.invariant.3)
+    few_entries c.self.inside.opening c.self.inside.journal.entries c.self.inside.journal.room c.self.invariant.0 c.self.invariant.2 c.self.invariant.3
 
 pub returns-in_err-bytes-clause-free : goal.returns-in_err-bytes-clause-free
 returns-in_err-bytes-clause-free c = λ free. (
@@ -258,4 +335,36 @@ returns-in_err-bytes-clause-free_event c = λ free. (
     let f : is_free (step_of o past c.args.by c.args.event) ≡ true = event_free o past c.args.by c.args.event free in
     let none = free_bytes what due (free_room o past c.args.by c.args.event what due f e) in
     absurd (too_many (group_bytes what due) none c.in_err-bytes.ensures)
+    )
+
+pub invariant_of-self-in_err-take_room : goal.invariant_of-self-in_err-take_room
+invariant_of-self-in_err-take_room c =
+    let o : Opening = c.self.inside.opening in
+    let past : List Entry = c.self.inside.journal.entries in
+    let same = sym c.take_room.ensures.entries in
+    let rooms : room_of o c.take_room.new.self.entries ≡ room_of o past = ap (room_of o) c.take_room.ensures.entries in (
+      subst (Legal o) same c.self.invariant.0,
+      c.self.invariant.1,
+      omega (arith, rooms, c.self.invariant.2, c.in_err-take_room.ensures.err),
+      c.take_room.ensures.small,
+      subst (λ (es : List Entry). IsServed o es c.self.inside.registers) same c.self.invariant.4,
+      subst (λ (es : List Entry). IsNoted o es c.self.inside.notes) same c.self.invariant.5,
+      subst (λ (es : List Entry). AreRuns o es c.self.inside.runs.items) same c.self.invariant.6,
+      subst (λ (es : List Entry). IsQueued o es c.free_task-free.new.queue) same (c.free_task-free.ensures.kept past c.self.invariant.7),
+    )
+
+pub invariant_of-self-in_err-keep_group : goal.invariant_of-self-in_err-keep_group
+invariant_of-self-in_err-keep_group c =
+    let o : Opening = c.self.inside.opening in
+    let past : List Entry = c.self.inside.journal.entries in
+    let same = sym c.take_room.ensures.entries in
+    let rooms : room_of o c.take_room.new.self.entries ≡ room_of o past = ap (room_of o) c.take_room.ensures.entries in (
+      subst (Legal o) same c.self.invariant.0,
+      c.self.invariant.1,
+      omega (arith, rooms, c.self.invariant.2, c.in_ok-take_room.ensures.room),
+      c.take_room.ensures.small,
+      subst (λ (es : List Entry). IsServed o es c.keep_group.new.registers) same (subst (IsServed o past) (sym c.in_err-keep_group.ensures.registers) c.self.invariant.4),
+      subst (λ (es : List Entry). IsNoted o es c.keep_group.new.notes) same (subst (IsNoted o past) (sym c.in_err-keep_group.ensures.notes) c.self.invariant.5),
+      subst (λ (es : List Entry). AreRuns o es c.self.inside.runs.items) same c.self.invariant.6,
+      subst (λ (es : List Entry). IsQueued o es c.free_task-free.new.queue) same (c.free_task-free.ensures.kept past c.self.invariant.7),
     )

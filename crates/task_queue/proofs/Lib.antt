@@ -1,0 +1,7 @@
+pub mod Places
+pub mod Grouping
+pub mod Placing
+pub mod Ordering
+pub mod Finding
+pub mod Turning
+pub mod Beginning

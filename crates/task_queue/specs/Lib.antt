@@ -1,0 +1,5 @@
+pub mod Groups
+pub mod Blocks
+pub mod Queues
+pub mod Woken
+pub mod Ways
