@@ -1,6 +1,6 @@
 // Printing an entry.
 ghost use Rattle.std.specs.Prelude.{◌≡◌, ◌++◌, OnOk, IfOk};
-ghost use Rattle.journal_records.specs.Shown.{what_shown, entry_shown};
+ghost use Rattle.journal_scan.specs.Shown.{what_shown, entry_shown};
 ghost use Rattle.entry_lines.specs.Entries.{entry_line, what_fields, offer_word};
 ghost use Rattle.entry_lines.specs.Fields.{followed};
 

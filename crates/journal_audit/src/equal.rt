@@ -1,7 +1,7 @@
 // Whether two entries are equal.
 ghost use Rattle.std.specs.Prelude.{◌≡◌, ◌↔◌, IsTrue};
 ghost use Rattle.journal_model.specs.declared.entry.What.TheVariants.{Claim, Start, NoStart, Lead, Ask, Put, Sent, Mute, Got, End, Verdict as Settled, Lost, Answer as Answered, Note, Again};
-ghost use Rattle.journal_records.specs.Shown.{what_shown, entry_shown};
+ghost use Rattle.journal_scan.specs.Shown.{what_shown, entry_shown};
 
 use ann_digest::Digest;
 use journal_look::{EntryRef, WhatRef};

@@ -2,7 +2,7 @@
 ghost use Rattle.std.specs.Prelude.{ℕ, ◌≡◌, List, IfOk, IfSome, IsNone, Some, false, option_map};
 ghost use Rattle.journal_model.specs.Legality.{asks_job};
 ghost use Rattle.journal_model.specs.declared.entry.What.TheVariants.{Ask, Got, End, Lost};
-ghost use Rattle.journal_records.specs.Shown.{what_shown, entry_shown};
+ghost use Rattle.journal_scan.specs.Shown.{what_shown, entry_shown};
 ghost use Rattle.journal_audit.specs.Replays.{Pairs, Says, SaysName, Suits, is_name};
 
 use crate::requests;

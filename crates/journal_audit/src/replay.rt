@@ -3,7 +3,7 @@ ghost use Rattle.std.specs.Prelude.{ℕ, ◌≡◌, ◌↔◌, ◌<◌, ◌≤�
 ghost use Rattle.journal_model.specs.Beginnings.{MayBegin};
 ghost use Rattle.journal_model.specs.declared.entry.Entry.{Entry};
 ghost use Rattle.journal_model.specs.declared.entry.What.TheVariants.{Lead};
-ghost use Rattle.journal_records.specs.Shown.{entry_shown, what_shown};
+ghost use Rattle.journal_scan.specs.Shown.{entry_shown, what_shown};
 ghost use Rattle.journal_audit.specs.Audits.{IsAudit};
 ghost use Rattle.journal_audit.specs.Replays.{IsTold, IsReplayed, IsNext, Says, Unpaired, group_by, is_name};
 

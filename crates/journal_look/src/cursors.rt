@@ -3,13 +3,13 @@ ghost use Rattle.std.specs.Prelude.{◌≡◌, ◌==◌, ◌≤◌, ◌+◌, ◌
 ghost use Rattle.std.specs.List.{prefix_len};
 ghost use Rattle.journal_model.specs.declared.entry.Entry.{Entry};
 ghost use Rattle.journal_model.specs.Journal.{first_of, sends, unsent};
-ghost use Rattle.journal_records.specs.Shown.{entry_shown};
+ghost use Rattle.journal_scan.specs.Shown.{entry_shown};
 ghost use Rattle.journal_look.specs.Cursors.{AreAt, IsAt};
 ghost use Rattle.journal_scan.specs.Looks.{is_written};
 
-use journal_records::{Entries, EntryRef, WhatRef};
 use journal_scan::lines::{is_written, nth_written};
 use journal_scan::talks::hosts_line;
+use journal_scan::{Entries, EntryRef, WhatRef};
 
 /// So many of the entries before the place write to the child.
 #[derive(Clone, Copy)]

@@ -1,10 +1,9 @@
 // The jobs that an end or a mute settles, entry by entry.
 ghost use Rattle.std.specs.Prelude.{◌≡◌, ◌≤◌, length};
-ghost use Rattle.journal_records.specs.Shown.{what_shown};
+ghost use Rattle.journal_scan.specs.Shown.{what_shown};
 ghost use Rattle.journal_scan.specs.Looks.{due_job, job_at};
 
-use journal_records::{Entries, WhatRef};
-use journal_scan::{children, lines};
+use journal_scan::{Entries, WhatRef, children, lines};
 
 /// The job that the entry asks, where the child's end settles it, or where its mute does.
 fn due_job(past: &Entries<'_>, what: WhatRef<'_>, child: u32, unsent: bool) -> Option<u64>

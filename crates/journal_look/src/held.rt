@@ -1,11 +1,11 @@
 // Who holds which task, entry by entry.
 ghost use Rattle.std.specs.Prelude.{◌≡◌, ◌==◌, ◌++◌, ◌∷◌, [], List, find, option_copied, IfSome, IsTrue};
 ghost use Rattle.journal_model.specs.declared.entry.Entry.{Entry};
-ghost use Rattle.journal_records.specs.Shown.{what_shown, entry_shown};
+ghost use Rattle.journal_scan.specs.Shown.{what_shown, entry_shown};
 ghost use Rattle.journal_look.specs.Holds.{AreHeld, AreHoldsKnown, held_by, held_of, let_go, top_after};
 
 use journal_model::Holder;
-use journal_records::{EntryRef, WhatRef};
+use journal_scan::{EntryRef, WhatRef};
 use std::alloc::{AllocError, Global};
 
 /// A task that is held, and by whom.

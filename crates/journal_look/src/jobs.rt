@@ -5,13 +5,13 @@ ghost use Rattle.journal_model.specs.declared.entry.Entry.{Entry};
 ghost use Rattle.journal_model.specs.Journal.{asked_jobs, first_of, is_open, open_jobs, verdict_of};
 ghost use Rattle.journal_model.specs.Legality.{has_open_job};
 ghost use Rattle.journal_scan.specs.Looks.{NoneDue, asked_at};
-ghost use Rattle.journal_records.specs.Shown.{what_shown, entry_shown};
+ghost use Rattle.journal_scan.specs.Shown.{what_shown, entry_shown};
 ghost use Rattle.journal_look.specs.Lives.{AreKnown};
 ghost use Rattle.journal_look.specs.Opens.{AreJobsKnown, AreOpen, AreTold, IsTold, closed, is_this, jobs_child, keeps_numbers, opened};
 
 use crate::life::{self, Lives};
 use journal_model::Verdict;
-use journal_records::{EntryRef, WhatRef};
+use journal_scan::{EntryRef, WhatRef};
 use std::alloc::{AllocError, Global};
 
 /// An open job, the task that it was asked for, and the place of the entry that asks it.

@@ -1,6 +1,6 @@
 // The journal as a store: it lends its entries, and takes more within room that was taken before.
 ghost use Rattle.std.specs.Prelude.{◌≡◌, ◌+◌, ◌-◌, ◌<◌, ◌≤◌, ◌^◌, ◌++◌, ◌∷◌, [], slice_get, option_map, length, OnOk, OnErr, IsOk, IfSome};
-ghost use Rattle.journal_records.specs.Shown.{entry_shown};
+ghost use Rattle.journal_scan.specs.Shown.{entry_shown};
 
 use crate::cursors::{self, Cursor};
 use crate::held::{self, Held};
@@ -10,8 +10,8 @@ use crate::tables::{self, Tables};
 use crate::taken;
 use ann_key::NoMemory;
 use journal_model::{Entry, Verdict};
-use journal_records::{Entries, EntryRef, Records, WhatRef};
 use journal_scan::lines::line_bytes;
+use journal_scan::{Entries, EntryRef, Records, WhatRef};
 use std::alloc::Global;
 use std::marker::Model;
 

@@ -14,9 +14,9 @@ mod taken;
 mod tasks;
 
 pub use journal::Journal;
-pub use journal_records::{EntryRef, WhatRef};
 pub use journal_scan::conflicts::{may_note, task_of};
 pub use journal_scan::lines::is_version_one;
+pub use journal_scan::{EntryRef, WhatRef};
 pub use looks::{
     addressed, are_all_claimed, asking_task, due_at, first_due, first_unsent, has_busy_task,
     has_no_open_job, has_no_start, has_open_job, has_spoken, is_all_sent, is_asked, is_claimed_by,

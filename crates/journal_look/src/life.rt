@@ -4,12 +4,11 @@ ghost use Rattle.journal_model.specs.Journal.{any};
 ghost use Rattle.journal_model.specs.Legality.{count, is_start};
 ghost use Rattle.journal_scan.specs.Looks.{is_no_start};
 ghost use Rattle.journal_model.specs.declared.entry.Entry.{Entry};
-ghost use Rattle.journal_records.specs.Shown.{what_shown, entry_shown};
+ghost use Rattle.journal_scan.specs.Shown.{what_shown, entry_shown};
 ghost use Rattle.journal_look.specs.Lives.{AreKnown, AreLived, AreLives, about, counted, kept, life_of, lived, unlived};
 
 use journal_model::{Verdict, Why};
-use journal_records::{Entries, EntryRef, WhatRef};
-use journal_scan::{children, lines};
+use journal_scan::{Entries, EntryRef, WhatRef, children, lines};
 use std::alloc::{AllocError, Global};
 
 /// What the entries so far say of a child: the verdicts are those of its jobs 0 and 1, the numbers how many jobs it was asked, how

@@ -1,14 +1,13 @@
 // How far the marks of a journal go.
 ghost use Rattle.std.specs.Prelude.{◌≡◌, ◌+◌, ◌≤◌, ◌<◌, ◌++◌, ◌∷◌, [], List, length, IsTrue};
 ghost use Rattle.journal_model.specs.declared.entry.Entry.{Entry};
-ghost use Rattle.journal_records.specs.Shown.{what_shown, entry_shown};
+ghost use Rattle.journal_scan.specs.Shown.{what_shown, entry_shown};
 ghost use Rattle.journal_look.specs.Holds.{AreUnclaimed};
 ghost use Rattle.journal_look.specs.Marks.{AreClaimed, lowered};
 ghost use Rattle.journal_look.specs.Taken.{AreTaken};
 
 use crate::taken::is_taken;
-use journal_records::{Entries, EntryRef, WhatRef};
-use journal_scan::claims;
+use journal_scan::{Entries, EntryRef, WhatRef, claims};
 
 /// The mark after an entry that frees a task below it.
 fn lowered(mark: u32, what: WhatRef<'_>) -> u32

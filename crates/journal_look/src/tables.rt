@@ -1,7 +1,7 @@
 // What a journal keeps beside its entries, so that a question needn't go through them.
 ghost use Rattle.std.specs.Prelude.{◌≡◌, ◌++◌, ◌∷◌, [], List, length};
 ghost use Rattle.journal_model.specs.declared.entry.Entry.{Entry};
-ghost use Rattle.journal_records.specs.Shown.{entry_shown};
+ghost use Rattle.journal_scan.specs.Shown.{entry_shown};
 ghost use Rattle.journal_look.specs.Tables.{AreTabled};
 
 use crate::cursors::{self, Cursor, Turn};
@@ -11,8 +11,8 @@ use crate::life::{self, Lives};
 use crate::marks::{claimed_after, claimed_from};
 use crate::taken;
 use ann_key::NoMemory;
-use journal_records::{Entries, EntryRef};
 use journal_scan::lines::{MOST_LINE_BYTES, left_after};
+use journal_scan::{Entries, EntryRef};
 use std::alloc::Global;
 
 /// How many more bytes the lines may have, what is known of the children, of the held tasks and of the jobs, how far the lines to each

@@ -3,12 +3,11 @@ ghost use Rattle.std.specs.Prelude.{◌≡◌, [], true, List, IfOk, IfSome};
 ghost use Rattle.std.specs.List.{slice_set};
 ghost use Rattle.journal_model.specs.declared.entry.Entry.{Entry};
 ghost use Rattle.journal_model.specs.Legality.{is_claimed};
-ghost use Rattle.journal_records.specs.Shown.{what_shown};
+ghost use Rattle.journal_scan.specs.Shown.{what_shown};
 ghost use Rattle.journal_look.specs.Holds.{AreUnclaimed};
 ghost use Rattle.journal_look.specs.Taken.{AreTaken, taken_after};
 
-use journal_records::{Entries, WhatRef};
-use journal_scan::claims;
+use journal_scan::{Entries, WhatRef, claims};
 use std::alloc::{AllocError, Global};
 
 /// How long the table is: a place for each number that a task may have, and for 0.

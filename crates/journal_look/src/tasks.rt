@@ -11,7 +11,7 @@ use crate::held::{self, Held};
 use crate::jobs;
 use crate::journal::Journal;
 use journal_model::{Holder, Opening};
-use journal_records::Entries;
+use journal_scan::Entries;
 use journal_scan::claims::{
     claimed_for, has_busy, has_open, holder, is_busy, is_held_by, is_held_for,
 };

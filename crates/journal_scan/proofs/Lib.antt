@@ -4,3 +4,5 @@ pub mod Parted
 pub mod Written
 pub mod NoneBefore
 pub mod Weighing
+pub mod Keeping
+pub mod Parts

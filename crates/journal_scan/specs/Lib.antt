@@ -1,1 +1,4 @@
 pub mod Looks
+pub mod Kept
+pub mod RecordsValue
+pub mod Shown

@@ -3,11 +3,11 @@ ghost use Rattle.std.specs.Prelude.{◌≡◌, ◌==◌, not, find, option_map};
 ghost use Rattle.std.specs.List.{list_any};
 ghost use Rattle.journal_model.specs.Journal.{starts, ends, mutes, got_from, sends, settles, asks, offers, verdict_in, end_why, first_of, any, asked_jobs, is_settled, open_jobs, is_open, verdict_of};
 ghost use Rattle.journal_model.specs.Legality.{count, is_start};
-ghost use Rattle.journal_records.specs.Shown.{what_shown, entry_shown};
+ghost use Rattle.journal_scan.specs.Shown.{what_shown, entry_shown};
 ghost use Rattle.journal_scan.specs.Looks.{is_no_start};
 
+use crate::{Entries, EntryRef, WhatRef};
 use journal_model::{Verdict, Why};
-use journal_records::{Entries, EntryRef, WhatRef};
 
 /// Whether the entry starts the child.
 pub fn starts(what: WhatRef<'_>, c: u32) -> bool

@@ -1,11 +1,10 @@
 // What the entries say of who holds a task, and of its jobs.
 ghost use Rattle.std.specs.Prelude.{◌≡◌};
 ghost use Rattle.journal_model.specs.Legality.{claims, claimed_on, renews, count, is_claimed, turned, holder, is_busy, is_held_by, is_held_for, is_busy_with, job_for, has_open_job, claimed_for, has_busy_task};
-ghost use Rattle.journal_records.specs.Shown.{what_shown, entry_shown};
+ghost use Rattle.journal_scan.specs.Shown.{what_shown, entry_shown};
 
-use crate::children;
+use crate::{Entries, EntryRef, WhatRef, children};
 use journal_model::Holder;
-use journal_records::{Entries, EntryRef, WhatRef};
 
 /// Whether the entry claims the task.
 pub fn claims(what: WhatRef<'_>, t: u32) -> bool

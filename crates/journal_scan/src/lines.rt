@@ -7,13 +7,12 @@ ghost use Rattle.journal_model.specs.Limits.{most_line_bytes};
 ghost use Rattle.journal_model.specs.Journal.{any, each_of, first_of, line_at, is_tagged, accepts_async, addressed, by_tag, sends, unsent, is_unsent, is_job, got_from, line_bytes, bytes_in, is_full};
 ghost use Rattle.journal_model.specs.Due.{is_version_one};
 ghost use Rattle.journal_model.specs.Legality.{said_version, asks_prepare, prepares, is_done};
-ghost use Rattle.journal_records.specs.Shown.{what_shown, entry_shown};
+ghost use Rattle.journal_scan.specs.Shown.{what_shown, entry_shown};
 ghost use Rattle.journal_scan.specs.Looks.{written_to, got_line, is_written, hosts_line};
 
-use crate::children;
 use crate::talks::hosts_line;
+use crate::{Entries, EntryRef, WhatRef, children};
 use journal_model::Verdict;
-use journal_records::{Entries, EntryRef, WhatRef};
 use wire_msg::{HostMsg, RemoteMsg, read_host, read_remote, untag};
 
 // A journal that has so many entries is full.

@@ -3,12 +3,11 @@ ghost use Rattle.std.specs.Prelude.{ℕ, ◌≡◌, ◌≤◌, [], ◌∷◌, tr
 ghost use Rattle.journal_model.specs.Journal.{addressed, any, offers};
 ghost use Rattle.journal_model.specs.Parts.{item_of, item_at, ends_at, is_place};
 ghost use Rattle.journal_model.specs.declared.entry.What.TheVariants.{Got};
-ghost use Rattle.journal_records.specs.Shown.{what_shown};
+ghost use Rattle.journal_scan.specs.Shown.{what_shown};
 ghost use Rattle.journal_scan.specs.Looks.{is_hosts, hosts_line, asked_at, request_text, remote_text};
 
-use crate::{children, lines};
+use crate::{Entries, WhatRef, children, lines};
 use journal_model::Why;
-use journal_records::{Entries, WhatRef};
 
 /// Whether the entry is the job's request, or a reply in it.
 fn is_hosts(what: WhatRef<'_>, c: u32, j: u64) -> bool

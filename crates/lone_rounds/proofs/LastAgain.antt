@@ -6,8 +6,8 @@ use Rattle.journal_model.specs.declared.answer.Answer.{Answer}
 use Rattle.journal_model.specs.declared.entry.Entry.{Entry}
 use Rattle.journal_model.specs.declared.entry.What.{What}
 use Rattle.journal_model.specs.Journal.{each_of}
-use Rattle.journal_records.specs.Shown.{entry_shown}
-use Rattle.journal_records.specs.declared.entry.EntryRef.{EntryRef}
+use Rattle.journal_scan.specs.Shown.{entry_shown}
+use Rattle.journal_scan.specs.declared.entry.EntryRef.{EntryRef}
 use Rattle.lone_rounds.specs.Rounds.{again_of, last_again}
 
 none_step : (f : What → Option Answer) (xs : List Entry) (i : ℕ) → option_and_then (λ (e : Entry). f e.what) (slice_get xs i) ≡ None → each_of f (drop (suc i) xs) ≡ [] → each_of f (drop i xs) ≡ []

@@ -5,8 +5,8 @@ use Rattle.journal_model.specs.declared.entry.Entry.{Entry}
 use Rattle.journal_model.specs.Journal.{any}
 use Rattle.journal_model.proofs.Looks.{either_left, either_right}
 use Rattle.journal_model.proofs.Testing.{neither, or_left, or_right}
-use Rattle.journal_records.specs.Shown.{entry_shown}
-use Rattle.journal_records.specs.declared.entry.EntryRef.{EntryRef}
+use Rattle.journal_scan.specs.Shown.{entry_shown}
+use Rattle.journal_scan.specs.declared.entry.EntryRef.{EntryRef}
 use Rattle.lone_rounds.specs.Rounds.{ends_for_memory}
 use Rattle.lone_rounds.specs.Stints.{is_memory_end}
 

@@ -1,6 +1,6 @@
 // With which answer a task was last to be run again.
 ghost use Rattle.std.specs.Prelude.{◌≡◌, option_and_then, option_map};
-ghost use Rattle.journal_records.specs.Shown.{entry_shown};
+ghost use Rattle.journal_scan.specs.Shown.{entry_shown};
 ghost use Rattle.lone_rounds.specs.Rounds.{again_of, last_again};
 
 use journal_look::{EntryRef, Journal, WhatRef};

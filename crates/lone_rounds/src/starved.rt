@@ -1,7 +1,7 @@
 // Whether running out of memory ended a child of a run.
 ghost use Rattle.std.specs.Prelude.{◌≡◌, option_map};
 ghost use Rattle.journal_model.specs.Journal.{any};
-ghost use Rattle.journal_records.specs.Shown.{entry_shown};
+ghost use Rattle.journal_scan.specs.Shown.{entry_shown};
 ghost use Rattle.lone_rounds.specs.Rounds.{ends_for_memory};
 ghost use Rattle.lone_rounds.specs.Stints.{is_memory_end};
 

@@ -2,7 +2,7 @@
 ghost use Rattle.std.specs.Prelude.{◌≡◌, ◌<◌, ◌∷◌, ◌++◌, [], IfOk, OnOk, Some, is_some, map, filter_map, slice_get, length, true};
 ghost use Rattle.std.specs.List.{list_all};
 ghost use Rattle.journal_model.specs.Legality.{numbers_of};
-ghost use Rattle.journal_records.specs.Shown.{entry_shown};
+ghost use Rattle.journal_scan.specs.Shown.{entry_shown};
 ghost use Rattle.run_answers.specs.Answering.{AreAllAnswered, HoldsAnswers, TakesUp, held_by};
 ghost use Rattle.run_answers.specs.Answers.{AreAnswers, answer_of, given};
 

@@ -2,7 +2,7 @@
 ghost use Rattle.std.specs.Prelude.{◌≡◌, ◌≤◌, ◌<◌, length, IfOk, Some};
 ghost use Rattle.journal_model.specs.Legality.{task_of};
 ghost use Rattle.journal_model.specs.Limits.{most_tasks};
-ghost use Rattle.journal_records.specs.Shown.{what_shown};
+ghost use Rattle.journal_scan.specs.Shown.{what_shown};
 ghost use Rattle.world_walk.specs.Workers.{answer_by, answer_for, asking_for, behind_job, behind_turn, claim_of, greeting_of, last_turn, next_of, request_for, start_of, success_of, turn_in};
 
 use ann_key::{Key, NoMemory, Text};

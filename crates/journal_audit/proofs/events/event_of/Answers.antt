@@ -1,8 +1,8 @@
 use Rattle.std.proofs.Common.{ℕ, ◌≡◌, ap, sym, subst, false}
 use Rattle.std.specs.Prelude.{IfOk, Option}
 use Rattle.host_core.specs.declared.event.Event.{Event}
-use Rattle.journal_records.specs.Shown.{what_shown}
-use Rattle.journal_records.specs.declared.entry.WhatRef.{WhatRef}
+use Rattle.journal_scan.specs.Shown.{what_shown}
+use Rattle.journal_scan.specs.declared.entry.WhatRef.{WhatRef}
 use Rattle.journal_audit.specs.Replays.{Suits, is_name}
 use Rattle.journal_audit.proofs.Suiting.{suits_again, suits_answer, suits_claim}
 use Rattle.journal_audit.proofs.events.event_of.Goals as goal

@@ -2,7 +2,7 @@ use Rattle.std.proofs.Common.{Option, refl, subst}
 use Rattle.annex_model.specs.Messages.{host_reading}
 use Rattle.journal_model.specs.Journal.{addressed}
 use Rattle.talk_serial.specs.declared.request.Request.{Request}
-use Rattle.journal_records.specs.Shown.{entry_shown}
+use Rattle.journal_scan.specs.Shown.{entry_shown}
 use Rattle.journal_audit.specs.Replays.{AsksAfter}
 use Rattle.journal_audit.proofs.Suiting.{pairs_elsewhere, pairs_led, pairs_other, pairs_unled}
 use Rattle.journal_audit.proofs.events.pair_of.Goals as goal

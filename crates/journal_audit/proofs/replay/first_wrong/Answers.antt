@@ -1,6 +1,6 @@
 use Rattle.std.proofs.Common.{◌∙◌, ◌<◌, ◌+◌, List, Option, length, refl, sym, subst, slice_get, take, true, false, arith}
 use Rattle.journal_model.specs.declared.entry.Entry.{Entry}
-use Rattle.journal_records.specs.Shown.{entry_shown}
+use Rattle.journal_scan.specs.Shown.{entry_shown}
 use Rattle.journal_audit.specs.Replays.{IsNext, IsReplayed}
 use Rattle.journal_audit.proofs.Auditing.{next_here, wrong_here, replayed_more, replayed_whole, read_there, some_there}
 use Rattle.journal_audit.proofs.replay.first_wrong.Goals as goal

@@ -2,7 +2,7 @@ use Rattle.std.proofs.Common.{◌≡◌, length, ◌∙◌, sym, ap, subst, List
 use Rattle.std.specs.Prelude.{IsTrue, ◌↔◌, option_map}
 use Rattle.host_core.specs.CoreValue.{CoreValue}
 use Rattle.journal_model.specs.declared.entry.Entry.{Entry}
-use Rattle.journal_records.specs.Shown.{entry_shown}
+use Rattle.journal_scan.specs.Shown.{entry_shown}
 use Rattle.journal_audit.specs.Replays.{IsTold}
 use Rattle.journal_audit.proofs.Replaying.{next_entry}
 use Rattle.journal_audit.proofs.replay.may_stand.Goals as goal

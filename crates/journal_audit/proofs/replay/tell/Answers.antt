@@ -1,7 +1,7 @@
 use Rattle.std.proofs.Common.{refl, subst, sym}
 use Rattle.std.specs.Prelude.{option_map}
 use Rattle.journal_model.specs.declared.entry.What.{What}
-use Rattle.journal_records.specs.Shown.{entry_shown}
+use Rattle.journal_scan.specs.Shown.{entry_shown}
 use Rattle.journal_audit.specs.Replays.{IsTold}
 use Rattle.journal_audit.proofs.Replaying.{on_ok}
 use Rattle.journal_audit.proofs.replay.tell.Goals as goal

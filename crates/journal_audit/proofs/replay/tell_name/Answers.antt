@@ -1,6 +1,6 @@
 use Rattle.std.proofs.Common.{ℕ, List, Option, refl, subst, sym}
 use Rattle.std.specs.Prelude.{IfSome, IsNone, option_map}
-use Rattle.journal_records.specs.Shown.{entry_shown}
+use Rattle.journal_scan.specs.Shown.{entry_shown}
 use Rattle.journal_audit.specs.Replays.{Says}
 use Rattle.journal_audit.proofs.Replaying.{on_ok, told_after, told_no_name}
 use Rattle.journal_audit.proofs.replay.tell_name.Goals as goal

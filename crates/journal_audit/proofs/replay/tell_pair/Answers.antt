@@ -1,6 +1,6 @@
 use Rattle.std.proofs.Common.{ap, length, ◌∙◌}
 use Rattle.std.specs.Prelude.{option_map}
-use Rattle.journal_records.specs.Shown.{entry_shown}
+use Rattle.journal_scan.specs.Shown.{entry_shown}
 use Rattle.journal_audit.specs.Replays.{group_by}
 use Rattle.journal_audit.proofs.Replaying.{pair_told, pair_untold, made_same}
 use Rattle.journal_audit.proofs.replay.tell_pair.Goals as goal

@@ -1,5 +1,5 @@
 use Rattle.std.specs.Prelude.{option_map}
-use Rattle.journal_records.specs.Shown.{what_shown}
+use Rattle.journal_scan.specs.Shown.{what_shown}
 use Rattle.journal_audit.proofs.Replaying.{on_ok, told_plain}
 use Rattle.journal_audit.proofs.replay.tell_plain.Goals as goal
 

@@ -5,7 +5,7 @@ use Rattle.std.proofs.lemmas.List.Folds.{length-prefix_len}
 use Rattle.std.proofs.lemmas.List.Sums.{prefix_len-le-length}
 use Rattle.std.specs.List.{prefix_len}
 use Rattle.journal_model.specs.declared.entry.Entry.{Entry}
-use Rattle.journal_records.specs.Shown.{entry_shown}
+use Rattle.journal_scan.specs.Shown.{entry_shown}
 use Rattle.journal_scan.specs.Looks.{is_written}
 use Rattle.journal_look.proofs.cursors.before_written.Goals as goal
 

@@ -1,4 +1,4 @@
-use Rattle.journal_records.specs.Shown.{entry_shown}
+use Rattle.journal_scan.specs.Shown.{entry_shown}
 use Rattle.journal_look.proofs.Holding.{after_held}
 use Rattle.journal_look.proofs.held.note.Goals as goal
 

@@ -1,6 +1,6 @@
 use Rattle.std.proofs.Common.{refl, sym, ℕ, ◌∙◌, ap, subst, List, length}
 use Rattle.journal_model.specs.Journal.{asked_jobs}
-use Rattle.journal_records.specs.Shown.{entry_shown}
+use Rattle.journal_scan.specs.Shown.{entry_shown}
 use Rattle.journal_look.specs.declared.life.Life.{Life}
 use Rattle.journal_look.specs.declared.jobs.Open.{Open}
 use Rattle.journal_look.specs.Opens.{AreOpen}

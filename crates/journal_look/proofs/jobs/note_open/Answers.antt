@@ -1,5 +1,5 @@
 use Rattle.std.proofs.Common.{◌∙◌, sym}
-use Rattle.journal_records.specs.Shown.{what_shown}
+use Rattle.journal_scan.specs.Shown.{what_shown}
 use Rattle.journal_look.proofs.Opening.{open_after}
 use Rattle.journal_look.proofs.jobs.note_open.Goals as goal
 

@@ -1,5 +1,5 @@
 use Rattle.std.proofs.Common.{◌∙◌, ap, sym, ◌++◌, ◌∷◌, []}
-use Rattle.journal_records.specs.Shown.{what_shown}
+use Rattle.journal_scan.specs.Shown.{what_shown}
 use Rattle.journal_look.proofs.Opening.{told_more, told_now}
 use Rattle.journal_look.proofs.jobs.tell.Goals as goal
 

@@ -1,7 +1,7 @@
 use Rattle.std.proofs.Common.{sym, arith}
 use Rattle.std.proofs.lemmas.Option.{get_or_from_slice_get}
 use Rattle.journal_model.specs.declared.entry.Entry.{Entry}
-use Rattle.journal_records.specs.Shown.{entry_shown}
+use Rattle.journal_scan.specs.Shown.{entry_shown}
 use Rattle.journal_look.proofs.Living.{AreFew, few_through, life_next}
 use Rattle.journal_look.proofs.life.lived_through.Goals as goal
 

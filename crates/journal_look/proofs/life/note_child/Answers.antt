@@ -1,5 +1,5 @@
 use Rattle.std.proofs.Common.{◌∙◌, ap, arith}
-use Rattle.journal_records.specs.Shown.{what_shown}
+use Rattle.journal_scan.specs.Shown.{what_shown}
 use Rattle.journal_look.specs.Lives.{lived}
 use Rattle.journal_look.proofs.Living.{noted_after, noted_at}
 use Rattle.journal_look.proofs.life.note_child.Goals as goal

@@ -1,5 +1,5 @@
 use Rattle.std.proofs.Common.{refl}
-use Rattle.journal_records.specs.Shown.{entry_shown}
+use Rattle.journal_scan.specs.Shown.{entry_shown}
 use Rattle.journal_look.proofs.Tabling.{noted}
 use Rattle.journal_look.proofs.tables.note.Goals as goal
 

@@ -1,4 +1,4 @@
-use Rattle.journal_records.specs.Shown.{entry_shown}
+use Rattle.journal_scan.specs.Shown.{entry_shown}
 use Rattle.journal_look.proofs.Taking.{taken_next}
 use Rattle.journal_look.proofs.taken.table_of.Goals as goal
 

@@ -4,7 +4,7 @@ use Rattle.std.proofs.lemmas.Iterator.Search.{any_from_yields_List}
 use Rattle.std.specs.Prelude.{ℕ}
 use Rattle.journal_model.specs.declared.entry.Entry.{Entry}
 use Rattle.journal_model.specs.Legality.{claimed_for, is_busy_with}
-use Rattle.journal_records.specs.Shown.{entry_shown}
+use Rattle.journal_scan.specs.Shown.{entry_shown}
 use Rattle.journal_scan.proofs.claims.has_busy.Goals as goal
 
 pub returns : goal.returns

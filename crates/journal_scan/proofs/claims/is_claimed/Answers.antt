@@ -3,7 +3,7 @@ use Rattle.std.proofs.lemmas.Iterator.Consumers.{YieldsList-from_first, fold_fro
 use Rattle.std.specs.Prelude.{Bool, false}
 use Rattle.journal_model.specs.declared.entry.Entry.{Entry}
 use Rattle.journal_model.specs.Legality.{claimed_on}
-use Rattle.journal_records.specs.Shown.{entry_shown}
+use Rattle.journal_scan.specs.Shown.{entry_shown}
 use Rattle.journal_scan.proofs.claims.is_claimed.Goals as goal
 
 pub returns : goal.returns

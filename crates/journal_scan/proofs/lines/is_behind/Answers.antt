@@ -5,7 +5,7 @@ use Rattle.std.proofs.lemmas.Iterator.Search.{any_from_yields_List}
 use Rattle.journal_model.specs.declared.entry.Entry.{Entry}
 use Rattle.journal_model.specs.Journal.{is_job}
 use Rattle.journal_scan.specs.Looks.{written_to}
-use Rattle.journal_records.specs.Shown.{entry_shown}
+use Rattle.journal_scan.specs.Shown.{entry_shown}
 use Rattle.journal_scan.proofs.lines.is_behind.Goals as goal
 
 pub returns : goal.returns

@@ -1,7 +1,7 @@
 use Rattle.std.proofs.Common.{◌∙◌, ap, List, ℕ}
 use Rattle.annex_model.specs.Messages.{remote_reading}
 use Rattle.journal_model.specs.Due.{is_version_one}
-use Rattle.journal_records.specs.Shown.{entry_shown}
+use Rattle.journal_scan.specs.Shown.{entry_shown}
 use Rattle.journal_scan.proofs.Written.{said_found, said_nothing}
 use Rattle.journal_scan.proofs.lines.said_version.Goals as goal
 

@@ -6,7 +6,7 @@ use Rattle.std.proofs.lemmas.List.Sums.{prefix_len-le-length}
 use Rattle.std.specs.List.{prefix_len}
 use Rattle.journal_model.specs.declared.entry.Entry.{Entry}
 use Rattle.journal_scan.specs.Looks.{is_hosts}
-use Rattle.journal_records.specs.Shown.{entry_shown}
+use Rattle.journal_scan.specs.Shown.{entry_shown}
 use Rattle.journal_scan.proofs.talks.before_job.Goals as goal
 
 pub returns : goal.returns

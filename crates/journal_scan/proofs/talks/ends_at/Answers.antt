@@ -1,5 +1,5 @@
 use Rattle.std.proofs.Common.{◌∙◌}
-use Rattle.journal_records.specs.Shown.{entry_shown}
+use Rattle.journal_scan.specs.Shown.{entry_shown}
 use Rattle.journal_scan.proofs.Firsts.{first_ends, none_ends}
 use Rattle.journal_scan.proofs.talks.ends_at.Goals as goal
 

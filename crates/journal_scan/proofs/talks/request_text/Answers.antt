@@ -2,7 +2,7 @@ use Rattle.std.proofs.Common.{◌∙◌, ap, Some, List, ℕ, take, Option}
 use Rattle.std.specs.Prelude.{slice_get}
 use Rattle.journal_model.specs.declared.entry.Entry.{Entry}
 use Rattle.journal_model.specs.Journal.{addressed, any, offers}
-use Rattle.journal_records.specs.Shown.{entry_shown}
+use Rattle.journal_scan.specs.Shown.{entry_shown}
 use Rattle.journal_scan.specs.Looks.{hosts_line, text_after}
 use Rattle.journal_scan.proofs.NoneBefore.{none_before}
 use Rattle.journal_scan.proofs.talks.request_text.Goals as goal

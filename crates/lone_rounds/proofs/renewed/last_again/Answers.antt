@@ -1,7 +1,7 @@
 use Rattle.std.proofs.Common.{◌≡◌, ◌-◌, ◌<◌, sym, subst, ℕ, length, ap, ◌∙◌, Option}
 use Rattle.std.specs.Prelude.{option_map, slice_get}
 use Rattle.journal_model.specs.declared.entry.Entry.{Entry}
-use Rattle.journal_records.specs.Shown.{entry_shown}
+use Rattle.journal_scan.specs.Shown.{entry_shown}
 use Rattle.lone_rounds.proofs.LastAgain.{found_last, still_none}
 use Rattle.lone_rounds.proofs.renewed.last_again.Goals as goal
 

@@ -1,6 +1,6 @@
 use Rattle.std.proofs.Common.{rules, ◌≡◌, ◌+◌, List, [], length, take, Option, sym, subst}
 use Rattle.std.proofs.lemmas.List.{with_items_is}
-use Rattle.journal_records.specs.Shown.{entry_shown}
+use Rattle.journal_scan.specs.Shown.{entry_shown}
 use Rattle.journal_model.specs.declared.answer.Answer.{Answer}
 use Rattle.run_answers.specs.Answering.{HoldsAnswers, TakesUp}
 use Rattle.run_answers.proofs.Answering.{holds_none, holds_more, no_gap}

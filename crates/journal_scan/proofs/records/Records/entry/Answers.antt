@@ -1,8 +1,8 @@
 use Rattle.std.proofs.Common.{◌≡◌, List, Some, None, slice_get, option_map, sym, ap, ◌∙◌}
 use Rattle.std.proofs.lemmas.Option.{slice_get-map}
-use Rattle.journal_records.specs.declared.record.Record.{Record}
-use Rattle.journal_records.specs.Kept.{entry_kept, what_kept}
-use Rattle.journal_records.proofs.records.Records.entry.Goals as goal
+use Rattle.journal_scan.specs.declared.record.Record.{Record}
+use Rattle.journal_scan.specs.Kept.{entry_kept, what_kept}
+use Rattle.journal_scan.proofs.records.Records.entry.Goals as goal
 
 pub returns-in-Some : goal.returns-in-Some
 returns-in-Some c =

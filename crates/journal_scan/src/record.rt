@@ -2,8 +2,8 @@
 ghost use Rattle.std.specs.Prelude.{◌≡◌, ◌+◌, ◌<◌, ◌≤◌, ◌++◌, ◌∷◌, [], length, slice_get, vec_capacity, vec_len};
 ghost use Rattle.host_tables.specs.Lines.{total};
 ghost use Rattle.journal_model.specs.Journal.{line_bytes};
-ghost use Rattle.journal_records.specs.Kept.{IsAnswerWithin, IsKept, answer_kept, by_digest, line_kept, what_kept, with_digest, with_digest_of, with_line};
-ghost use Rattle.journal_records.specs.Shown.{what_shown};
+ghost use Rattle.journal_scan.specs.Kept.{IsAnswerWithin, IsKept, answer_kept, by_digest, line_kept, what_kept, with_digest, with_digest_of, with_line};
+ghost use Rattle.journal_scan.specs.Shown.{what_shown};
 
 use crate::entry::WhatRef;
 use ann_digest::Digest;

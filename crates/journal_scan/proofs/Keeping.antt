@@ -11,12 +11,12 @@ use Rattle.journal_model.specs.declared.entry.What.{What}
 use Rattle.journal_model.specs.declared.entry.What.TheVariants.{Lead, Ask, Put, Got, Answer as Answered, Again}
 use Rattle.journal_model.specs.declared.entry.Entry.{Entry}
 use Rattle.journal_model.specs.Journal.{line_bytes}
-use Rattle.journal_records.specs.declared.record.KeptAnswer.{KeptAnswer}
-use Rattle.journal_records.specs.declared.record.KeptAnswer.TheVariants.{Hash as KeptHash}
-use Rattle.journal_records.specs.declared.record.Kept.{Kept}
-use Rattle.journal_records.specs.declared.record.Kept.TheVariants.{Lead as KeptLead, Ask as KeptAsk, Put as KeptPut, Got as KeptGot, Answer as KeptAnswered, Again as KeptAgain}
-use Rattle.journal_records.specs.declared.record.Record.{Record}
-use Rattle.journal_records.specs.Kept.{line_kept, by_digest, answer_kept, what_kept, entry_kept, with_line, with_digest_of, with_digest, IsAnswerWithin, IsWithin, AreRecords}
+use Rattle.journal_scan.specs.declared.record.KeptAnswer.{KeptAnswer}
+use Rattle.journal_scan.specs.declared.record.KeptAnswer.TheVariants.{Hash as KeptHash}
+use Rattle.journal_scan.specs.declared.record.Kept.{Kept}
+use Rattle.journal_scan.specs.declared.record.Kept.TheVariants.{Lead as KeptLead, Ask as KeptAsk, Put as KeptPut, Got as KeptGot, Answer as KeptAnswered, Again as KeptAgain}
+use Rattle.journal_scan.specs.declared.record.Record.{Record}
+use Rattle.journal_scan.specs.Kept.{line_kept, by_digest, answer_kept, what_kept, entry_kept, with_line, with_digest_of, with_digest, IsAnswerWithin, IsWithin, AreRecords}
 
 -- ---- with more lines and digests a record says the same
 

@@ -1,6 +1,6 @@
 ghost use Rattle.std.specs.Prelude.{◌≡◌, ◌+◌, ◌-◌, ◌<◌, ◌≤◌, ◌^◌, ◌++◌, ◌∷◌, [], length, option_map, slice_get, IsOk, OnErr, OnOk};
 ghost use Rattle.journal_model.specs.Journal.{line_bytes};
-ghost use Rattle.journal_records.specs.Shown.{entry_shown};
+ghost use Rattle.journal_scan.specs.Shown.{entry_shown};
 
 use crate::entries::Entries;
 use crate::entry::EntryRef;
@@ -24,8 +24,8 @@ pub struct Records {
 impl Model for Records {
     ghost use Rattle.std.specs.Prelude.{◌-◌, map, vec_capacity};
     ghost use Rattle.host_tables.specs.Lines.{total};
-    ghost use Rattle.journal_records.specs.RecordsValue.{RecordsValue};
-    ghost use Rattle.journal_records.specs.Kept.{AreRecords, entry_kept};
+    ghost use Rattle.journal_scan.specs.RecordsValue.{RecordsValue};
+    ghost use Rattle.journal_scan.specs.Kept.{AreRecords, entry_kept};
 
     ghost Value = { RecordsValue };
 

@@ -1,5 +1,5 @@
 ghost use Rattle.std.specs.Prelude.{◌≡◌, ◌≤◌, drop, length, option_map, slice_get, take};
-ghost use Rattle.journal_records.specs.Shown.{entry_shown};
+ghost use Rattle.journal_scan.specs.Shown.{entry_shown};
 
 use crate::entry::EntryRef;
 use crate::records::Records;

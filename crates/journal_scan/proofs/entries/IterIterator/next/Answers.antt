@@ -1,9 +1,9 @@
 use Rattle.std.proofs.Common.{◌≡◌, [], Option, sym, subst, ◌∙◌}
 use Rattle.std.specs.Iterator.{YieldsFirstBy}
-use Rattle.journal_records.specs.declared.entry.EntryRef.{EntryRef}
-use Rattle.journal_records.specs.Shown.{entry_shown}
-use Rattle.journal_records.proofs.Parts.{none_first}
-use Rattle.journal_records.proofs.entries.IterIterator.next.Goals as goal
+use Rattle.journal_scan.specs.declared.entry.EntryRef.{EntryRef}
+use Rattle.journal_scan.specs.Shown.{entry_shown}
+use Rattle.journal_scan.proofs.Parts.{none_first}
+use Rattle.journal_scan.proofs.entries.IterIterator.next.Goals as goal
 
 pub returns-in_err-entry-clause-steps : goal.returns-in_err-entry-clause-steps
 returns-in_err-entry-clause-steps c =

@@ -8,11 +8,11 @@ use Rattle.journal_model.specs.declared.answer.Answer.TheVariants.{Stored, Got a
 use Rattle.journal_model.specs.declared.entry.What.{What}
 use Rattle.journal_model.specs.declared.entry.What.TheVariants.{Claim, Start, NoStart, Lead, Ask, Put, Sent, Mute, Got, End, Verdict, Lost, Answer as Answered, Note, Again}
 use Rattle.journal_model.specs.declared.entry.Entry.{Entry}
-use Rattle.journal_records.specs.declared.record.KeptAnswer.{KeptAnswer}
-use Rattle.journal_records.specs.declared.record.KeptAnswer.TheVariants.{Stored as KeptStored, Got as KeptGotAnswer, Present as KeptPresent, Dropped as KeptDropped, Renamed as KeptRenamed, Absent as KeptAbsent, Unsupported as KeptUnsupported, Unsent as KeptUnsent, StartFault as KeptStartFault, NoChild as KeptNoChild, FileFault as KeptFileFault, NoFile as KeptNoFile, Memory as KeptMemory, Failed as KeptFailed, Unknown as KeptUnknown, NotPrepared as KeptNotPrepared, Ended as KeptEnded, Size as KeptSize, Hash as KeptHash}
-use Rattle.journal_records.specs.declared.record.Kept.{Kept}
-use Rattle.journal_records.specs.declared.record.Kept.TheVariants.{Claim as KeptClaim, Start as KeptStart, NoStart as KeptNoStart, Lead as KeptLead, Ask as KeptAsk, Put as KeptPut, Sent as KeptSent, Mute as KeptMute, Got as KeptGot, End as KeptEnd, Verdict as KeptVerdict, Lost as KeptLost, Answer as KeptAnswered, Note as KeptNote, Again as KeptAgain}
-use Rattle.journal_records.specs.declared.record.Record.{Record}
+use Rattle.journal_scan.specs.declared.record.KeptAnswer.{KeptAnswer}
+use Rattle.journal_scan.specs.declared.record.KeptAnswer.TheVariants.{Stored as KeptStored, Got as KeptGotAnswer, Present as KeptPresent, Dropped as KeptDropped, Renamed as KeptRenamed, Absent as KeptAbsent, Unsupported as KeptUnsupported, Unsent as KeptUnsent, StartFault as KeptStartFault, NoChild as KeptNoChild, FileFault as KeptFileFault, NoFile as KeptNoFile, Memory as KeptMemory, Failed as KeptFailed, Unknown as KeptUnknown, NotPrepared as KeptNotPrepared, Ended as KeptEnded, Size as KeptSize, Hash as KeptHash}
+use Rattle.journal_scan.specs.declared.record.Kept.{Kept}
+use Rattle.journal_scan.specs.declared.record.Kept.TheVariants.{Claim as KeptClaim, Start as KeptStart, NoStart as KeptNoStart, Lead as KeptLead, Ask as KeptAsk, Put as KeptPut, Sent as KeptSent, Mute as KeptMute, Got as KeptGot, End as KeptEnd, Verdict as KeptVerdict, Lost as KeptLost, Answer as KeptAnswered, Note as KeptNote, Again as KeptAgain}
+use Rattle.journal_scan.specs.declared.record.Record.{Record}
 
 -- ---- what is kept, read back
 

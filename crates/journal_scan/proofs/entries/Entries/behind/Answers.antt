@@ -1,6 +1,6 @@
 use Rattle.std.proofs.Common.{length, drop, ap, ◌∙◌, arith}
-use Rattle.journal_records.proofs.Parts.{behind_part, length_part}
-use Rattle.journal_records.proofs.entries.Entries.behind.Goals as goal
+use Rattle.journal_scan.proofs.Parts.{behind_part, length_part}
+use Rattle.journal_scan.proofs.entries.Entries.behind.Goals as goal
 
 pub returns : goal.returns
 returns c =

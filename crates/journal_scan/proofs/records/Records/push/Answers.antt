@@ -3,10 +3,10 @@ use Rattle.std.proofs.lemmas.List.{map-append}
 use Rattle.host_tables.specs.Lines.{total}
 use Rattle.journal_model.specs.Journal.{line_bytes}
 use Rattle.journal_model.specs.declared.entry.Entry.{Entry}
-use Rattle.journal_records.specs.declared.record.Record.{Record}
-use Rattle.journal_records.specs.Kept.{AreRecords, entry_kept}
-use Rattle.journal_records.proofs.Keeping.{bytes_with, entries_same, few_kept, fits_kept, records_pushed}
-use Rattle.journal_records.proofs.records.Records.push.Goals as goal
+use Rattle.journal_scan.specs.declared.record.Record.{Record}
+use Rattle.journal_scan.specs.Kept.{AreRecords, entry_kept}
+use Rattle.journal_scan.proofs.Keeping.{bytes_with, entries_same, few_kept, fits_kept, records_pushed}
+use Rattle.journal_scan.proofs.records.Records.push.Goals as goal
 
 pub keep-kept-requires-clause-line : goal.keep-kept-requires-clause-line
 keep-kept-requires-clause-line c =

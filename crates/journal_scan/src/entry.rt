@@ -1,6 +1,6 @@
 // An entry that is lent.
 ghost use Rattle.std.specs.Prelude.{◌≡◌};
-ghost use Rattle.journal_records.specs.Shown.{what_shown, entry_shown};
+ghost use Rattle.journal_scan.specs.Shown.{what_shown, entry_shown};
 
 use journal_model::{Answer, Entry, Verdict, What, Why};
 

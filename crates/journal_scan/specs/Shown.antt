@@ -2,9 +2,9 @@
 use Rattle.journal_model.specs.declared.entry.What.{What}
 use Rattle.journal_model.specs.declared.entry.What.TheVariants.{Claim, Start, NoStart, Lead, Ask, Put, Sent, Mute, Got, End, Verdict, Lost, Answer, Note, Again}
 use Rattle.journal_model.specs.declared.entry.Entry.{Entry}
-use Rattle.journal_records.specs.declared.entry.WhatRef.{WhatRef}
-use Rattle.journal_records.specs.declared.entry.WhatRef.TheVariants.{Claim as ClaimRef, Start as StartRef, NoStart as NoStartRef, Lead as LeadRef, Ask as AskRef, Put as PutRef, Sent as SentRef, Mute as MuteRef, Got as GotRef, End as EndRef, Verdict as VerdictRef, Lost as LostRef, Answer as AnswerRef, Note as NoteRef, Again as AgainRef}
-use Rattle.journal_records.specs.declared.entry.EntryRef.{EntryRef}
+use Rattle.journal_scan.specs.declared.entry.WhatRef.{WhatRef}
+use Rattle.journal_scan.specs.declared.entry.WhatRef.TheVariants.{Claim as ClaimRef, Start as StartRef, NoStart as NoStartRef, Lead as LeadRef, Ask as AskRef, Put as PutRef, Sent as SentRef, Mute as MuteRef, Got as GotRef, End as EndRef, Verdict as VerdictRef, Lost as LostRef, Answer as AnswerRef, Note as NoteRef, Again as AgainRef}
+use Rattle.journal_scan.specs.declared.entry.EntryRef.{EntryRef}
 
 abbrev pub what_shown : WhatRef → What
 what_shown (ClaimRef task child) = Claim task child
