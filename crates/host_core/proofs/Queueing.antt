@@ -1,5 +1,5 @@
 -- The queue of the tasks is that of the journal, after each group too.
-use Rattle.std.proofs.Common.{◌≡◌, ◌∙◌, ℕ, zero, suc, ◌+◌, ◌-◌, ◌<◌, ◌≤◌, ◌^◌, ◌⊎◌, List, [], ◌∷◌, ◌++◌, refl, sym, ap, subst, Bool, true, false, not, cond, Option, Some, None, length, arith, inl, inr, append-nil}
+use Rattle.std.proofs.Common.{◌≡◌, ◌∙◌, ℕ, zero, suc, ◌+◌, ◌<◌, ◌≤◌, ◌^◌, List, [], ◌∷◌, ◌++◌, refl, sym, ap, subst, Bool, true, false, not, cond, Option, Some, None, length, arith, inl, inr, append-nil}
 use Rattle.std.specs.Prelude.{◌&&◌, ◌||◌, ◌==◌, find, is_some}
 use Rattle.std.specs.List.{list_any, range_with_len}
 use Rattle.std.proofs.lemmas.Bool.{eqb-true, not-true}
@@ -9,11 +9,10 @@ use Rattle.journal_model.specs.declared.entry.What.TheVariants.{Claim, Lead, Ask
 use Rattle.journal_model.specs.declared.entry.Entry.{Entry}
 use Rattle.journal_model.specs.declared.opening.Opening.{Opening}
 use Rattle.journal_model.specs.Due.{due_after, made_by}
-use Rattle.journal_model.specs.Legality.{both_conflict, claimed_after, has_open_job, holder, is_busy, is_claimed, is_claimed_by, is_free, is_number, is_run_again, least_free, may_come, numbers_of, task_of, turned_by}
+use Rattle.journal_model.specs.Legality.{both_conflict, has_open_job, holder, is_busy, is_claimed, is_claimed_by, is_free, is_number, is_run_again, least_free, may_come, numbers_of, task_of, turned_by}
 use Rattle.journal_model.proofs.Growing.{pair}
 use Rattle.journal_model.proofs.Holding.{claimed, claimed_append, claimed_group, closed, due_names, held_busy, holder_append, unturned}
 use Rattle.journal_model.proofs.Looks.{both, entry}
-use Rattle.task_queue.specs.Groups.{is_set}
 use Rattle.task_queue.specs.Queues.{IsNext, IsQueued, IsTurned, busy_after, is_among}
 use Rattle.task_queue.specs.declared.queue.Queue.{Queue}
 use Rattle.host_core.specs.declared.due.Due.{Due}

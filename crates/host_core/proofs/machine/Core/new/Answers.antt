@@ -1,4 +1,4 @@
-use Rattle.std.proofs.Common.{rules, ◌≡◌, [], List, subst, sym}
+use Rattle.std.proofs.Common.{rules, List, subst, sym}
 use Rattle.journal_model.specs.declared.entry.Entry.{Entry}
 use Rattle.task_queue.specs.Queues.{IsQueued}
 use Rattle.host_core.specs.Runs.{AreRuns}

@@ -1,7 +1,6 @@
 use Rattle.std.proofs.Common.{◌≡◌, ◌++◌, ◌+◌, ◌∙◌, ◌<◌, ◌≤◌, ◌^◌, ℕ, [], true, false, Option, sym, ap, subst, Bool, if◌then◌else◌, List, length, arith}
 use Rattle.std.specs.Prelude.{All}
 use Rattle.std.specs.List.{cons_option}
-use Rattle.reg_file.specs.Registers.{RegisterFile}
 use Rattle.annex_model.specs.Messages.{RemoteMessage}
 use Rattle.journal_model.specs.declared.entry.What.{What}
 use Rattle.journal_model.specs.declared.entry.Entry.{Entry}
@@ -13,13 +12,13 @@ use Rattle.journal_model.specs.Registers.{settings}
 use Rattle.task_queue.specs.Queues.{IsQueued}
 use Rattle.host_core.specs.declared.due.Due.{Due}
 use Rattle.host_core.specs.Steps.{step_of, told, unless_shut, is_free}
-use Rattle.host_core.specs.Books.{IsNoted, notes_after}
+use Rattle.host_core.specs.Books.{IsNoted}
 use Rattle.host_core.specs.CoreValue.{CoreValue}
 use Rattle.host_core.specs.Mays.{IsMadeBy}
 use Rattle.host_core.specs.Moves.{group_bytes, group_made, group_room}
 use Rattle.host_core.specs.Queued.{IsTurnedIn}
 use Rattle.host_core.specs.Runs.{AreRuns}
-use Rattle.host_core.specs.Settings.{set_in, registers_after, IsServed}
+use Rattle.host_core.specs.Settings.{set_in, IsServed}
 use Rattle.host_core.proofs.Sharing.{step_made}
 use Rattle.host_core.proofs.Stepping.{Legal-step}
 use Rattle.host_core.proofs.Pushing.{group_fits, few_entries, free_bytes, free_room, free_first}
