@@ -72,7 +72,7 @@ pub record HasRoom (q : Queue) : Type 0 where
 
 -- ---- what it says of a run
 
--- it is one of these tasks, and each that waits for another one can't be busy at once with it
+-- it is the queue of the opening's tasks, and each that waits for another one can't be busy at once with it
 pub record IsOf (o : Opening) (q : Queue) : Type 0 where
   pub long : length q.claimed.items ≡ length o.tasks + 1
   pub groups : AreGroups o q.groups.of.items

@@ -52,10 +52,11 @@ fn place_after(blocks: &[bool], place: usize) -> usize
     ensures bare { (t : ℕ) → place < t → t < result → is_set blocks.now (t / 256) ≡ false }
 {
     let next = place + 1;
-    if next % BLOCK == 0 && !is_set(blocks, next / BLOCK) {
-        next + BLOCK
-    } else {
+    let block = next / BLOCK;
+    if is_set(blocks, block) {
         next
+    } else {
+        (block + 1) * BLOCK
     }
 }
 
