@@ -44,5 +44,12 @@ impl<P: Programs, K: Desks> Model for Made<P, K> {
 
     ghost Value = { MadeValue };
 
-    ghost view = { λ m. record { journal = m.journal.entries; answers = m.answers.items; wires = map (wire_value P.Inlet.taken P.Inlet.faults P.Inlet.number P.Inlet.is_open P.Outlet.given P.Outlet.left P.Outlet.faults P.Outlet.number P.Outlet.is_open) m.wires.items; tables = map (table_value K.Desk.counts K.Desk.files K.Desk.log) m.tables.items; end = m.end } };
+    ghost view = { λ m. record {
+      journal = m.journal.entries;
+      answers = m.answers.items;
+      wires =
+          map (wire_value P.Inlet.taken P.Inlet.faults P.Inlet.number P.Inlet.is_open P.Outlet.given P.Outlet.left P.Outlet.faults P.Outlet.number P.Outlet.is_open) m.wires.items;
+      tables = map (table_value K.Desk.counts K.Desk.files K.Desk.log) m.tables.items;
+      end = m.end;
+    } };
 }

@@ -69,7 +69,8 @@ pub fn run_task<A: Asker, D: Desk>(
     requires number { number ≡ A.task asker.old }
     requires ready { A.ready asker.old }
     requires notes { may_note task.now.work ≡ true → A.may_note asker.old ≡ true }
-    ensures ran { Ran task.now (record { task = number; turn = turn }) setup.now (A.current asker.old) (A.pairs asker.old) (A.pairs asker.new) (A.notes asker.old) (A.notes asker.new) (D.log desk.old) (D.log desk.new) result }
+    ensures ran { Ran task.now (record { task = number; turn = turn }) setup.now (A.current asker.old) (A.pairs asker.old) (A.pairs asker.new)
+        (A.notes asker.old) (A.notes asker.new) (D.log desk.old) (D.log desk.new) result }
     ensures same { IsSameTask (A.task asker.old) (A.task asker.new) (A.may_note asker.old) (A.may_note asker.new) (A.loans asker.old) (A.loans asker.new) }
     ensures on { A.goes_on asker.old asker.new }
     ensures causes { HasTaskCauses (D.counts desk.old) (D.counts desk.new) result }
