@@ -2,29 +2,23 @@
 use Rattle.std.proofs.Common.{◌≡◌, ℕ, ◌+◌, List, [], ◌∷◌, ◌++◌, length, take, drop, refl, sym, ap, subst, ◌∙◌, Bool, true, false, not, cond, Some, None, Option, append_assoc, inl, inr}
 use Rattle.std.specs.Prelude.{◌==◌, ◌&&◌, ◌||◌, nat_lt, is_some, ◌⊎◌}
 use Rattle.std.specs.List.{list_all, prefix_len}
-use Rattle.std.proofs.lemmas.Bool.{eqb-true}
+use Rattle.std.proofs.lemmas.Bool.{eqb-true, not-true as not_true, or_cases as or_true, and_parts as both}
 use Rattle.std.proofs.Math.Seq.{take-append_seam, drop-append_seam}
 use Rattle.ann_key.specs.Numbers.{is_digit, value_of, is_numeral}
 use Rattle.ann_key.specs.Keys.{Parts, is_backend_byte, is_backend, is_name, IsField, IsChunkField, begins, number_at, some_of, field_at, chunk_of, chunk_after, chunk_at, named, timed, sized, key_reading}
 use Rattle.ann_key.specs.KeyErrors.{first_is, Begun, Fields, ChunkSize, IsFront, IsSizedFront, IsBegun, may_follow, ends_in_number, is_number_of, IsBadBackend, IsBadField, IsBadNumber, IsBadName, IsError}
 use Rattle.ann_key.specs.declared.error.KeyError.{KeyError}
 use Rattle.ann_key.specs.declared.error.KeyError.TheVariants.{Backend, Field, Number, Name}
-use Rattle.ann_key.proofs.Spelling.{both, prefix_len_front, number_read}
+use Rattle.ann_key.proofs.Spelling.{prefix_len_front, number_read}
 use Rattle.ann_key.proofs.Chunks.{front_is}
+use Rattle.ann_key.proofs.Booleans.{both_false as or_false}
+use Rattle.ann_key.proofs.Options.{no_pair as no_error, no_number as no_field}
 
 -- ---- tests
-
-pub or_false : (a b : Bool) → (a || b) ≡ false → (a ≡ false) × (b ≡ false)
-or_false true b h = absurd cc
-or_false false b h = (refl, h)
 
 and_left : (a b : Bool) → (a && b) ≡ false → b ≡ true → a ≡ false
 and_left true b h e = cc
 and_left false b h e = refl
-
-pub not_true : (a : Bool) → not a ≡ true → a ≡ false
-not_true true h = absurd cc
-not_true false h = refl
 
 pub no_dash : (letter : ℕ) (rest : List ℕ) → first_is (λ b. b == 45) rest ≡ false → begins 45 letter rest ≡ false
 no_dash letter [] h = refl
@@ -41,11 +35,11 @@ no_second letter (x ∷ more) h = h
 
 -- ---- texts before the rest
 
-digits_stop : (letter : ℕ) (o : Option ℕ) (text rest : List ℕ) → IsField letter o text → prefix_len is_digit rest ≡ 0 → prefix_len is_digit (text ++ rest) ≡ 0
+pub digits_stop : (letter : ℕ) (o : Option ℕ) (text rest : List ℕ) → IsField letter o text → prefix_len is_digit rest ≡ 0 → prefix_len is_digit (text ++ rest) ≡ 0
 digits_stop letter None text rest f h = rw f h
 digits_stop letter (Some n) text rest f h = rw f.1 refl
 
-digits_stop_chunk : (o : Option (ℕ × ℕ)) (text rest : List ℕ) → IsChunkField o text → prefix_len is_digit rest ≡ 0 → prefix_len is_digit (text ++ rest) ≡ 0
+pub digits_stop_chunk : (o : Option (ℕ × ℕ)) (text rest : List ℕ) → IsChunkField o text → prefix_len is_digit rest ≡ 0 → prefix_len is_digit (text ++ rest) ≡ 0
 digits_stop_chunk None text rest f h = rw f h
 digits_stop_chunk (Some c) text rest f h = rw f.2 refl
 
@@ -252,18 +246,6 @@ stops_after key rest some e = record {
 
     none : (s m : Option ℕ) (c : Option (ℕ × ℕ)) → (is_some s || is_some m || is_some c) ≡ true → s ≡ None → m ≡ None → c ≡ None → ⊥
     none s m c h a b d = let w : (is_some {T = ℕ} None || is_some {T = ℕ} None || is_some {T = ℕ × ℕ} None) ≡ true = rw (a, b, d) at h in absurd cc
-
-no_error : (o : Option (ℕ × ℕ)) → not (is_some o) ≡ true → o ≡ None
-no_error None e = refl
-no_error (Some c) e = absurd cc
-
-no_field : (o : Option ℕ) → not (is_some o) ≡ true → o ≡ None
-no_field None e = refl
-no_field (Some n) e = absurd cc
-
-or_true : (a b : Bool) → (a || b) ≡ true → (a ≡ true) ⊎ (b ≡ true)
-or_true true b h = inl refl
-or_true false b h = inr h
 
 -- what `may_follow` says of a byte that may not
 may_parts : (d c m s nc nm ns : Bool) → (d || (c && nc) || (m && nc && nm) || (s && nc && nm && ns)) ≡ false

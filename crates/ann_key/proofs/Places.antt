@@ -14,6 +14,7 @@ use Rattle.ann_key.specs.declared.error.KeyError.TheVariants.{Field, Number, Nam
 use Rattle.ann_key.proofs.Spelling.{begins_split, prefix_passes, number_spelled, field_spelled, chunk_spelled, ChunkSpelled, read_of_spelled}
 use Rattle.ann_key.proofs.Chunks.{front_is}
 use Rattle.ann_key.proofs.Scans.{positive}
+use Rattle.ann_key.proofs.Options.{no_pair as none_chunk, no_number as none_is}
 
 -- ---- fronts
 
@@ -351,14 +352,6 @@ pub record Fielded (r0 r1 r2 r3 : List ℕ) (size mtime : Option ℕ) (chunk : O
   pub size_is : field_at 115 r0 ≡ Some (size, r1)
   pub mtime_is : field_at 109 r1 ≡ Some (mtime, r2)
   pub chunk_is : chunk_at r2 ≡ Some (chunk, r3)
-
-none_is : (o : Option ℕ) → not (is_some o) ≡ true → o ≡ None
-none_is None e = refl
-none_is (Some n) e = absurd cc
-
-none_chunk : (o : Option (ℕ × ℕ)) → not (is_some o) ≡ true → o ≡ None
-none_chunk None e = refl
-none_chunk (Some c) e = absurd cc
 
 -- none of the letters that may follow stands behind the dash
 nothing_follows : (r0 r1 r2 more : List ℕ) (size mtime : Option ℕ) (chunk : Option (ℕ × ℕ)) (backend name : List ℕ) → Fielded r0 r1 r2 (45 ∷ more) size mtime chunk

@@ -6,11 +6,11 @@ use Rattle.std.specs.Fmt.{decimal}
 use Rattle.std.specs.Int.{IsInRange}
 use Rattle.std.proofs.lemmas.Str.Parse.{IsDigitsTest, FoldsDigits, IsNumeralModel, numerals_by_fold}
 use Rattle.std.proofs.lemmas.Fmt.{decimal-digits_value, digits_decimal, digits_value-decimal, length-decimal-le, first_decimal, decimal_nonempty, decimal_digit}
-use Rattle.std.proofs.lemmas.Bool.{eqb-true}
+use Rattle.std.proofs.lemmas.Bool.{eqb-true, and_parts as both}
 use Rattle.std.proofs.lemmas.Bool.Decides.{nat_tests}
 use Rattle.ann_key.specs.Numbers.{is_digit, value_of, is_number, is_numeral, IsNumeral}
 use Rattle.ann_key.specs.Keys.{Parts, IsField, IsChunkField, IsKey, key_reading}
-use Rattle.ann_key.proofs.Spelling.{both, read_of_spelled}
+use Rattle.ann_key.proofs.Spelling.{read_of_spelled}
 
 digit_in : (c : ℕ) → is_digit c ≡ true → IsInRange 48 57 c
 digit_in c h = grind (arith, nat_tests)

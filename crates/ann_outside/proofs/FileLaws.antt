@@ -1,18 +1,8 @@
 -- What taking a file away and putting it back does to the files.
 use Rattle.std.proofs.Common.{◌≡◌, ◌∙◌, ℕ, List, [], ◌∷◌, ◌++◌, refl, ap, sym, zero, suc}
 use Rattle.std.specs.Prelude.{Bool, true, false, bytes_eq, slice_get, remove, Some, None, if◌then◌else◌}
-use Rattle.std.proofs.lemmas.Slice.Eq.{bytes_eq-Decides}
 use Rattle.ann_outside.specs.Files.{Files, content}
-
-same_name : (name : List ℕ) → bytes_eq name name ≡ true
-same_name name = (bytes_eq-Decides name name).1 refl
-
-pub other_name : (a b : List ℕ) → (a ≡ b → ⊥) → bytes_eq a b ≡ false
-other_name a b h = by_test (bytes_eq a b) refl
-  where
-    by_test : (t : Bool) → bytes_eq a b ≡ t → bytes_eq a b ≡ false
-    by_test false e = e
-    by_test true e = absurd (h ((bytes_eq-Decides a b).0 e))
+use Rattle.ann_key.proofs.Lists.{other_name, same_name}
 
 -- a file of another name stays where one is taken out
 pub content-remove : (other : List ℕ) (files : Files) (at : ℕ) (file : List ℕ × List ℕ) → slice_get files at ≡ Some file → (other ≡ file.0 → ⊥)

@@ -6,12 +6,13 @@ use Rattle.annex_model.specs.declared.final_line.Final.{Final}
 use Rattle.annex_model.specs.declared.final_line.Final.TheVariants.{Unsupported}
 use Rattle.annex_model.specs.Messages.{RemoteMessage, UnsupportedRequest, HostMessage}
 use Rattle.annex_model.specs.Talks.{Shape, OneLine, Configs, Infos, shape_of, final_of, awaits, may_go_on, by_shape, said_alone, done_if, are_configs, are_infos, are_pairs, is_config, is_infofield, is_infovalue, is_unsupported}
-use Rattle.annex_model.proofs.Parts.{both}
+use Rattle.ann_key.proofs.Options.{none_not}
+use Rattle.std.proofs.lemmas.Bool.{and_parts as both}
 
 abbrev Said : Type 0
 Said = List (Option RemoteMessage)
 
-nothing_goes_on : (s : Shape) → may_go_on s [] ≡ true
+pub nothing_goes_on : (s : Shape) → may_go_on s [] ≡ true
 nothing_goes_on OneLine = refl
 nothing_goes_on Configs = refl
 nothing_goes_on Infos = refl
@@ -44,10 +45,6 @@ infos_before (f ∷ v ∷ xs) m ms h =
     let t = both (is_infofield f && is_infovalue v) (are_infos (xs ++ m ∷ ms)) h in
     let u = both (is_infofield f) (is_infovalue v) t.0 in
     rw (u.0, u.1, infos_before xs m ms t.1) refl
-
-none_not : {X : Type 0} (o : Option X) → o ≡ None → IsSome o → ⊥
-none_not (Some y) e s = absurd cc
-none_not None e s = cc
 
 -- by the shape, behind at least one message
 shape_before : (s : Shape) (q : HostMessage) (x : Option RemoteMessage) (xs : Said) (m : Option RemoteMessage) (ms : Said)

@@ -6,8 +6,8 @@ use Rattle.std.proofs.lemmas.Bool.Decides.{nat_tests}
 use Rattle.ann_key.specs.Numbers.{is_number, is_digit, value_of}
 use Rattle.ann_key.proofs.Unique.{decimal_is_numeral}
 use Rattle.annex_model.specs.Messages.{Followed, Spelled, Param, Number, Key, Word, Rest, Direction, Scope, IsOfClass, AreOfClass, is_of_class, are_of_class, HostMessage, IsAskable, is_askable, host_row, field_text, fields_text}
-use Rattle.annex_model.proofs.Parts.{both}
 use Rattle.annex_model.proofs.Shapes.{single}
+use Rattle.std.proofs.lemmas.Bool.{and_parts as both}
 
 text_spells : (p : Param) → IsOfClass p → Spelled p (field_text p)
 text_spells (Number n) h =
@@ -42,7 +42,7 @@ text_follows (p ∷ (q ∷ ps)) h = more_follow p q ps (fields_text (q ∷ ps)) 
 
 -- ---- what is spelled is of its class
 
-spelled_class : (p : Param) (field : List ℕ) → Spelled p field → IsOfClass p
+pub spelled_class : (p : Param) (field : List ℕ) → Spelled p field → IsOfClass p
 spelled_class (Number n) field h =
     let t = (both (nat_le 1 (length field) && nat_le (length field) 20 && list_all is_digit field) (nat_lt (value_of field) (2 ^ 64)) h.0).1 in
     let small : value_of field < 2 ^ 64 = grind (arith, nat_tests) in

@@ -6,8 +6,8 @@ use Rattle.annex_model.specs.declared.final_line.Final.{Final}
 use Rattle.annex_model.specs.declared.final_line.Final.TheVariants.{Unsupported}
 use Rattle.annex_model.specs.Messages.{RemoteMessage, UnsupportedRequest, Configend, Infovalue, Infoend, HostMessage, remote_reading}
 use Rattle.annex_model.specs.Talks.{Item, Side, of_host, request_lines, with_replies, remote_items, Conv, ConvFront, Talking, Shape, OneLine, Configs, Infos, said, final_of, by_shape, shape_of, may_go_on, is_nothing, is_config, is_infofield, is_infovalue, are_configs, are_infos, are_pairs, is_unsupported, item_is_aside, IsReplied, shown}
-use Rattle.annex_model.proofs.Parts.{both}
 use Rattle.annex_model.proofs.TalksGrow.{Conv-push, said-push, replied-push, from_remote}
+use Rattle.std.proofs.lemmas.Bool.{and_parts as both}
 
 -- a request has a line
 asks_some : (lead : List (List ℕ)) (q : HostMessage) (more : List (Side × List ℕ)) → [] ≡ of_host (request_lines lead q) ++ more → ⊥

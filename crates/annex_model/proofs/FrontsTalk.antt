@@ -7,7 +7,8 @@ use Rattle.annex_model.specs.Messages.{RemoteMessage, HostMessage, remote_readin
 use Rattle.annex_model.specs.Talks.{Item, Conv, ConvFront, Talking, AreReplied, IsReplied, shown, of_host, request_lines, is_remote, remote_items, said, with_replies, final_of, awaits, item_is_aside, is_final_item, begins_with_remote}
 use Rattle.annex_model.proofs.Awaiting.{before_awaits}
 use Rattle.annex_model.proofs.Cutting.{Shown, hosts_of, blocks, cut, begins}
-use Rattle.annex_model.proofs.TalksGrow.{map-append, flat_map-append}
+use Rattle.annex_model.proofs.TalksGrow.{flat_map-append}
+use Rattle.std.proofs.lemmas.List.{map-append}
 
 remote_items-append : (xs ys : List Item) → remote_items (xs ++ ys) ≡ remote_items xs ++ remote_items ys
 remote_items-append xs ys = filter-append (λ (x : Item). is_remote x.side) xs ys

@@ -1,10 +1,11 @@
 -- A line is its command word and what follows the first space.
 use Rattle.std.proofs.Common.{◌≡◌, ℕ, List, [], ◌∷◌, ◌++◌, refl, ap, Bool, true, false, Some, None, Option, cond}
-use Rattle.std.specs.Prelude.{not, ◌||◌, ◌&&◌}
+use Rattle.std.specs.Prelude.{not}
 use Rattle.std.specs.List.{list_any}
-use Rattle.std.proofs.lemmas.Bool.{eqb-true}
+use Rattle.std.proofs.lemmas.Bool.{eqb-true, and_parts as both}
 use Rattle.ann_key.specs.Keys.{is_key}
 use Rattle.annex_model.specs.Messages.{word_of, field_of, is_space, is_word, is_sent_key}
+use Rattle.ann_key.proofs.Booleans.{left_false_not_right as neither}
 
 abbrev pub behind : Option (List ℕ) → List ℕ
 behind None = []
@@ -18,15 +19,6 @@ word_and_field (b ∷ bs) = go (is_space b) refl (word_and_field bs)
         → b ∷ bs ≡ cond s [] (b ∷ word_of bs) ++ behind (cond s (Some bs) (field_of bs))
     go true e r = ap (λ (x : ℕ). x ∷ bs) (eqb-true b 32 e)
     go false e r = ap (λ (xs : List ℕ). b ∷ xs) r
-
-pub both : (a b : Bool) → (a && b) ≡ true → (a ≡ true) × (b ≡ true)
-both true true h = (refl, refl)
-both true false h = absurd cc
-both false b h = absurd cc
-
-neither : (a b : Bool) → not (a || b) ≡ true → (a ≡ false) × (not b ≡ true)
-neither true b h = absurd cc
-neither false b h = (refl, h)
 
 pub word_of_is_word : (line : List ℕ) → is_word (word_of line) ≡ true
 word_of_is_word [] = refl

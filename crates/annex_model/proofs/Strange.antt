@@ -10,17 +10,10 @@ use Rattle.annex_model.proofs.Awaiting.{before_awaits}
 use Rattle.annex_model.proofs.Fronts.{front_of}
 use Rattle.annex_model.proofs.FrontsTalk.{front_talks, said-append}
 use Rattle.annex_model.proofs.TalksGrow.{from_remote, said-push, replied-push, Conv-push}
+use Rattle.ann_key.proofs.Options.{none_not, some_is}
 
 abbrev Said : Type 0
 Said = List (Option RemoteMessage)
-
-none_not : {X : Type 0} (o : Option X) → o ≡ None → IsSome o → ⊥
-none_not (Some y) e s = absurd cc
-none_not None e s = cc
-
-some_is : {X : Type 0} (o : Option X) (x : X) → o ≡ Some x → IsSome o
-some_is (Some y) x h = refl
-some_is None x h = absurd cc
 
 strange_answer : (o : Option Final) (w : Bool) → by_answer o w ≡ Strange → (o ≡ None) × (w ≡ false)
 strange_answer (Some f) w h = absurd cc

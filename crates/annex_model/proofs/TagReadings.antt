@@ -2,12 +2,12 @@
 use Rattle.std.proofs.Common.{◌≡◌, ℕ, ◌<◌, ◌^◌, List, [], ◌∷◌, ◌++◌, refl, ap, subst, Bool, true, false, Some, None, Option, cond}
 use Rattle.std.specs.Prelude.{◌==◌, ◌&&◌, ◌||◌, not, nat_le, nat_lt, length, slice_index, decimal}
 use Rattle.std.specs.List.{list_all}
-use Rattle.std.proofs.lemmas.Bool.{eqb-true}
+use Rattle.std.proofs.lemmas.Bool.{eqb-true, and_parts as both}
 use Rattle.ann_key.specs.Numbers.{is_digit, is_number, value_of}
 use Rattle.ann_key.proofs.Unique.{decimal_is_numeral}
 use Rattle.annex_model.specs.Messages.{word_of, field_of, is_space, number_field}
 use Rattle.annex_model.specs.Tags.{Tagged, untag, tagged_line, numbered}
-use Rattle.annex_model.proofs.Parts.{both, word_and_field, behind}
+use Rattle.annex_model.proofs.Parts.{word_and_field, behind}
 
 -- digits hold no space
 digit_no_space : (b : ℕ) → is_digit b ≡ true → is_space b ≡ false

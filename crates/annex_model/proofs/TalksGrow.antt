@@ -1,22 +1,16 @@
 -- Conversations grow by one thing that the remote says.
-use Rattle.std.proofs.Common.{subst, true, append-nil, ◌≡◌, ℕ, List, [], ◌∷◌, ◌++◌, refl, sym, ap, ◌∙◌, append_assoc, false, not, Some, None, Option}
+use Rattle.std.proofs.Common.{subst, true, append-nil, ◌≡◌, ℕ, List, [], ◌∷◌, ◌++◌, refl, sym, ap, ◌∙◌, append_assoc, false, not, None, Option}
 use Rattle.std.specs.Prelude.{IsSome, map, filter}
-use Rattle.std.specs.List.{flat_map, last_or}
+use Rattle.std.specs.List.{flat_map}
 use Rattle.std.proofs.lemmas.List.Elements.{filter-append}
 use Rattle.annex_model.specs.Messages.{RemoteMessage, HostMessage, remote_reading}
 use Rattle.annex_model.specs.Talks.{Item, Host, Remote, awaits, Conv, Talking, AreReplied, IsReplied, shown, of_host, request_lines, remote_items, said, with_replies, final_of, item_is_aside, is_remote}
-
-pub map-append : {X Y : Type 0} (f : X → Y) (xs ys : List X) → map f (xs ++ ys) ≡ map f xs ++ map f ys
-map-append f [] ys = refl
-map-append f (x ∷ xs) ys = ap (λ zs. f x ∷ zs) (map-append f xs ys)
+use Rattle.ann_key.proofs.Lists.{last_or-push}
+use Rattle.std.proofs.lemmas.List.{map-append}
 
 pub flat_map-append : {X Y : Type 0} (f : X → List Y) (xs ys : List X) → flat_map f (xs ++ ys) ≡ flat_map f xs ++ flat_map f ys
 flat_map-append f [] ys = refl
 flat_map-append f (x ∷ xs) ys = ap (λ zs. f x ++ zs) (flat_map-append f xs ys) ∙ sym (append_assoc (f x) (flat_map f xs) (flat_map f ys))
-
-last_or-push : {X : Type 0} (o : Option X) (xs : List X) (x : X) → last_or o (xs ++ x ∷ []) ≡ Some x
-last_or-push o [] x = refl
-last_or-push o (y ∷ xs) x = last_or-push (Some y) xs x
 
 abbrev pub from_remote : ℕ → List ℕ → Item
 from_remote at text = record { side = Remote; at = at; text = text }

@@ -5,7 +5,8 @@ use Rattle.std.specs.List.{list_all, list_any}
 use Rattle.annex_model.specs.Lines.{has_newline}
 use Rattle.annex_model.specs.Messages.{is_space}
 use Rattle.reg_file.specs.Registers.{is_line, is_word}
-use Rattle.reg_file.proofs.LinkLists.{both}
+use Rattle.ann_key.proofs.Booleans.{one_of_two}
+use Rattle.std.proofs.lemmas.Bool.{and_parts as both}
 
 -- ---- none, and all not
 module _ (p : ℕ → Bool) where
@@ -34,11 +35,6 @@ line_of_field bytes h = all_not (λ b. b == 10) bytes h
 
 pub field_of_line : (bytes : List ℕ) → is_line bytes ≡ true → not (has_newline bytes) ≡ true
 field_of_line bytes h = none_of (λ b. b == 10) bytes h
-
-one_of_two : (a b rest : Bool) → not a ≡ true → not b ≡ true → rest ≡ true → (not (a || b) && rest) ≡ true
-one_of_two true b rest h k l = absurd (false≢true h)
-one_of_two false true rest h k l = absurd (false≢true k)
-one_of_two false false rest h k l = l
 
 pub word_of_field : (bytes : List ℕ) → not (list_any is_space bytes) ≡ true → not (has_newline bytes) ≡ true → is_word bytes ≡ true
 word_of_field [] h k = refl

@@ -11,11 +11,10 @@ use Rattle.ann_key.proofs.Spelling.{spelled_of_read}
 use Rattle.ann_digest.specs.Directories.{letter, letters, mixed_under, lower_under}
 use Rattle.annex_model.specs.Lines.{has_newline}
 use Rattle.reg_file.specs.Registers.{is_line}
-use Rattle.reg_file.proofs.LinkLists.{both}
-use Rattle.reg_file.proofs.Settings.{both_true}
 use Rattle.journal_model.specs.Replies.{base_text, mixed_at, lower_at}
 use Rattle.journal_model.proofs.BaseText.{base_is_the_base}
 use Rattle.ask_serve.proofs.Fields.{field_of_line}
+use Rattle.std.proofs.lemmas.Bool.{and_parts as both, and_from as both_true}
 
 -- the base text of a key that was read spells the key without its chunk
 pub base_spelled : (key : KeyRef) → IsKey (base_text (text_of key)) (without_chunk (parts_of key))

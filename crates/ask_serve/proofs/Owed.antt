@@ -1,6 +1,5 @@
 -- The lines that are owed hold no byte 10.
-use Rattle.std.proofs.Common.{◌≡◌, ℕ, Bool, true, false, not, ◌&&◌, ◌||◌, List, [], ◌∷◌, ◌==◌, length, nat_lt, refl, ap, ◌∙◌, Result, Ok, Err, IfOk, Vec}
-use mathlib.Core.Bool.{false≢true}
+use Rattle.std.proofs.Common.{◌≡◌, ℕ, true, not, ◌&&◌, List, [], ◌∷◌, ◌==◌, length, nat_lt, refl, ap, ◌∙◌, Result, Ok, Err, IfOk, Vec}
 use Rattle.std.specs.declared.alloc.Global.{Global}
 use Rattle.ann_key.specs.declared.bytes.NoMemory.{NoMemory}
 use Rattle.std.specs.List.{list_all, list_any}
@@ -8,12 +7,12 @@ use Rattle.std.proofs.lemmas.List.Folds.{list_any-append}
 use Rattle.annex_model.specs.Lines.{has_newline}
 use Rattle.annex_model.specs.Messages.{is_space}
 use Rattle.reg_file.specs.Registers.{RegisterFile, IsKept, is_line, is_word, is_key_word, config_of, creds_of, state_of, urls_of}
-use Rattle.reg_file.proofs.LinkLists.{both}
 use Rattle.reg_file.proofs.Readings.{read_passes, second_passes, urls_pass}
-use Rattle.reg_file.proofs.Settings.{both_true}
 use Rattle.journal_model.specs.Replies.{value_line, creds_line, url_lines}
 use Rattle.ask_serve.specs.Lines.{are_lines}
 use Rattle.ask_serve.proofs.Fields.{field_of_line, field_of_word, line_of_word}
+use Rattle.ann_key.proofs.Booleans.{not_either as neither}
+use Rattle.std.proofs.lemmas.Bool.{and_parts as both, and_from as both_true}
 
 -- ---- what registers hold
 module _ (r : RegisterFile) (kept : IsKept r) where
@@ -44,10 +43,6 @@ module _ (r : RegisterFile) (kept : IsKept r) where
 -- ---- lines of them
 pub value_is_line : (lines : List (List ℕ)) (value : List ℕ) → lines ≡ value_line value ∷ [] → not (has_newline value) ≡ true → are_lines lines ≡ true
 value_is_line lines value e h = ap are_lines e ∙ both_true (not (has_newline value)) true h refl
-
-neither : (a b : Bool) → not a ≡ true → not b ≡ true → not (a || b) ≡ true
-neither true b h k = absurd (false≢true h)
-neither false b h k = k
 
 pub creds_is_line : (lines : List (List ℕ)) (user password : List ℕ) → lines ≡ creds_line (user, password) ∷ [] → not (has_newline user) ≡ true → not (has_newline password) ≡ true
     → are_lines lines ≡ true

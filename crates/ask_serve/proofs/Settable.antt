@@ -5,9 +5,9 @@ use Rattle.ann_key.specs.Keys.{is_key}
 use Rattle.annex_model.specs.Lines.{has_newline}
 use Rattle.annex_model.specs.Messages.{RemoteMessage, Setconfig, Setcreds, Setwanted, Setstate, Seturlpresent, Seturlmissing, IsSayable}
 use Rattle.reg_file.specs.Registers.{is_line, is_word}
-use Rattle.reg_file.proofs.LinkLists.{both}
 use Rattle.journal_model.specs.Replies.{are_line_fields}
 use Rattle.ask_serve.proofs.Fields.{line_of_field, word_of_field}
+use Rattle.std.proofs.lemmas.Bool.{and_parts as both}
 
 -- a key without a space, and a text
 abbrev IsKeyed : List ℕ → List ℕ → Type 0

@@ -7,7 +7,6 @@ use Rattle.std.proofs.lemmas.Bool.{and_parts}
 use Rattle.std.proofs.lemmas.Option.{slice_get-get_or}
 use Rattle.uuid.specs.Text.{hyphenated_text, lower, parsed}
 use Rattle.annex_model.specs.Lines.{has_newline}
-use Rattle.reg_file.proofs.Tables.{same_bytes}
 use Rattle.task_text.specs.declared.task.Task.{Task}
 use Rattle.journal_model.specs.declared.entry.Entry.{Entry}
 use Rattle.journal_model.specs.declared.opening.Opening.{Opening}
@@ -19,6 +18,7 @@ use Rattle.journal_model.specs.Replies.{IsLineIdentity}
 use Rattle.journal_reader.specs.RunTexts.{IsAgain, is_text, is_written_uuid}
 use Rattle.cli_words.proofs.Fits.{uuid_fits}
 use Rattle.audit_run.specs.Inputs.{IsTextOf}
+use Rattle.ann_key.proofs.Lists.{equal_bytes as same_bytes}
 
 -- ---- a UUID as it is written
 

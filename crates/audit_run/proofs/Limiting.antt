@@ -1,24 +1,15 @@
 -- Where an input passes a limit, whatever follows; and that it passes none.
-use Rattle.std.proofs.Common.{◌≡◌, ℕ, ◌+◌, ◌-◌, ◌<◌, ◌≤◌, Bool, true, false, cond, List, [], ◌∷◌, ◌++◌, take, length, refl, sym, ap, ◌∙◌, arith, append-nil, length-append}
+use Rattle.std.proofs.Common.{◌≡◌, ℕ, ◌+◌, ◌-◌, ◌<◌, ◌≤◌, Bool, true, false, cond, List, [], ◌∷◌, ◌++◌, take, length, sym, ap, ◌∙◌, arith, append-nil, length-append}
 use Rattle.std.specs.Prelude.{◌||◌, nat_lt}
 use Rattle.std.proofs.Math.Seq.{take-append-add, take-append_seam}
-use Rattle.std.proofs.lemmas.Bool.Decides.{nat_tests}
 use Rattle.std.proofs.lemmas.List.{take_all}
 use Rattle.annex_model.specs.Lines.{text, has_newline, Cut}
 use Rattle.task_input.specs.InputLines.{is_end, lines_of, with_byte, with_rest}
 use Rattle.task_input.proofs.Cuts.{behind, ended_lines, all_lines}
 use Rattle.audit_run.specs.Inputs.{is_large, passes, lines_within}
 use Rattle.audit_run.specs.declared.limits.Limits.{Limits}
-
-less : (a b : ℕ) → a < b → nat_lt a b ≡ true
-less a b h = grind (arith, nat_tests)
-
-not_less : (a b : ℕ) → b ≤ a → nat_lt a b ≡ false
-not_less a b h = grind (arith, nat_tests)
-
-or_true : (a : Bool) → (a || true) ≡ true
-or_true true = refl
-or_true false = refl
+use Rattle.ann_key.proofs.Booleans.{or_true}
+use Rattle.std.proofs.lemmas.Bool.{lt-ltb as less, le-ltb as not_less}
 
 -- as many as there are
 front : {X : Type 0} (n : ℕ) (xs ys : List X) → n ≡ length xs → take n (xs ++ ys) ≡ xs

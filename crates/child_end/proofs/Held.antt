@@ -11,7 +11,6 @@ use Rattle.journal_model.specs.Shares.{is_heard, is_of_child, is_said}
 use Rattle.journal_model.proofs.Ears.{ear_stop}
 use Rattle.journal_model.proofs.Heard.{heard_on}
 use Rattle.journal_model.proofs.Mouths.{mouth_apart}
-use Rattle.journal_model.proofs.Testing.{or_left, or_right}
 use Rattle.journal_model.proofs.Turns.{tagged_on}
 use Rattle.journal_model.proofs.Soft.{IsSoft, soft_stretch}
 use Rattle.link_roles.specs.Alone.{Closes}
@@ -20,6 +19,7 @@ use Rattle.link_roles.proofs.Linked.{any_narrower, heard_of, link_apart, said_of
 use Rattle.link_roles.proofs.Roles.{all_left}
 use Rattle.link_roles.proofs.Writings.{written_apart, written_on}
 use Rattle.child_end.specs.Wires.{IsHeld, is_mains, is_served_alone}
+use Rattle.ann_key.proofs.Booleans.{or_left, or_right}
 
 -- a link whose requests are written before they are answered, whoever serves the child
 pub lone_held : (journal : List Entry) (e : EarValue) (m : MouthValue) → LoneWired journal e m → IsHeld journal e m

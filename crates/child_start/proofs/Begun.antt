@@ -1,7 +1,7 @@
 -- A child that was started just now has begun: it has said nothing and was asked nothing, and its link is wired to it.
-use Rattle.std.proofs.Common.{◌≡◌, ◌≢◌, ℕ, ◌+◌, ◌<◌, List, [], ◌∷◌, ◌++◌, refl, sym, ap, subst, ◌∙◌, length, length-append, append-nil, arith, Bool, true, false, ◌==◌, cond, Some, None, Option}
+use Rattle.std.proofs.Common.{◌≡◌, ◌≢◌, ℕ, ◌+◌, ◌<◌, List, [], ◌∷◌, ◌++◌, refl, sym, ap, subst, ◌∙◌, length, length-append, append-nil, arith, Bool, true, false, ◌==◌, None, Option}
 use Rattle.std.specs.Prelude.{◌&&◌, ◌||◌, filter, IfSome, is_some}
-use Rattle.std.specs.List.{list_all, cons_option}
+use Rattle.std.specs.List.{list_all}
 use Rattle.std.proofs.lemmas.List.Elements.{filter-append}
 use Rattle.std.proofs.lemmas.List.Folds.{list_all-append}
 use Rattle.journal_model.specs.declared.verdict.Verdict.TheVariants.{Ended}
@@ -9,11 +9,11 @@ use Rattle.journal_model.specs.declared.entry.What.{What}
 use Rattle.journal_model.specs.declared.entry.What.TheVariants.{Start, Lead, Ask, Mute, Got, End, Lost}
 use Rattle.journal_model.specs.declared.entry.Entry.{Entry}
 use Rattle.journal_model.specs.declared.opening.Opening.{Opening}
-use Rattle.journal_model.specs.Journal.{any, starts, ends, offers, got_from, line_from, is_started, is_ended, has_spoken, got_lines, open_jobs}
+use Rattle.journal_model.specs.Journal.{any, starts, ends, offers, line_from, is_started, is_ended, has_spoken, got_lines, open_jobs}
 use Rattle.journal_model.specs.Due.{due_by, due_by_got, due_after, made_by}
 use Rattle.journal_model.specs.Legality.{Legal, IsDue, MayStand, led_by, still_owed, owed_from, owed_after, may_come, count, is_start}
 use Rattle.journal_model.proofs.Growing.{Legal-induction, StandsFrom-split}
-use Rattle.journal_model.proofs.Looks.{entry, both, same, same_number, differ, any-append, each_of-append}
+use Rattle.journal_model.proofs.Looks.{entry, any-append, each_of-append}
 use Rattle.journal_model.proofs.Soft.{is_soft, soft_got, soft_mute, soft_verdicts}
 use Rattle.journal_model.proofs.Fresh.{Nothing, fresh}
 use Rattle.journal_model.proofs.Linking.{Adds, nothing_both, why_is_end}
@@ -27,7 +27,10 @@ use Rattle.journal_model.proofs.Projecting.{invariant}
 use Rattle.annex_model.specs.Extensions.{names_of}
 use Rattle.child_start.specs.Greetings.{loses}
 use Rattle.child_start.specs.Stages.{HasBegun}
-use Rattle.child_start.proofs.Jobs.{or_true, or_false}
+use Rattle.ann_key.proofs.Booleans.{or_neither as neither, or_true, or_false}
+use Rattle.journal_model.proofs.Versions.{none_spoke as silent_said}
+use Rattle.std.proofs.lemmas.Bool.{and_parts as both, eqb-true as same_number, ne_eqb as differ}
+use Rattle.ann_key.proofs.Numbers.{same_number as same}
 
 -- ---- what is due is no start
 
@@ -111,9 +114,6 @@ count-append : (past more : List Entry) → count is_start (past ++ more) ≡ co
 count-append past more =
     ap length (filter-append (λ (e : Entry). is_start e.what) past more) ∙ length-append (filter (λ (e : Entry). is_start e.what) past) (filter (λ (e : Entry). is_start e.what) more)
 
-neither : (a b : Bool) → a ≡ false → b ≡ false → (a || b) ≡ false
-neither a b h k = rw (h, k) refl
-
 -- the group of an entry that may come starts no child of a later number
 group_starts : (o : Opening) (past : List Entry) (c by : ℕ) (w : What) → may_come o past by w ≡ true
     → count is_start (past ++ entry by w ∷ due_after o past (entry by w)) < c → is_started (entry by w ∷ due_after o past (entry by w)) c ≡ false
@@ -186,20 +186,8 @@ unstarted_unlost o journal l =
 
 -- ---- a child that was started just now
 
-silent_said : (past : List Entry) (c : ℕ) → got_lines past c ≡ [] → has_spoken past c ≡ false
-silent_said [] c h = refl
-silent_said (e ∷ past) c h = step e.what h (silent_said past c)
-  where
-    step : (w : What) → cons_option (line_from c w) (got_lines past c) ≡ [] → (got_lines past c ≡ [] → has_spoken past c ≡ false) → (got_from c w || has_spoken past c) ≡ false
-    step (Got child line) h r = go (child == c) h
-      where
-        go : (b : Bool) → cons_option (cond b (Some line) None) (got_lines past c) ≡ [] → (b || has_spoken past c) ≡ false
-        go true h = absurd cc
-        go false h = r h
-    step w h r = r h
-
 -- ASYNC is offered by a start alone
-unstarted_offers : (past : List Entry) (c : ℕ) → is_started past c ≡ false → any (offers c) past ≡ false
+pub unstarted_offers : (past : List Entry) (c : ℕ) → is_started past c ≡ false → any (offers c) past ≡ false
 unstarted_offers [] c h = refl
 unstarted_offers (e ∷ past) c h = step e.what h (unstarted_offers past c)
   where

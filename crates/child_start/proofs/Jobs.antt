@@ -12,10 +12,13 @@ use Rattle.journal_model.specs.declared.entry.Entry.{Entry}
 use Rattle.journal_model.specs.declared.opening.Opening.{Opening}
 use Rattle.journal_model.specs.Journal.{any, asks, offers, settles, is_settled, asked_jobs, open_jobs, verdict_of, on_wire}
 use Rattle.journal_model.specs.Legality.{offered_names}
-use Rattle.journal_model.proofs.Looks.{both, same, any-append, each_of-append, settled_none}
+use Rattle.journal_model.proofs.Looks.{any-append, each_of-append, settled_none}
 use Rattle.host_core.specs.Steps.{group_of, next_job}
 use Rattle.journal_model.specs.Shares.{by_link}
 use Rattle.link_roles.specs.Alone.{GoesOn, AskedAlone, IsSettled, IsLost}
+use Rattle.ann_key.proofs.Booleans.{or_false}
+use Rattle.std.proofs.lemmas.Bool.{and_parts as both}
+use Rattle.ann_key.proofs.Numbers.{same_number as same}
 
 -- ---- a link's own entries
 
@@ -49,14 +52,6 @@ pub goes_jobs : {n : ℕ} (old new : List Entry) (c : ℕ) → GoesOn n c old ne
 goes_jobs old new c g =
     ap (λ (x : List Entry). asked_jobs x c) g.is ∙ each_of-append (asks c) old g.more
     ∙ ap (λ (ks : List ℕ). asked_jobs old c ++ ks) (link_asks_none c g.more g.quiet) ∙ append-nil (asked_jobs old c)
-
-pub or_true : (b : Bool) → (b || true) ≡ true
-or_true true = refl
-or_true false = refl
-
-pub or_false : (b : Bool) → (b || false) ≡ b
-or_false true = refl
-or_false false = refl
 
 pub goes_names : {n : ℕ} (old new : List Entry) (c : ℕ) → GoesOn n c old new → offered_names new c ≡ offered_names old c
 goes_names old new c g =

@@ -8,8 +8,10 @@ use Rattle.journal_model.specs.declared.entry.Entry.{Entry}
 use Rattle.journal_model.specs.Journal.{any}
 use Rattle.journal_model.specs.Legality.{count}
 use Rattle.journal_model.specs.Shares.{by_link}
-use Rattle.journal_model.proofs.Looks.{both, any-append}
+use Rattle.journal_model.proofs.Looks.{any-append}
 use Rattle.child_start.specs.Greetings.{loses}
+use Rattle.ann_key.proofs.Booleans.{or_off}
+use Rattle.std.proofs.lemmas.Bool.{and_parts as both}
 
 link_loses : (c d : ℕ) (w : What) → by_link d w ≡ true → loses c w ≡ false
 link_loses c d (Lost child task) h = absurd cc
@@ -56,10 +58,6 @@ count_before c (e ∷ xs) ys h = go (loses c e.what) (count_before c xs ys h)
 pub unlost_more : (c : ℕ) (old new more : List Entry) → new ≡ old ++ more → any (loses c) new ≡ any (loses c) old → any (loses c) old ≡ false → any (loses c) more ≡ false
 unlost_more c old new more is same_losses none =
     sym (ap (λ (b : Bool). b || any (loses c) more) none) ∙ sym (any-append (loses c) old more) ∙ ap (any (loses c)) (sym is) ∙ same_losses ∙ none
-
-or_off : (a b : Bool) → b ≡ false → (a || b) ≡ a
-or_off true b h = refl
-or_off false b h = h
 
 -- a stretch that loses none changes nothing
 pub unlost_on : (c : ℕ) (old new more : List Entry) → new ≡ old ++ more → any (loses c) more ≡ false → any (loses c) new ≡ any (loses c) old

@@ -12,7 +12,7 @@ use Rattle.journal_model.specs.declared.entry.Entry.{Entry}
 use Rattle.journal_model.specs.declared.opening.Opening.{Opening}
 use Rattle.journal_model.specs.Journal.{any, asks, starts, ends, end_why, is_started, is_ended, is_mute, is_settled, is_tagged, asked_jobs, open_jobs, verdict_of, why_of}
 use Rattle.journal_model.specs.Legality.{Legal, asks_prepare, prepares, is_done, is_empty, is_greeted, is_in_turn, may_ask, may_work, said_version, offered_names}
-use Rattle.journal_model.proofs.Looks.{both, same_number, any-append, each_of-append}
+use Rattle.journal_model.proofs.Looks.{any-append, each_of-append}
 use Rattle.journal_model.proofs.Linking.{why_alone, why_is_end}
 use Rattle.host_core.specs.Steps.{next_job, may_request}
 use Rattle.journal_model.specs.Shares.{is_closed}
@@ -23,12 +23,11 @@ use Rattle.child_start.specs.declared.greeting.Mode.{Mode}
 use Rattle.child_start.specs.declared.greeting.Mode.TheVariants.{Serve, Init}
 use Rattle.child_start.specs.Greetings.{is_greeting_line, is_of_greeting, is_of_greeting_for, is_refusal, loses, IsReadyFor, HasEnded, IsUnsent}
 use Rattle.child_start.specs.Stages.{is_greeting, is_asked_for, last_request, HasBegun, IsMain, MayAsk, GreetsOn, IsGoneNext, AsksNext, IsGoneUnready, Prepares}
-use Rattle.child_start.proofs.Jobs.{goes_jobs, goes_names, verdict_settled, or_true}
+use Rattle.child_start.proofs.Jobs.{goes_jobs, goes_names, verdict_settled}
 use Rattle.child_start.proofs.Losing.{links_unlost, unlost_more, unlost_on}
 use Rattle.child_start.proofs.Requests.{none_later, greets_goes, greets_both}
-
-two_true : (a b : Bool) → a ≡ true → b ≡ true → (a && b) ≡ true
-two_true a b h k = rw (h, k) refl
+use Rattle.std.proofs.lemmas.Bool.{and_from as two_true, and_parts as both, eqb-true as same_number}
+use Rattle.ann_key.proofs.Booleans.{or_true}
 
 all_three : (a b c : Bool) → a ≡ true → b ≡ true → c ≡ true → (a && b && c) ≡ true
 all_three a b c h k l = rw (h, k, l) refl

@@ -2,7 +2,6 @@
 use Rattle.std.proofs.Common.{◌≡◌, ℕ, ◌≤◌, ◌<◌, ◌^◌, lit<, List, [], ◌∷◌, ◌++◌, refl, sym, ap, subst, ◌∙◌, append_assoc, length, arith, Bool, true, false, cond, ◌==◌, Some, None, Option, inl, inr}
 use Rattle.std.specs.Prelude.{◌&&◌, ◌||◌, bytes_eq, is_some}
 use Rattle.std.specs.List.{list_all}
-use Rattle.std.proofs.lemmas.List.Folds.{list_all-append}
 use Rattle.journal_model.specs.declared.verdict.Why.{Why}
 use Rattle.annex_model.specs.declared.final_line.Final.{Final}
 use Rattle.annex_model.specs.declared.final_line.Final.TheVariants.{Absent, Unknown, Unsupported}
@@ -16,10 +15,9 @@ use Rattle.journal_model.specs.declared.entry.What.{What}
 use Rattle.journal_model.specs.declared.entry.What.TheVariants.{Ask, Lost}
 use Rattle.journal_model.specs.declared.entry.Entry.{Entry}
 use Rattle.journal_model.specs.declared.opening.Opening.{Opening}
-use Rattle.journal_model.specs.Journal.{any, ends, mutes, is_started, is_ended, is_mute, asked_jobs, open_jobs, verdict_of, is_tagged, on_wire, why_of}
+use Rattle.journal_model.specs.Journal.{any, is_started, is_ended, is_mute, asked_jobs, open_jobs, verdict_of, is_tagged, on_wire, why_of}
 use Rattle.journal_model.specs.Legality.{Legal, count, is_prepare, asks_prepare, is_done, is_in_turn, may_ask, offered_names}
 use Rattle.journal_model.specs.Projection.{IsNamed, final_in}
-use Rattle.journal_model.proofs.Looks.{both, same, same_number, any-append}
 use Rattle.journal_model.proofs.Projecting.{invariant}
 use Rattle.journal_model.proofs.Verdicts.{ended_verdict, unsent_verdict, unasked_none}
 use Rattle.talk_serial.specs.declared.request.Request.{Request}
@@ -33,8 +31,13 @@ use Rattle.child_start.specs.declared.greeting.Mode.{Mode}
 use Rattle.child_start.specs.declared.greeting.Mode.TheVariants.{Serve, Init}
 use Rattle.child_start.specs.Greetings.{is_greeting_line_for, is_of_greeting_for, is_initremote, asks_for, is_refusal, loses}
 use Rattle.child_start.specs.Stages.{asked_as, is_greeting, is_asked_for, GreetsOn, IsGoneNext, AsksNext}
-use Rattle.child_start.proofs.Jobs.{goes_jobs, goes_idle, jobs_settled, jobs_lost, idle_asked, or_true}
+use Rattle.child_start.proofs.Jobs.{goes_jobs, goes_idle, jobs_settled, jobs_lost, idle_asked}
 use Rattle.child_start.proofs.Losing.{count_behind, count_none, links_unlost, unlost_on}
+use Rattle.link_roles.proofs.Roles.{all-append as all_both, by_append as main_both}
+use Rattle.link_roles.proofs.Settling.{gone_more as gone_on}
+use Rattle.std.proofs.lemmas.Bool.{and_parts as both, eqb-true as same_number}
+use Rattle.ann_key.proofs.Numbers.{same_number as same}
+use Rattle.ann_key.proofs.Booleans.{or_true}
 
 -- ---- the greeting goes on
 
@@ -49,15 +52,9 @@ own_links mode c (e ∷ more) h =
     let t : (by_link c e.what ≡ true) × (list_all (λ (e : Entry). by_link c e.what) more ≡ true) = both (by_link c e.what) (list_all (λ (e : Entry). by_link c e.what) more) h in
     rw (own_link mode c e.what t.0, own_links mode c more t.1) refl
 
-all_both : (p : Entry → Bool) (xs ys : List Entry) → list_all p xs ≡ true → list_all p ys ≡ true → list_all p (xs ++ ys) ≡ true
-all_both p xs ys h k = list_all-append p xs ys ∙ ap (λ (b : Bool). b && list_all p ys) h ∙ k
-
 own_both : (mode : Mode) (c : ℕ) (xs ys : List Entry) → list_all (λ (e : Entry). is_of_greeting_for mode c e.what) xs ≡ true → list_all (λ (e : Entry). is_of_greeting_for mode c e.what) ys ≡ true
     → list_all (λ (e : Entry). is_of_greeting_for mode c e.what) (xs ++ ys) ≡ true
 own_both mode c xs ys h k = all_both (λ (e : Entry). is_of_greeting_for mode c e.what) xs ys h k
-
-pub main_both : (n : ℕ) (xs ys : List Entry) → are_by n xs ≡ true → are_by n ys ≡ true → are_by n (xs ++ ys) ≡ true
-main_both n xs ys h k = all_both (λ (e : Entry). e.by == n) xs ys h k
 
 -- no request was lost in the first
 pub greets_both : {mode : Mode} (a b d : List Entry) (c : ℕ) (x : GreetsOn mode a b c) → GreetsOn mode b d c → any (loses c) x.more ≡ false → GreetsOn mode a d c
@@ -172,13 +169,6 @@ gone_ended journal c h = ap (λ (b : Bool). b || is_mute journal c) h
 gone_mute : (journal : List Entry) (c : ℕ) → is_mute journal c ≡ true → is_gone journal c ≡ true
 gone_mute journal c h = ap (λ (b : Bool). is_ended journal c || b) h ∙ or_true (is_ended journal c)
 
-pub gone_on : (old more : List Entry) (c : ℕ) → is_gone old c ≡ true → is_gone (old ++ more) c ≡ true
-gone_on old more c h = go (is_ended old c) refl h
-  where
-    go : (b : Bool) → is_ended old c ≡ b → (b || is_mute old c) ≡ true → is_gone (old ++ more) c ≡ true
-    go true e h = gone_ended (old ++ more) c (any-append (ends c) old more ∙ ap (λ (b : Bool). b || is_ended more c) e)
-    go false e h = gone_mute (old ++ more) c (any-append (mutes c) old more ∙ ap (λ (b : Bool). b || is_mute more c) h)
-
 -- a job that is not among those that were asked has no verdict
 pub none_later : (o : Opening) (journal : List Entry) (c k : ℕ) → Legal o journal → length (asked_jobs journal c) ≤ k → verdict_of journal c k ≡ None
 none_later o journal c k legal few = unasked_none o journal legal c k ((invariant o journal legal).fresh c k few)
@@ -222,7 +212,7 @@ never_said : {A : Type 0} (q : HostMessage) (ms : List (Option RemoteMessage)) (
 never_said q ms f h k e = let bad : false ≡ true = sym k ∙ ap is_plain (sym e) ∙ final_plain q ms h in absurd cc
 
 -- a verdict that a line gave is not that of a request that was lost
-not_lost : {A : Type 0} (v : Verdict) (why : Option Why) → is_some (final_in v) ≡ true → v ≡ lost_as why → A
+pub not_lost : {A : Type 0} (v : Verdict) (why : Option Why) → is_some (final_in v) ≡ true → v ≡ lost_as why → A
 not_lost v None h e = let bad : false ≡ true = subst (λ (x : Verdict). is_some (final_in x) ≡ true) e h in absurd cc
 not_lost v (Some why) h e = let bad : false ≡ true = subst (λ (x : Verdict). is_some (final_in x) ≡ true) e h in absurd cc
 

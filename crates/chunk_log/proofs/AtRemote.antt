@@ -14,7 +14,8 @@ use Rattle.chunk_log.specs.Current.{first_place, in_rank, is_at, is_current, ran
 use Rattle.chunk_log.specs.NoteBooks.{in_order, is_before, place_cmp}
 use Rattle.chunk_log.specs.declared.note.Note.{Note}
 use Rattle.chunk_log.specs.declared.standing.Standing.{Standing}
-use Rattle.chunk_log.proofs.Places.{less, place_total, same_text, tied}
+use Rattle.chunk_log.proofs.Places.{place_total, same_text, tied}
+use Rattle.ann_key.proofs.Orderings.{less}
 
 not_below : (n : ℕ) (o : Ordering) → o ≡ nat_cmp n 0 → is_lt o ≡ false
 not_below n Less h = let less : n < 0 = ranked n 0 Less h in absurd (omega arith)

@@ -2,9 +2,9 @@
 use Rattle.std.proofs.Common.{◌≡◌, ℕ, ◌+◌, ◌-◌, ◌*◌, ◌<◌, ◌≤◌, ◌^◌, false, get_or, lit≤, List, [], ◌∷◌, ◌++◌, length, take, drop, fold, refl, sym, ap, ◌∙◌, arith}
 use Rattle.std.specs.Prelude.{nat_lt}
 use Rattle.std.proofs.Math.Nat.{pow-le-pow_right}
-use Rattle.std.proofs.lemmas.Bool.Decides.{nat_tests}
 use Rattle.std.proofs.lemmas.List.{take-append-drop, take_more}
 use Rattle.ann_key.specs.Numbers.{value_of}
+use Rattle.std.proofs.lemmas.Bool.{le-ltb as not_lt}
 
 abbrev after : ℕ → List ℕ → ℕ
 after n digits = fold (λ n d. 10 * n + (d - 48)) n digits
@@ -16,9 +16,6 @@ grows n (d ∷ digits) = let more : 10 * n + (d - 48) ≤ after (10 * n + (d - 4
 after-append : (n : ℕ) (xs ys : List ℕ) → after n (xs ++ ys) ≡ after (after n xs) ys
 after-append n [] ys = refl
 after-append n (x ∷ xs) ys = after-append (10 * n + (x - 48)) xs ys
-
-not_lt : (a b : ℕ) → b ≤ a → nat_lt a b ≡ false
-not_lt a b h = grind (arith, nat_tests)
 
 pub value_of-append : (xs ys : List ℕ) → value_of (xs ++ ys) ≡ after (value_of xs) ys
 value_of-append xs ys = after-append 0 xs ys

@@ -5,13 +5,11 @@ use Rattle.std.specs.List.{list_all}
 use Rattle.std.specs.Ordering.{is_lt, ordering_reverse}
 use Rattle.std.specs.declared.cmp.Ordering.{Ordering}
 use Rattle.std.specs.declared.cmp.Ordering.TheVariants.{Less, Equal, Greater}
-use Rattle.std.proofs.lemmas.Bool.{and_parts}
+use Rattle.std.proofs.lemmas.Bool.{and_parts, and_from as both}
 use Rattle.chunk_log.specs.NoteBooks.{in_order, inserted, is_before, is_no_later, place_cmp, placed}
 use Rattle.chunk_log.specs.declared.note.Note.{Note}
-use Rattle.chunk_log.proofs.Places.{less, place_total}
-
-both : (a b : Bool) → a ≡ true → b ≡ true → (a && b) ≡ true
-both a b h k = rw (h, k) refl
+use Rattle.chunk_log.proofs.Places.{place_total}
+use Rattle.ann_key.proofs.Orderings.{less}
 
 -- what stands behind a note stands behind each that has its place, or stands before it
 alike : (x note : Note) → place_cmp x note ≡ Equal → (xs : List Note) → list_all (is_before x) xs ≡ true → list_all (is_before note) xs ≡ true

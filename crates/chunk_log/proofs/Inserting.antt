@@ -9,7 +9,8 @@ use Rattle.std.specs.BTreeSet.{insert_key, replace_key}
 use Rattle.std.proofs.lemmas.Bool.{and_parts}
 use Rattle.chunk_log.specs.NoteBooks.{in_order, inserted, is_before, is_newer, is_no_later, is_outdated, place_cmp, placed}
 use Rattle.chunk_log.specs.declared.note.Note.{Note}
-use Rattle.chunk_log.proofs.Places.{less, place_total}
+use Rattle.chunk_log.proofs.Places.{place_total}
+use Rattle.ann_key.proofs.Orderings.{less}
 
 turned : (x y : Note) (o : Ordering) → place_cmp x y ≡ o → place_cmp y x ≡ ordering_reverse o
 turned x y o e = place_total.antisymm y x ∙ ap ordering_reverse e

@@ -52,7 +52,7 @@ stamp_no_space stamp h =
     list_all-append p ((decimal stamp.seconds ++ 46 ∷ []) ++ micros_text m) (115 ∷ [])
     (list_all-append p (decimal stamp.seconds ++ 46 ∷ []) (micros_text m) (list_all-append p (decimal stamp.seconds) (46 ∷ []) (decimal_no_space stamp.seconds h) refl) micros) refl
 
-number_back : (n : ℕ) → n < 2 ^ 64 → number_in (decimal n) ≡ Some n
+pub number_back : (n : ℕ) → n < 2 ^ 64 → number_in (decimal n) ≡ Some n
 number_back n h = let d : Decimal n = decimal_reads n h in rw (d.number, d.value) refl
 
 counts_back : (chunk count : ℕ) → 0 < chunk → counts_from (Some chunk) (Some count) ≡ Some (chunk, count)

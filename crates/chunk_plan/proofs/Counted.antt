@@ -6,7 +6,7 @@ use Rattle.std.specs.Int.{div_ceil}
 use Rattle.std.proofs.Math.Nat.{div-mul-le_self, mul-le-mul_right, suc-mul}
 use Rattle.std.proofs.lemmas.Bool.Decides.{nat_tests}
 use Rattle.std.proofs.lemmas.List.Sums.{sum_by-cons}
-use Rattle.std.proofs.lemmas.Bool.{ne_eqb}
+use Rattle.std.proofs.lemmas.Bool.{ne_eqb, lt-ltb as lt_true, le-leb as le_true}
 use Rattle.std.proofs.lemmas.Grind.{div_ceil_times}
 use Rattle.std.proofs.lemmas.Nat.{div-add-mod', div_below, mod_below}
 use Rattle.chunk_plan.specs.Layouts.{count_of, from_of, held_of, is_held, to_of}
@@ -23,12 +23,6 @@ counted p a (suc n) (suc q) h passes fails =
     let first : p a ≡ true = passes a (omega arith) (omega arith) in
     let rest : count_by p (range_with_len (a + 1) n) ≡ q = counted p (a + 1) n q (omega arith) (λ k low high. passes k (omega arith) (omega arith)) (λ k low high. fails k (omega arith) (omega arith)) in
     sum_by-cons (λ (k : ℕ). cond (p k) 1 0) a (range_with_len (a + 1) n) ∙ rw (first, rest) (omega arith)
-
-lt_true : (a b : ℕ) → a < b → nat_lt a b ≡ true
-lt_true a b h = grind (arith, nat_tests)
-
-le_true : (a b : ℕ) → a ≤ b → nat_le a b ≡ true
-le_true a b h = grind (arith, nat_tests)
 
 le_false : (a b : ℕ) → b < a → nat_le a b ≡ false
 le_false a b h = grind (arith, nat_tests)

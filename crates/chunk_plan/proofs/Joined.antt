@@ -43,7 +43,7 @@ joined key content chunk a (suc n) =
     rw (first, rest, next, size, take-add chunk (n * chunk) (drop (a * chunk) content), drop-drop chunk (a * chunk) content) refl
 
 -- all chunks together reach to the end
-reaches : (size chunk : ℕ) → 0 < chunk → size ≤ count_of size chunk * chunk
+pub reaches : (size chunk : ℕ) → 0 < chunk → size ≤ count_of size chunk * chunk
 reaches size chunk h = go (size == 0) refl
   where
     go : (b : Bool) → (size == 0) ≡ b → size ≤ cond b 1 (div_ceil size chunk) * chunk

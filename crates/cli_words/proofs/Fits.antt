@@ -1,7 +1,7 @@
 -- What was read of words can be set, and said to a child.
 use Rattle.std.proofs.Common.{◌≡◌, ℕ, zero, suc, Bool, true, false, not, cond, List, [], ◌∷◌, ◌++◌, Option, Some, None, refl, sym, arith}
 use mathlib.Core.Bool.{false≢true}
-use Rattle.std.specs.Prelude.{◌==◌, ◌&&◌, ◌||◌, nat_lt, length, map, option_map, codes, bytes_eq, IfSome}
+use Rattle.std.specs.Prelude.{◌==◌, ◌||◌, nat_lt, length, map, option_map, codes, bytes_eq, IfSome}
 use Rattle.std.specs.List.{list_all, list_any}
 use Rattle.std.proofs.lemmas.Bool.Decides.{nat_tests}
 use Rattle.uuid.specs.Text.{by_index, digit_place, hex_digit, hyphenated_text, is_hyphen_place, lower, nibble, parsed}
@@ -21,6 +21,7 @@ use Rattle.cli_words.specs.declared.command.Command.{Command}
 use Rattle.cli_words.specs.declared.command.Command.TheVariants.{Run, Audit, Show}
 use Rattle.cli_words.specs.declared.command.Page.{Page}
 use Rattle.cli_words.specs.declared.settings.Setting.{Setting}
+use Rattle.std.proofs.lemmas.Bool.{and_parts as both}
 
 -- ---- a UUID as it is written holds no line's end
 
@@ -56,10 +57,6 @@ uuid_fits bytes = index_fits 36 (λ k. cond (is_hyphen_place k) 45 (hex_digit lo
     go false k = hex_fits (nibble bytes (digit_place k))
 
 -- ---- settings
-
-both : (a b : Bool) → (a && b) ≡ true → (a ≡ true) × (b ≡ true)
-both true b h = (refl, h)
-both false b h = absurd (false≢true h)
 
 settings_fit : (words : List (List ℕ)) → list_all spells_setting words ≡ true → list_all is_setting (map setting_at words) ≡ true
 settings_fit [] h = refl

@@ -1,20 +1,9 @@
 -- Numbers among the words.
 use Rattle.std.proofs.Common.{◌≡◌, ℕ, ◌≤◌, Bool, true, false, cond, List, Some, None, refl, ap, arith}
-use mathlib.Core.Bool.{false≢true}
 use Rattle.std.specs.Prelude.{◌&&◌, nat_le}
-use Rattle.std.proofs.lemmas.Bool.Decides.{nat_tests}
 use Rattle.ann_key.specs.Numbers.{is_number, is_numeral, value_of}
 use Rattle.cli_words.specs.Values.{number_in, padded_number_in, IsNumberIn}
-
-both : (a b : Bool) → (a && b) ≡ true → (a ≡ true) × (b ≡ true)
-both true b h = (refl, h)
-both false b h = absurd (false≢true h)
-
-within : (a b : ℕ) → nat_le a b ≡ true → a ≤ b
-within a b h = grind (arith, nat_tests)
-
-is_within : (a b : ℕ) → a ≤ b → nat_le a b ≡ true
-is_within a b h = grind (arith, nat_tests)
+use Rattle.std.proofs.lemmas.Bool.{and_parts as both, le-leb as is_within, leb-true as within}
 
 module _ (least most : ℕ) (text : List ℕ) (n : ℕ) where
   pub number_read : number_in least most text ≡ Some n → IsNumberIn least most text n

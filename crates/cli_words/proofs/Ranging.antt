@@ -1,7 +1,6 @@
 -- The values of a run's words are in their ranges.
 use Rattle.std.proofs.Common.{◌≡◌, ◌≤◌, ℕ, Bool, true, false, not, cond, List, [], ◌∷◌, Option, Some, None, refl, arith}
-use mathlib.Core.Bool.{false≢true}
-use Rattle.std.specs.Prelude.{◌&&◌, nat_lt, length, option_map, codes, bytes_eq, IfSome}
+use Rattle.std.specs.Prelude.{nat_lt, length, option_map, codes, bytes_eq, IfSome}
 use Rattle.std.specs.List.{list_all}
 use Rattle.clap.specs.Kinds.{Kinds}
 use Rattle.clap.specs.Simple.{matches_of}
@@ -20,16 +19,9 @@ use Rattle.cli_words.specs.declared.command.Page.{Page}
 use Rattle.cli_words.specs.declared.command.RunWords.{RunWords}
 use Rattle.cli_words.specs.declared.settings.Setting.{Setting}
 use Rattle.cli_words.proofs.Numerals.{number_read, padded_read}
+use Rattle.std.proofs.lemmas.Bool.{and_parts as both, not-true as un_not}
 
 -- ---- a run
-
-both : (a b : Bool) → (a && b) ≡ true → (a ≡ true) × (b ≡ true)
-both true b h = (refl, h)
-both false b h = absurd (false≢true h)
-
-un_not : (b : Bool) → not b ≡ true → b ≡ false
-un_not true h = absurd (false≢true h)
-un_not false h = refl
 
 -- no line's end stands in a text
 text_whole : (text : List ℕ) → is_text text ≡ true → has_newline text ≡ false

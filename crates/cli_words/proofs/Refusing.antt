@@ -1,13 +1,14 @@
 -- The keys that are not refused.
-use Rattle.std.proofs.Common.{◌≡◌, ◌∙◌, ℕ, List, [], ◌∷◌, Bool, true, false, not, ◌==◌, cond, Some, None, Option, refl, sym, ap}
+use Rattle.std.proofs.Common.{◌≡◌, ℕ, List, [], ◌∷◌, Bool, true, false, not, ◌==◌, cond, Some, None, Option, refl}
 use Rattle.std.specs.Prelude.{◌&&◌, nat_lt, is_some}
 use Rattle.std.specs.List.{list_any}
 use Rattle.annex_model.specs.Messages.{is_sent_key}
-use Rattle.journal_model.proofs.Looks.{both, same_number}
 use Rattle.ann_key.specs.Keys.{Parts, key_reading, is_sendable}
 use Rattle.ann_key.proofs.Spelling.{read_of_spelled, spelled_of_read}
 use Rattle.cli_words.specs.declared.refusals.Reason.TheVariants.{Unsendable, ChunkKey}
 use Rattle.cli_words.specs.Refusals.{IsTaskKey, reason_refused, refusal_in}
+use Rattle.journal_model.proofs.Beginning.{above}
+use Rattle.std.proofs.lemmas.Bool.{and_parts as both}
 
 pub not_refused : (bytes : List ℕ) → IsTaskKey bytes → reason_refused bytes ≡ None
 not_refused bytes k = rw (read_of_spelled bytes k.parts k.key) (rw k.sendable (rw k.whole refl))
@@ -26,15 +27,6 @@ task_key bytes h = go (key_reading bytes) refl h
         by_bytes true s None w h = record { parts = parts; key = spelled_of_read bytes parts e; sendable = s; whole = w }
 
 -- ---- a key that can stand in a request
-
-above : (b : ℕ) → (nat_lt 32 b && not (b == 127)) ≡ true → (b == 32) ≡ false
-above b h = go (b == 32) refl
-  where
-    go : (s : Bool) → (b == 32) ≡ s → s ≡ false
-    go false e = refl
-    go true e =
-        let over : nat_lt 32 b ≡ true = (both (nat_lt 32 b) (not (b == 127)) h).0 in
-        absurd (let bad : nat_lt 32 32 ≡ true = ap (nat_lt 32) (sym (same_number b 32 e)) ∙ over in cc)
 
 spaceless : (bytes : List ℕ) → is_sendable bytes ≡ true → list_any (λ b. b == 32) bytes ≡ false
 spaceless [] h = refl

@@ -103,7 +103,7 @@ if_done Done f h = f h
 if_done NoMemory f h = tt
 if_done (NoThreads refused) f h = tt
 
-if_kept : {P Q : Type 0} (o : Outcome) → (P → Q) → IfKept o P → IfKept o Q
+pub if_kept : {P Q : Type 0} (o : Outcome) → (P → Q) → IfKept o P → IfKept o Q
 if_kept Done f h = tt
 if_kept NoMemory f h = f h
 if_kept (NoThreads refused) f h = f h

@@ -6,7 +6,6 @@ use Rattle.hall.specs.Passes.{HallValue, IsPassOf, seen_of}
 use Rattle.journal_model.specs.declared.entry.Entry.{Entry}
 use Rattle.journal_model.specs.declared.opening.Opening.{Opening}
 use Rattle.journal_model.specs.Halves.{EarWired, MouthWired}
-use Rattle.journal_model.proofs.Looks.{true_not_false}
 use Rattle.gathering.specs.Rounds.{CorePass, since}
 use Rattle.gathering.specs.Tasks.{IsThroughAfterAgain}
 use Rattle.gathering.proofs.Ending.{ear_ends, mouth_ends}
@@ -16,6 +15,7 @@ use Rattle.link_roles.specs.Moves.{EarMoved, MouthMoved}
 use Rattle.crew_work.specs.Crews.{Worked}
 use Rattle.crew_work.proofs.Working.{passed_none, worked_still}
 use Rattle.crew_rounds.specs.Coming.{EarsCome, IsFresh, MouthsCome, WorkersCome, WorkersStay}
+use Rattle.ann_key.proofs.Booleans.{true_and_false as true_not_false}
 
 -- what a fresh pass has seen is what the hall's value was at its begin
 seen_start : (h : HallValue Entry Opening) (p : CorePass) → IsFresh h p → seen_of p ≡ h.start

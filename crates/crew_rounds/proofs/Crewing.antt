@@ -7,7 +7,6 @@ use Rattle.ann_outside.specs.declared.file_desk.Call.{Call}
 use Rattle.hall.specs.Passes.{HallValue, seen_of}
 use Rattle.journal_model.specs.declared.entry.Entry.{Entry}
 use Rattle.journal_model.specs.declared.opening.Opening.{Opening}
-use Rattle.journal_model.proofs.Looks.{differ, same}
 use Rattle.gathering.specs.Posts.{Post, Worker, makes, tagged_crew}
 use Rattle.gathering.specs.Rounds.{CorePass, WorkerEnds, since}
 use Rattle.gathering.specs.Tasks.{turns_by}
@@ -19,6 +18,8 @@ use Rattle.crew_work.specs.Crews.{Worked, calls_of}
 use Rattle.gathering.specs.JournalRuns.{HasJournalRun}
 use Rattle.crew_work.proofs.Ending.{worker_ends}
 use Rattle.crew_rounds.specs.Crewing.{AllManned, AllRun, DeskDid, DesksDid, Manned, WorkerTells, calls_from}
+use Rattle.std.proofs.lemmas.Bool.{ne_eqb as differ}
+use Rattle.ann_key.proofs.Numbers.{same_number as same}
 
 -- past the third a number of a tagged crew is a worker
 worker_post : (c n : ℕ) → 3 < n → tagged_crew c n ≡ Worker c

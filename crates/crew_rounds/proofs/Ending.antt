@@ -5,21 +5,19 @@ use Rattle.std.specs.List.{list_all}
 use Rattle.hall.specs.Passes.{seen_of}
 use Rattle.journal_model.specs.declared.verdict.Why.TheVariants.{Memory}
 use Rattle.journal_model.specs.declared.verdict.Verdict.TheVariants.{Ended}
-use Rattle.journal_model.specs.declared.entry.What.{What}
-use Rattle.journal_model.specs.declared.entry.What.TheVariants.{Claim, End, Verdict as Settled}
+use Rattle.journal_model.specs.declared.entry.What.TheVariants.{End, Verdict as Settled}
 use Rattle.journal_model.specs.declared.entry.Entry.{Entry}
 use Rattle.journal_model.specs.declared.opening.Opening.{Opening}
 use Rattle.journal_model.specs.Due.{ended_jobs}
 use Rattle.journal_model.specs.Journal.{open_jobs}
-use Rattle.journal_model.specs.Legality.{claims}
 use Rattle.journal_model.specs.Shares.{Moved, makes_only}
-use Rattle.journal_model.proofs.Looks.{same}
 use Rattle.gathering.specs.Posts.{Post, Ender, gives_up, makes}
 use Rattle.gathering.specs.Rounds.{CorePass, KeepsPost, since}
 use Rattle.gathering.proofs.Halls.{drop_start}
-use Rattle.gathering.proofs.Rounding.{unclaiming_holds, unclaiming_only}
+use Rattle.gathering.proofs.Rounding.{unclaiming_holds, unclaiming_only, claim_not_end as claim_not_given_up}
 use Rattle.link_roles.specs.Doors.{Ends}
 use Rattle.link_roles.proofs.Roles.{moved_by, moved_on}
+use Rattle.ann_key.proofs.Numbers.{same_number as same}
 
 verdicts_given_up : (c : ℕ) (jobs : List ℕ) → list_all (gives_up c) (map (λ j. Settled c j (Ended Memory)) jobs) ≡ true
 verdicts_given_up c [] = refl
@@ -32,10 +30,6 @@ end_given_up past c = rw (same c, verdicts_given_up c (open_jobs past c)) refl
 gave_up : {o : Opening} {n c : ℕ} {old new : List Entry} → Ends o n false old new c Memory → Moved n false (gives_up c) (gives_up c) old new (Unit {0}) (Unit {0})
 gave_up {c = c} (inl s) = moved_by s (end_given_up s.past c) (λ none u. tt)
 gave_up (inr s) = moved_on s.0 (λ none u. tt)
-
-claim_not_given_up : (c t : ℕ) (w : What) → claims t w ≡ true → gives_up c w ≡ false
-claim_not_given_up c t (Claim task child) h = refl
-claim_not_given_up c t w h = absurd cc
 
 -- so it keeps the post of who may end the child
 pub ender_keeps : (o : Opening) (crew : ℕ → Post) (c : ℕ) (q : CorePass) → 0 < q.number → crew q.number ≡ Ender c → Ends o q.number false q.start (seen_of q) c Memory → KeepsPost crew q

@@ -10,10 +10,11 @@ use Rattle.journal_model.specs.Journal.{is_started, starts}
 use Rattle.journal_model.specs.Due.{due_after, due_by, made_by}
 use Rattle.journal_model.specs.Legality.{Legal, count, is_start, may_come}
 use Rattle.journal_model.proofs.Growing.{Legal-induction}
-use Rattle.journal_model.proofs.Looks.{any-append, both, differ, entry, same_number, true_not_false}
+use Rattle.journal_model.proofs.Looks.{any-append, entry}
 use Rattle.journal_model.proofs.Soft.{is_soft}
-use Rattle.journal_model.proofs.Testing.{neither}
-use Rattle.journal_model.proofs.Working.{soft_due}
+use Rattle.std.proofs.lemmas.Bool.{and_parts as both, ne_eqb as differ, eqb-true as same_number}
+use Rattle.ann_key.proofs.Booleans.{true_and_false as true_not_false, or_neither as neither}
+use Rattle.journal_model.proofs.Bounds.{due_soft as soft_due}
 
 soft_unstarted : (c by : ℕ) (ws : List What) → list_all is_soft ws ≡ true → is_started (made_by by ws) c ≡ false
 soft_unstarted c by [] h = refl

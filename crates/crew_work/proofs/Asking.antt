@@ -10,7 +10,6 @@ use Rattle.journal_model.specs.declared.entry.What.TheVariants.{Note}
 use Rattle.journal_model.specs.declared.entry.Entry.{Entry}
 use Rattle.journal_model.specs.declared.opening.Opening.{Opening}
 use Rattle.journal_model.specs.Shares.{Moved, is_of_child}
-use Rattle.journal_model.proofs.Looks.{same}
 use Rattle.host_core.specs.Steps.{asking}
 use Rattle.link_roles.specs.Asks.{Grows, HasAsked, never}
 use Rattle.link_roles.proofs.Roles.{moved_both, moved_by, moved_wider}
@@ -19,6 +18,7 @@ use Rattle.lone_work.specs.KnownLayouts.{IsBook}
 use Rattle.lone_work.specs.Noting.{by_noting}
 use Rattle.lone_work.proofs.Serving.{at_asked}
 use Rattle.crew_work.specs.Jobs.{JobsOn, by_jobs}
+use Rattle.ann_key.proofs.Numbers.{same_number as same}
 
 never_jobs : (c t : ℕ) (w : What) → never w ≡ true → by_jobs c t w ≡ true
 never_jobs c t w h = absurd cc

@@ -13,8 +13,8 @@ use Rattle.journal_model.specs.Due.{due_after}
 use Rattle.journal_model.specs.Legality.{Legal, has_open_job, is_busy, is_claimed, is_held_by, is_prepared, is_run_again, least_free, turn_of_task}
 use Rattle.journal_model.proofs.Holding.{claimed_append, held_claimed, holder_append}
 use Rattle.journal_model.proofs.Idling.{claimed_positive}
-use Rattle.journal_model.proofs.Looks.{differ, entry, same}
-use Rattle.journal_model.proofs.Testing.{by_either, or_true}
+use Rattle.journal_model.proofs.Looks.{entry}
+use Rattle.journal_model.proofs.Testing.{by_either}
 use Rattle.journal_model.proofs.Working.{idle_shut, jobs_stay_closed}
 use Rattle.host_core.specs.declared.event.Event.TheVariants.{Claim as ClaimEvent, Answer as AnswerEvent}
 use Rattle.host_core.specs.declared.event.Reply.{Reply}
@@ -27,6 +27,9 @@ use Rattle.gathering.proofs.Laboring.{prepared_lasts, started_lasts}
 use Rattle.lone_work.proofs.Claiming.{free_unclaimed}
 use Rattle.crew_work.specs.Crews.{CrewBegun, CanServe, Given, HasClaimed, claimed_of}
 use Rattle.task_run.specs.declared.turn.TaskTurn.{TaskTurn}
+use Rattle.std.proofs.lemmas.Bool.{ne_eqb as differ}
+use Rattle.ann_key.proofs.Numbers.{same_number as same}
+use Rattle.ann_key.proofs.Booleans.{or_true}
 
 pub can_on : {o : Opening} {c : ℕ} (old more : List Entry) {new : List Entry} → new ≡ old ++ more → Legal o new → CanServe o c old → CanServe o c new
 can_on {o} {c} old more is legal can = record {

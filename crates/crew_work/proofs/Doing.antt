@@ -3,24 +3,27 @@ use Rattle.std.proofs.Common.{◌≡◌, ℕ, List, [], ◌∷◌, ◌++◌, ref
 use Rattle.std.specs.Prelude.{◌||◌}
 use Rattle.std.specs.List.{cons_option}
 use Rattle.journal_model.specs.declared.entry.What.{What}
-use Rattle.journal_model.specs.declared.entry.What.TheVariants.{Claim, Lead, Ask, Lost, Note}
+use Rattle.journal_model.specs.declared.entry.What.TheVariants.{Lead, Ask, Lost, Note}
 use Rattle.journal_model.specs.declared.entry.Entry.{Entry}
 use Rattle.journal_model.specs.Journal.{any}
 use Rattle.journal_model.specs.Shares.{Moved, are_by, are_own, by_link, is_of_child, makes_only}
-use Rattle.journal_model.proofs.Looks.{any-append, both, entry, same}
-use Rattle.journal_model.proofs.Testing.{all-join, all-split, or_left, or_right, neither}
+use Rattle.journal_model.proofs.Looks.{any-append, entry}
+use Rattle.journal_model.proofs.Testing.{all-join, all-split, only_others as others_make}
 use Rattle.link_roles.specs.Asks.{never}
 use Rattle.link_roles.specs.Doors.{Passed}
-use Rattle.link_roles.proofs.Roles.{others_make, others_none}
+use Rattle.link_roles.proofs.Roles.{others_none}
 use Rattle.lone_work.specs.Servings.{by_server}
 use Rattle.gathering.specs.Posts.{makes, works}
 use Rattle.gathering.specs.Tasks.{claimed_turn, turns_by}
 use Rattle.gathering.proofs.Turning.{turns_by-append}
 use Rattle.journal_model.proofs.Unbounded.{Within}
-use Rattle.lone_work.proofs.Serving.{server_within}
-use Rattle.lone_work.proofs.Working.{turns_by-none}
+use Rattle.lone_work.proofs.Serving.{server_within, wider as wider_made}
+use Rattle.lone_work.proofs.Working.{turns_by-none, server_claims_none as server_claims}
 use Rattle.crew_work.specs.Crews.{Did, by_task, post_of}
 use Rattle.crew_work.specs.Jobs.{by_jobs}
+use Rattle.std.proofs.lemmas.Bool.{and_parts as both}
+use Rattle.ann_key.proofs.Numbers.{same_number as same}
+use Rattle.ann_key.proofs.Booleans.{or_left, or_right, or_neither as neither}
 
 -- ---- the kinds
 
@@ -64,21 +67,7 @@ pub works_posted : (owns : Bool) (c : ℕ) (w : What) → works c w ≡ true →
 works_posted true c w h = or_right (by_link c w) (works c w) h
 works_posted false c w h = h
 
-server_claims : (c t : ℕ) (past : List Entry) (w : What) → by_server c t w ≡ true → claimed_turn past w ≡ None
-server_claims c t past (Claim task child) h = absurd cc
-server_claims c t past w h = refl
-
 -- ---- what one number made of a list
-
-pub wider_made : (p q : What → Bool) → ((w : What) → p w ≡ true → q w ≡ true) → (n : ℕ) (xs : List Entry) → makes_only p n xs ≡ true → makes_only q n xs ≡ true
-wider_made p q f n [] h = refl
-wider_made p q f n (e ∷ xs) h =
-    let s = both (not (e.by == n) || p e.what) (makes_only p n xs) h in
-    rw (one (e.by == n) s.0, wider_made p q f n xs s.1) refl
-  where
-    one : (b : Bool) → (not b || p e.what) ≡ true → (not b || q e.what) ≡ true
-    one true k = f e.what k
-    one false k = refl
 
 never_claims : (past : List Entry) (w : What) → never w ≡ true → claimed_turn past w ≡ None
 never_claims past w h = absurd cc

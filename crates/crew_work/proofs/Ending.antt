@@ -1,5 +1,5 @@
 -- What a worker did gives what it promises at its end.
-use Rattle.std.proofs.Common.{◌≡◌, ℕ, ◌<◌, List, [], ◌∷◌, ◌++◌, refl, sym, ap, subst, ◌∙◌, Bool, true, false, ◌==◌, cond, length, drop}
+use Rattle.std.proofs.Common.{◌≡◌, ℕ, ◌<◌, List, [], ◌∷◌, refl, sym, ap, subst, ◌∙◌, Bool, true, false, ◌==◌, cond}
 use Rattle.std.specs.Prelude.{◌&&◌, ◌||◌}
 use Rattle.std.specs.List.{list_any}
 use Rattle.ann_outside.specs.declared.file_desk.Call.{Call}
@@ -9,10 +9,8 @@ use Rattle.journal_model.specs.declared.entry.Entry.{Entry}
 use Rattle.journal_model.specs.declared.opening.Opening.{Opening}
 use Rattle.journal_model.specs.Journal.{is_started}
 use Rattle.journal_model.specs.Shares.{are_own, is_of_child, makes_only}
-use Rattle.journal_model.proofs.Looks.{both, same_number}
 use Rattle.gathering.specs.Posts.{Post, makes}
 use Rattle.gathering.specs.Rounds.{CorePass, IsWired, LinkValue, LoneEnds, WorkerEnds, since}
-use Rattle.gathering.proofs.Halls.{drop_start}
 use Rattle.gathering.proofs.Laboring.{started_lasts}
 use Rattle.link_roles.specs.Moves.{IsSameLink}
 use Rattle.link_roles.specs.Writings.{LoneWired, is_written_first}
@@ -22,7 +20,9 @@ use Rattle.lone_work.specs.Works.{AllRan, DeskTells, TaskDone, turns_of}
 use Rattle.gathering.specs.Tasks.{IsThroughAfterAgain, takes_turn, turns_by}
 use Rattle.crew_work.specs.Crews.{Worked, calls_of, post_of}
 use Rattle.crew_work.specs.Runs.{LonesEnd, WorkersEnd}
-use Rattle.crew_work.proofs.Doing.{wider_made}
+use Rattle.gathering.proofs.Ending.{since_is as new_is}
+use Rattle.std.proofs.lemmas.Bool.{and_parts as both, eqb-true as same_number}
+use Rattle.lone_work.proofs.Serving.{wider as wider_made}
 
 -- its run
 run_of : (o : Opening) (setup : Setup) (n c t k : ℕ) (journal : List Entry) (done : List TaskDone) → AllRan o setup n c journal done → list_any (λ (u : ℕ × ℕ). u.0 == t && u.1 == k) (turns_of done) ≡ true
@@ -38,10 +38,6 @@ run_of o setup n c t k journal (r ∷ done) all h = go (r.task == t && r.turn ==
         subst (λ (x : ℕ). JournalRun o setup r.calls n t x journal) (same_number r.turn k same.1)
         (subst (λ (x : ℕ). JournalRun o setup r.calls n x r.turn journal) (same_number r.task t same.0) all.0.run)
     go false e j rest = rest j
-
--- what it has seen since the begin
-new_is : (p : CorePass) (more : List Entry) → seen_of p ≡ p.start ++ more → since p ≡ more
-new_is p more is = ap (λ (x : List Entry). drop (length p.start) x) is ∙ drop_start p.start more
 
 pub worker_ends : (o : Opening) (setup : Setup) (calls : ℕ → ℕ → ℕ → List Call) (owns : Bool) (c : ℕ) (crew : ℕ → Post) (p : CorePass) (Before After : Type 0) (desk desk' : DeskTells)
     → (w : Worked o setup owns p.number false c p.start (seen_of p) Before After desk desk') → IsThroughAfterAgain o p.number c (since p) (seen_of p) → 0 < p.number → ((t k : ℕ) → calls p.number t k ≡ calls_of w.done t k)

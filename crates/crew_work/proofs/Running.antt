@@ -8,10 +8,9 @@ use Rattle.journal_model.specs.declared.opening.Opening.{Opening}
 use Rattle.journal_model.specs.Journal.{any}
 use Rattle.journal_model.specs.Legality.{Legal, claims, closes, is_claimed_by}
 use Rattle.journal_model.specs.Shares.{makes_only}
-use Rattle.journal_model.proofs.Testing.{neither}
-use Rattle.journal_model.proofs.Looks.{either_left, either_right}
 use Rattle.journal_model.proofs.Unbounded.{Within, bounds, held_positive, none_by, unbounded}
 use Rattle.task_run.specs.Askings.{bounds_run}
+use Rattle.ann_key.proofs.Booleans.{or_neither as neither, left_false as either_left, right_false as either_right}
 
 -- the two kinds, and both
 none_bounds_of : (t : ℕ) (xs : List Entry) → any (claims t) xs ≡ false → any (closes t) xs ≡ false → any (bounds_run t) xs ≡ false

@@ -1,5 +1,5 @@
 -- What a worker did, task by task.
-use Rattle.std.proofs.Common.{◌≡◌, ℕ, List, [], ◌∷◌, ◌++◌, refl, sym, ap, subst, ◌∙◌, Bool, true, false, not, ◌==◌, None, append_assoc, append-nil, length, ◌<◌, ◌≤◌, arith}
+use Rattle.std.proofs.Common.{◌≡◌, ℕ, List, [], ◌∷◌, ◌++◌, refl, sym, ap, subst, ◌∙◌, Bool, true, false, not, ◌==◌, append_assoc, append-nil, length, ◌<◌, ◌≤◌, arith}
 use Rattle.std.specs.Prelude.{◌||◌, map, Result, Ok, Err, Some}
 use Rattle.std.specs.List.{list_any}
 use Rattle.ann_key.specs.declared.bytes.NoMemory.{NoMemory}
@@ -16,14 +16,13 @@ use Rattle.journal_model.specs.Due.{due_after}
 use Rattle.journal_model.specs.Room.{claims_left}
 use Rattle.journal_model.specs.Notes.{AreCurrentAt}
 use Rattle.journal_model.specs.Shares.{Moved, is_of_child, makes_only}
-use Rattle.journal_model.proofs.Looks.{entry, same, same_number}
+use Rattle.journal_model.proofs.Looks.{entry}
 use Rattle.journal_model.proofs.Holders.{others_unheld, untaken_unheld}
 use Rattle.journal_model.proofs.Holding.{holder_append}
 use Rattle.journal_model.proofs.ClaimsLeft.{claims_left_same}
 use Rattle.journal_model.proofs.Unbounded.{Within}
-use Rattle.journal_model.proofs.Testing.{all-join, by_either}
+use Rattle.journal_model.proofs.Testing.{all-join, by_either, only_others as others_make}
 use Rattle.link_roles.specs.Doors.{Appended, Passed}
-use Rattle.link_roles.proofs.Roles.{others_make}
 use Rattle.lone_work.specs.AtTasks.{AtTask, SameTask, notings}
 use Rattle.lone_work.specs.KnownLayouts.{known_layouts}
 use Rattle.lone_work.proofs.KeyNotes.{layouts_since_claim}
@@ -32,19 +31,20 @@ use Rattle.lone_work.proofs.Running.{causes_answered, journal_run}
 use Rattle.lone_work.proofs.Serving.{server_within}
 use Rattle.lone_work.specs.Servings.{by_server}
 use Rattle.gathering.specs.Posts.{works}
-use Rattle.gathering.specs.Tasks.{claimed_turn}
 use Rattle.task_run.specs.declared.setup.Setup.{Setup}
 use Rattle.task_run.specs.Askings.{askings, bounds_run, closing}
 use Rattle.task_run.specs.declared.turn.TaskTurn.{TaskTurn}
 use Rattle.task_run.specs.Runs.{TaskRun}
 use Rattle.task_run.specs.Ran.{Ran, HasTaskCauses, answered, behind_more}
 use Rattle.lone_work.specs.Works.{AllRan, DeskTells, RanFor, TaskDone, all_calls, turns_of}
-use Rattle.lone_work.proofs.Working.{calls_both, caused_both, fewer_left, ran_both, runs_last, turns_both, turns_untaken}
+use Rattle.lone_work.proofs.Working.{calls_both, caused_both, fewer_left, ran_both, runs_last, turns_both, turns_untaken, closing_claims}
 use Rattle.gathering.specs.Tasks.{IsThrough}
 use Rattle.crew_work.specs.Crews.{CrewBegun, CanServe, Did, CrewDoes, Given, MayHaveMore, Worked, by_task}
 use Rattle.crew_work.proofs.Claiming.{can_on}
 use Rattle.crew_work.proofs.Doing.{did_both, did_make, did_pass, did_run, task_serves}
 use Rattle.crew_work.proofs.Running.{none_bounds}
+use Rattle.ann_key.proofs.Numbers.{same_number as same}
+use Rattle.std.proofs.lemmas.Bool.{eqb-true as same_number}
 
 -- ---- under other names
 
@@ -67,10 +67,6 @@ closing_works c false t answer = refl
 closing_apart : (c : ℕ) (again : Bool) (t : ℕ) (answer : Answer) → is_of_child c (closing again t answer) ≡ false
 closing_apart c true t answer = refl
 closing_apart c false t answer = refl
-
-closing_claims : (past : List Entry) (again : Bool) (t : ℕ) (answer : Answer) → claimed_turn past (closing again t answer) ≡ None
-closing_claims past true t answer = refl
-closing_claims past false t answer = refl
 
 module _ (o : Opening) (setup : Setup) (owns : Bool) (n : ℕ) (a : Bool) (c : ℕ) (u : TaskTurn) (task : Task) (begun ran new : List Entry) (desk desk' : DeskTells)
     (result : Result Answer NoMemory) (answer : Answer) (P : Type 0) (X : List Entry → Type 0)

@@ -1,5 +1,5 @@
 -- How a file is read piece by piece, and how that ends.
-use Rattle.std.proofs.Common.{◌≡◌, ◌≢◌, ◌∙◌, ℕ, zero, suc, ◌+◌, ◌≤◌, ◌<◌, List, [], ◌∷◌, ◌++◌, length, refl, sym, ap, subst, arith, append_assoc, append-nil, take, drop, length-append, length-take-le, add-zero, inl, inr}
+use Rattle.std.proofs.Common.{◌≡◌, ◌≢◌, ◌∙◌, ℕ, zero, suc, ◌+◌, ◌≤◌, ◌<◌, List, [], ◌∷◌, ◌++◌, length, refl, sym, ap, subst, arith, append-nil, take, drop, length-append, length-take-le, add-zero, inl, inr}
 use Rattle.std.specs.Prelude.{⊤, true, false, Bool, Option, Some, None, Result, Ok, Err}
 use Rattle.std.specs.List.{concat}
 use Rattle.std.proofs.lemmas.List.{take_all, length-take}
@@ -15,6 +15,7 @@ use Rattle.desk_file.specs.declared.reading.FileRead.{FileRead}
 use Rattle.desk_file.specs.declared.reading.FileRead.TheVariants.{Text, TooLarge, Missing, Fault}
 use Rattle.desk_file.specs.Reads.{read_calls, EndsUnkept, EndsRead, IsReadBy, IsReadOf, is_counted, HasReadCauses, refusal_of, EndsStep, IsStep, AreFirst, IsStepOf, IsReading, IsReadingOf}
 use Rattle.desk_file.proofs.Logs.{gained_nothing, gained_more, gained_call, gained_without}
+use Rattle.ann_key.proofs.Lists.{concat-snoc}
 
 -- ---- one piece
 
@@ -55,10 +56,6 @@ step_unkept old new name bytes more piece from at e =
     (ReadAt name from (Ok piece) ∷ [], e ∙ gained_call old (ReadAt name from (Ok piece)) refl, inr (piece, ap (λ (k : ℕ). ReadAt name k (Ok piece) ∷ []) at))
 
 -- ---- the pieces
-
-pub concat-snoc : (pieces : List (List ℕ)) (piece : List ℕ) → concat (pieces ++ piece ∷ []) ≡ concat pieces ++ piece
-concat-snoc [] piece = append-nil piece
-concat-snoc (first ∷ more) piece = ap (λ l. first ++ l) (concat-snoc more piece) ∙ sym (append_assoc first (concat more) piece)
 
 read_calls-snoc : (name : List ℕ) (at : ℕ) (pieces : List (List ℕ)) (piece : List ℕ)
     → read_calls name at (pieces ++ piece ∷ []) ≡ read_calls name at pieces ++ ReadAt name (at + length (concat pieces)) (Ok piece) ∷ []

@@ -13,7 +13,7 @@ use Rattle.ann_outside.specs.declared.file_desk.Call.{Call}
 use Rattle.ann_outside.specs.declared.file_desk.Call.TheVariants.{Create, Append, Rename}
 use Rattle.desk_file.specs.Writes.{new_name, append_calls, replace_calls, IsRefusal, IsStopped, AppendsAll, Replaces, HasGrown, GrowsBy, IsReplacedBy, IsAppending}
 use Rattle.desk_file.proofs.Logs.{gained_nothing, gained_more, gained_call, gained_without}
-use Rattle.desk_file.proofs.ReadLaws.{concat-snoc}
+use Rattle.ann_key.proofs.Lists.{option_twice, concat-snoc}
 
 -- ---- the calls
 
@@ -44,7 +44,7 @@ appending_more a b c name text at end low r e =
 pub appends_whole : (a b : Option Log) (name bytes text : List ℕ) → bytes ≡ text → IsAppending a b name bytes → AppendsAll a b name text (Ok tt)
 appends_whole a b name bytes text e r = (r.pieces, r.all ∙ e, r.calls)
 
-append_refusal : (b c : Option Log) (name piece : List ℕ) (e : DeskError) → c ≡ logged b (Append name piece (Err e))
+pub append_refusal : (b c : Option Log) (name piece : List ℕ) (e : DeskError) → c ≡ logged b (Append name piece (Err e))
     → (ending : List Call) × IsRefusal e (Append name piece (Ok tt)) ending × Gained b c ending
 append_refusal b c name piece E.NoMemory e = ([], refl, e ∙ gained_without b (Append name piece (Err E.NoMemory)) refl)
 append_refusal b c name piece E.Failed e = (Append name piece (Err E.Failed) ∷ [], refl, e ∙ gained_call b (Append name piece (Err E.Failed)) refl)
@@ -171,10 +171,6 @@ where_so P R None None f p = tt
 where_so P R None (Some y) f p = absurd p
 where_so P R (Some x) None f p = absurd p
 where_so P R (Some x) (Some y) f p = f x y p
-
-option_twice : (a : Option (List ℕ)) (xs ys : List ℕ) → option_map (λ l. l ++ ys) (option_map (λ l. l ++ xs) a) ≡ option_map (λ l. l ++ (xs ++ ys)) a
-option_twice None xs ys = refl
-option_twice (Some l) xs ys = ap Some (append_assoc l xs ys)
 
 option_none : {A B : Type 0} (f : A → B) (o : Option A) → option_map f o ≡ None → o ≡ None
 option_none f None e = refl

@@ -11,7 +11,7 @@ use Rattle.dir_remote.specs.Outcomes.{HasOutcomeCauses, refusal_of}
 use Rattle.dir_remote.specs.declared.outcome.Outcome.{Outcome}
 use Rattle.dir_remote.specs.declared.outcome.Outcome.TheVariants as O
 
-rose_on : (a b c : ℕ) → Rose a b → b ≤ c → Rose a c
+pub rose_on : (a b c : ℕ) → Rose a b → b ≤ c → Rose a c
 rose_on a b c h low = omega (arith, h, low)
 
 same_error : (x y : DeskError) → ◌≡◌ {A = Result (Unit {0}) DeskError} (Err x) (Err y) → x ≡ y

@@ -1,5 +1,5 @@
 -- How a copy goes, piece by piece.
-use Rattle.std.proofs.Common.{◌≡◌, ◌≢◌, ◌∙◌, ℕ, ◌+◌, List, [], ◌++◌, take, drop, refl, sym, ap, subst, append-nil}
+use Rattle.std.proofs.Common.{◌≡◌, ◌≢◌, ◌∙◌, ℕ, ◌+◌, List, [], ◌++◌, take, drop, refl, sym, ap, subst}
 use Rattle.std.specs.Prelude.{Option, Some, None, IfSome, option_map, Result, Ok, Err}
 use Rattle.std.proofs.Math.Seq.{take-add}
 use Rattle.std.proofs.lemmas.List.{take_all}
@@ -8,6 +8,7 @@ use Rattle.ann_outside.specs.declared.file_desk.DeskError.{DeskError}
 use Rattle.ann_outside.specs.declared.file_desk.DeskError.TheVariants.{Failed, Missing, NoMemory}
 use Rattle.dir_remote.specs.Copies.{PieceDoes, Copying, CopyDoes}
 use Rattle.dir_remote.proofs.Telling.{told_refl, told_both, told_map, told_and, told_same}
+use Rattle.ann_key.proofs.Lists.{map_nil}
 
 some_none : (l : List ℕ) → Some l ≡ None → ⊥
 some_none l e = cc
@@ -15,10 +16,6 @@ some_none l e = cc
 pub some_of : {A : Type 0} → (o : Option A) → o ≢ None → (x : A) × (o ≡ Some x)
 some_of None h = absurd (h refl)
 some_of (Some x) h = (x, refl)
-
-map_nil : (c : Option (List ℕ)) → option_map (λ held. held ++ []) c ≡ c
-map_nil None = refl
-map_nil (Some held) = ap Some (append-nil held)
 
 -- ---- one piece
 

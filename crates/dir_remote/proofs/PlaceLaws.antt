@@ -19,6 +19,7 @@ use Rattle.ann_key.proofs.Unique.{spelling_unique}
 use Rattle.ann_digest.specs.Directories.{lower_of}
 use Rattle.dir_remote.specs.Contents.{IsContentName, IsMark, IsOutside, marked, place_of, temporary_name}
 use Rattle.dir_remote.proofs.FileNameLaws.{is_slash, file_name_clean, file_name_tells}
+use Rattle.ann_key.proofs.Booleans.{both_false as or_false}
 
 slash_before : (front file : List ℕ) → list_any is_slash (front ++ 47 ∷ file) ≡ true
 slash_before [] file = refl
@@ -73,10 +74,6 @@ lower_slash base =
     ap (list_any is_slash) (append_assoc (take 3 hex) (47 ∷ []) (take 3 (drop 3 hex))) ∙ slash_before (take 3 hex) (take 3 (drop 3 hex))
 
 -- ---- marks
-
-or_false : (a b : Bool) → (a || b) ≡ false → (a ≡ false) × (b ≡ false)
-or_false true b e = absurd cc
-or_false false b e = (refl, e)
 
 any_append : (p : ℕ → Bool) (xs ys : List ℕ) → list_any p xs ≡ false → list_any p ys ≡ false → list_any p (xs ++ ys) ≡ false
 any_append p [] ys e f = f

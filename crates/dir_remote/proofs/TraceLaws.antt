@@ -1,5 +1,5 @@
 -- How the calls of a copy and of a store add up.
-use Rattle.std.proofs.Common.{◌≡◌, ◌∙◌, ℕ, zero, suc, ◌+◌, ◌≤◌, List, [], ◌∷◌, ◌++◌, length, refl, sym, ap, subst, arith, append_assoc, append-nil, take, length-append, length-take-le, add-zero}
+use Rattle.std.proofs.Common.{◌≡◌, ◌∙◌, ℕ, zero, suc, ◌+◌, ◌≤◌, List, [], ◌∷◌, ◌++◌, length, refl, sym, ap, subst, arith, take, length-append, length-take-le, add-zero}
 use Rattle.std.specs.Prelude.{Bool, true, false, is_some, Option, Some, None, IfSome, Result, Ok, Err}
 use Rattle.std.specs.List.{concat}
 use Rattle.ann_outside.specs.Calls.{Log, logged, lacks_memory, bytes_read}
@@ -13,6 +13,7 @@ use Rattle.dir_remote.specs.Outcomes.{IsUnnamed, refusal_of}
 use Rattle.dir_remote.specs.Traces.{Each, piece_calls, copy_calls, IsClearing, IsCopyCall, PieceTraces, CopyTraces, Traced, IsStoreCall, StoreTraces, IsRetrieveCall}
 use Rattle.dir_remote.specs.declared.outcome.Outcome.{Outcome}
 use Rattle.dir_remote.specs.declared.outcome.Outcome.TheVariants as O
+use Rattle.ann_key.proofs.Lists.{concat-snoc}
 
 pub traced_none : (P : List Call → Type 0) (log : Option Log) → P [] → Traced P log log
 traced_none P log p = record { calls = []; gained = gained_nothing log; are = p }
@@ -71,10 +72,6 @@ piece_unwritten_traced file name piece more at e a b c read append =
     (traced_one (IsCopyCall false file name) b c (Append name more (Err e)) append refl)
 
 -- ---- a copy
-
-concat-snoc : (pieces : List (List ℕ)) (piece : List ℕ) → concat (pieces ++ piece ∷ []) ≡ concat pieces ++ piece
-concat-snoc [] piece = append-nil piece
-concat-snoc (first ∷ more) piece = ap (λ l. first ++ l) (concat-snoc more piece) ∙ sym (append_assoc first (concat more) piece)
 
 piece_calls-snoc : (file name : List ℕ) (at : ℕ) (pieces : List (List ℕ)) (piece : List ℕ)
     → piece_calls file name at (pieces ++ piece ∷ []) ≡ piece_calls file name at pieces ++ ReadAt file (at + length (concat pieces)) (Ok piece) ∷ Append name piece (Ok tt) ∷ []

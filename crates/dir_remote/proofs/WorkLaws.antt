@@ -3,7 +3,6 @@ use Rattle.std.proofs.Common.{◌≡◌, ◌≢◌, ◌∙◌, ◌≤◌, ℕ, L
 use Rattle.std.specs.Str.{IsUtf8}
 use Rattle.ann_key.specs.FileNames.{file_name_of}
 use Rattle.std.specs.Prelude.{Bool, IsTrue, Option, None, IfSome, Result, Ok, Err}
-use Rattle.ann_outside.specs.Causes.{Rose}
 use Rattle.ann_outside.specs.DeskCauses.{Counts, HasCauses}
 use Rattle.ann_outside.specs.Files.{Files, content, WhereTold, OthersStay, AllStay, SizeIs, RenameDoes, RemoveDoes}
 use Rattle.ann_outside.specs.declared.file_desk.DeskError.{DeskError}
@@ -16,11 +15,9 @@ use Rattle.dir_remote.specs.declared.outcome.Outcome.{Outcome}
 use Rattle.dir_remote.specs.declared.outcome.Outcome.TheVariants as O
 use Rattle.dir_remote.proofs.PlaceLaws.{content_name_unique, content_names_differ, temporary_name_differs, content_name_inside, temporary_name_inside}
 use Rattle.dir_remote.proofs.Telling.{told_refl, told_both, told_map, told_and, told_same}
+use Rattle.dir_remote.proofs.CauseLaws.{rose_on}
 
 -- ---- causes
-
-rose_on : (a b c : ℕ) → Rose a b → b ≤ c → Rose a c
-rose_on a b c h low = omega (arith, h, low)
 
 pub causes_done : {T : Type 0} (old new : Counts) (result : Result T DeskError) → HasCauses old new result → HasOutcomeCauses old new O.Done
 causes_done old new result h =

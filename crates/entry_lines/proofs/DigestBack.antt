@@ -4,26 +4,18 @@ use Rattle.std.specs.Prelude.{replicate, slice_index}
 use Rattle.std.proofs.lemmas.Grind.{get_or_default_zero}
 use Rattle.std.proofs.lemmas.List.{get_or-take, length-take, length-replicate, get_or_append_left, take_all, same_lists}
 use Rattle.std.proofs.lemmas.Bool.{cases_lt}
-use mathlib.Core.HLevel.{is_prop→PathP}
 use denote.Struct.Props.{props}
 use Rattle.ann_digest.specs.Digests.{digest_bytes}
 use Rattle.ann_digest.specs.declared.digest.Digest.{Digest}
 use Rattle.entry_lines.specs.Digits.{digest_of, padded}
 use Rattle.ann_digest.proofs.Zeros.{get_or-zeros}
+use Rattle.journal_model.proofs.SameDigest.{same_digest as digest_same}
 
 short_prop : (n : ℕ) → IsProp (n ≤ 64)
 short_prop n = hlevel props
 
 blank_prop : (n : ℕ) (bytes : List ℕ) → IsProp ((k : ℕ) → n ≤ k → k < 64 → slice_index bytes k ≡ 0)
 blank_prop n bytes = hlevel props
-
-pub digest_same : (a b : Digest) → a.bytes ≡ b.bytes → a.len ≡ b.len → a ≡ b
-digest_same a b p q = λ i. record {
-  bytes = p i;
-  len = q i;
-  short = is_prop→PathP (λ j. q j ≤ 64) (λ j. short_prop (q j)) a.short b.short i;
-  blank = is_prop→PathP (λ j. (k : ℕ) → q j ≤ k → k < 64 → slice_index (p j) k ≡ 0) (λ j. blank_prop (q j) (p j)) a.blank b.blank i;
-}
 
 apart : (a b : ℕ) → (a ≤ b) ⊎ (b < a)
 apart a b = turned (cases_lt b a)

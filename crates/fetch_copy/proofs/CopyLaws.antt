@@ -16,12 +16,9 @@ use Rattle.fetch_copy.specs.declared.copied.Copied.{Copied}
 use Rattle.fetch_copy.specs.declared.copied.Copied.TheVariants.{Done, Fault, Missing}
 use Rattle.fetch_copy.specs.Copies.{copy_calls, Checks, CarryDoes, Moves, Refuses, StepDoes, Moving, Copies, CopyCauses, is_refused, refusal_of, EndsCopy, EndsRefused, CountIs}
 use Rattle.fetch_copy.specs.Resumes.{IsNotBegun}
+use Rattle.ann_key.proofs.Lists.{concat-snoc}
 
 -- ---- pieces
-
-pub concat-snoc : (pieces : List (List ℕ)) (piece : List ℕ) → concat (pieces ++ piece ∷ []) ≡ concat pieces ++ piece
-concat-snoc [] piece = append-nil piece
-concat-snoc (first ∷ more) piece = ap (λ l. first ++ l) (concat-snoc more piece) ∙ sym (append_assoc first (concat more) piece)
 
 pub copy_calls-snoc : (from to : List ℕ) (at : ℕ) (pieces : List (List ℕ)) (piece : List ℕ)
     → copy_calls from to at (pieces ++ piece ∷ [])

@@ -1,5 +1,5 @@
 -- How the file that a copy writes fills, piece by piece.
-use Rattle.std.proofs.Common.{◌≡◌, ◌≢◌, ◌∙◌, ℕ, zero, suc, ◌+◌, ◌-◌, ◌<◌, ◌≤◌, ◌⊎◌, List, [], ◌++◌, length, take, drop, refl, sym, ap, subst, arith, inl, inr, append_assoc, append-nil, take-add, length-take, length-take-le, length-drop, drop-drop}
+use Rattle.std.proofs.Common.{◌≡◌, ◌≢◌, ◌∙◌, ℕ, zero, suc, ◌+◌, ◌-◌, ◌<◌, ◌≤◌, ◌⊎◌, List, [], ◌++◌, length, take, drop, refl, sym, ap, subst, arith, inl, inr, take-add, length-take, length-take-le, length-drop, drop-drop}
 use Rattle.std.specs.Prelude.{Bool, true, false, bytes_eq, min, Option, Some, None, option_map, unwrap_or, IfSome, Result, Ok, Err}
 use Rattle.std.specs.Bool.{MatchBool}
 use Rattle.std.proofs.lemmas.Bool.{cases_lt}
@@ -14,14 +14,7 @@ use Rattle.fetch_copy.specs.declared.copied.Copied.TheVariants.{Done, Fault, Mis
 use Rattle.fetch_copy.specs.Copies.{refusal_of}
 use Rattle.fetch_copy.specs.FilesAfter.{bytes_in, FileGrows, PieceGrows, GrownSoFar, IsWholeCopy, LeavesFront, LeavesMade, HoldsRange, IsUnmade}
 use Rattle.fetch_copy.proofs.Telling.{told_still, told_both, told_map, told_same}
-
-map_nil : (c : Option (List ℕ)) → option_map (λ bytes. bytes ++ []) c ≡ c
-map_nil None = refl
-map_nil (Some bytes) = ap Some (append-nil bytes)
-
-map_both : (c : Option (List ℕ)) (xs ys : List ℕ) → option_map (λ bytes. bytes ++ ys) (option_map (λ bytes. bytes ++ xs) c) ≡ option_map (λ bytes. bytes ++ (xs ++ ys)) c
-map_both None xs ys = refl
-map_both (Some bytes) xs ys = ap Some (append_assoc bytes xs ys)
+use Rattle.ann_key.proofs.Lists.{map_nil, option_twice as map_both}
 
 -- ---- nothing, and one behind the other
 

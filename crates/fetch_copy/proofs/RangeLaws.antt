@@ -3,7 +3,6 @@ use Rattle.std.proofs.Common.{◌≡◌, ◌∙◌, ℕ, zero, suc, ◌+◌, ◌
 use Rattle.std.specs.Prelude.{◌<◌, ◌&&◌, Bool, true, nat_lt, Option, Result, Ok, Err}
 use Rattle.std.specs.List.{concat, list_all}
 use Rattle.std.proofs.lemmas.List.Folds.{list_all-append}
-use Rattle.std.proofs.lemmas.Bool.Decides.{nat_tests}
 use Rattle.ann_key.specs.declared.bytes.NoMemory.{NoMemory}
 use Rattle.ann_outside.specs.Files.{Files, WhereTold}
 use Rattle.ann_outside.specs.Calls.{Log, Gained, logged, bytes_read}
@@ -17,7 +16,9 @@ use Rattle.fetch_copy.specs.Copies.{copy_calls, CarryDoes, refusal_of, CountIs, 
 use Rattle.fetch_copy.specs.FilesAfter.{HoldsRange, IsUnmade}
 use Rattle.fetch_copy.proofs.Telling.{told_still}
 use Rattle.fetch_copy.specs.CopiesOut.{CopiesRange, CopiesOut, CopiesNothing, reads_before}
-use Rattle.fetch_copy.proofs.CopyLaws.{gained_nothing, gained_more, gained_call, concat-snoc, copy_calls-snoc, ends_refused, not_begun, carries_refused_read}
+use Rattle.fetch_copy.proofs.CopyLaws.{gained_nothing, gained_more, gained_call, copy_calls-snoc, ends_refused, not_begun, carries_refused_read}
+use Rattle.std.proofs.lemmas.Bool.{lt-ltb as lt_true}
+use Rattle.ann_key.proofs.Lists.{concat-snoc}
 
 -- The pieces that were read from the range's begin on, in their order, were appended.
 pub record Ranging (old new : Option Log) (file name : List ℕ) (from to at : ℕ) : Type 0 where
@@ -28,9 +29,6 @@ pub record Ranging (old new : Option Log) (file name : List ℕ) (from to at : �
 
 pub ranging_nothing : (log : Option Log) (file name : List ℕ) (from to : ℕ) → Ranging log log file name from to from
 ranging_nothing log file name from to = record { pieces = []; place = add-zero from; calls = gained_nothing log; within = refl }
-
-lt_true : (a b : ℕ) → a < b → nat_lt a b ≡ true
-lt_true a b h = grind (arith, nat_tests)
 
 within_more : (to : ℕ) (xs ys : List Call) → list_all (reads_before to) xs ≡ true → list_all (reads_before to) ys ≡ true → list_all (reads_before to) (xs ++ ys) ≡ true
 within_more to xs ys a b = rw (list_all-append (reads_before to) xs ys) (rw (a, b) refl)

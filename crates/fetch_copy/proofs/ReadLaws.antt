@@ -12,7 +12,8 @@ use Rattle.fetch_copy.specs.declared.copied.Copied.{Copied}
 use Rattle.fetch_copy.specs.declared.copied.Copied.TheVariants.{Done}
 use Rattle.fetch_copy.specs.Copies.{Checks, refusal_of, CountIs}
 use Rattle.fetch_copy.specs.Resumes.{read_calls, refused_read, ReadDoes, ReadsPiece, ReadsOn, Resumes, EndsReading}
-use Rattle.fetch_copy.proofs.CopyLaws.{gained_nothing, gained_more, gained_call, gained_without, concat-snoc, checks_nothing, checks_more, not_begun}
+use Rattle.fetch_copy.proofs.CopyLaws.{gained_nothing, gained_more, gained_call, gained_without, checks_nothing, checks_more, not_begun}
+use Rattle.ann_key.proofs.Lists.{concat-snoc}
 
 -- ---- one piece
 

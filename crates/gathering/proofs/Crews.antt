@@ -9,10 +9,12 @@ use Rattle.journal_model.specs.declared.verdict.Why.TheVariants.{Closed}
 use Rattle.journal_model.specs.declared.entry.What.{What}
 use Rattle.journal_model.specs.declared.entry.What.TheVariants.{Start, NoStart, Lead, Ask, Put, Sent, Mute, Got, End, Verdict as Settled, Lost}
 use Rattle.journal_model.specs.Shares.{is_heard, is_said, is_of_child, is_memory, is_closed, by_ear, by_mouth, by_link}
-use Rattle.journal_model.proofs.Looks.{same, same_number, differ, true_not_false, either_left, either_right, both}
-use Rattle.journal_model.proofs.Testing.{by_either, neither}
+use Rattle.journal_model.proofs.Testing.{by_either}
 use Rattle.gathering.specs.Posts.{Post, Idle, Ender, gives_up, Ear, Mouth, Worker, Lone, makes, works, serves, is_mains, tagged_crew, pool_crew, alone_crew, lone_post, OnlyAt, Nowhere}
 use Rattle.gathering.specs.Laws.{Distinct}
+use Rattle.ann_key.proofs.Numbers.{same_number as same}
+use Rattle.std.proofs.lemmas.Bool.{eqb-true as same_number, ne_eqb as differ, and_parts as both}
+use Rattle.ann_key.proofs.Booleans.{true_and_false as true_not_false, left_false as either_left, right_false as either_right, or_neither as neither}
 
 -- ---- kinds of entries
 

@@ -7,7 +7,6 @@ use Rattle.journal_model.specs.declared.entry.Entry.{Entry}
 use Rattle.journal_model.specs.declared.opening.Opening.{Opening}
 use Rattle.journal_model.specs.Halves.{EarValue, MouthValue, EarWired, MouthWired}
 use Rattle.journal_model.specs.Shares.{Moved, are_own, makes_only, by_ear, by_mouth, is_heard, is_said}
-use Rattle.journal_model.proofs.Looks.{true_not_false}
 use Rattle.journal_model.specs.Makers.{is_taken_by}
 use Rattle.gathering.specs.Posts.{Post, Ear, Mouth, makes}
 use Rattle.gathering.specs.Rounds.{CorePass, LinkValue, IsWired, since, KeepsPost, EarEnds, MouthEnds, WorkerEnds, LoneEnds}
@@ -15,9 +14,10 @@ use Rattle.gathering.proofs.Halls.{drop_start}
 use Rattle.gathering.specs.Tasks.{takes_turn}
 use Rattle.gathering.proofs.Renewing.{renews_by}
 use Rattle.gathering.proofs.Rounding.{unclaiming_only, unclaiming_holds, claim_not_heard, claim_not_said}
+use Rattle.ann_key.proofs.Booleans.{true_and_false as true_not_false}
 
 -- what a pass has seen since the begin, where what it has seen is told as the start and more
-since_is : (p : CorePass) (more : List Entry) → seen_of p ≡ p.start ++ more → since p ≡ more
+pub since_is : (p : CorePass) (more : List Entry) → seen_of p ≡ p.start ++ more → since p ≡ more
 since_is p more is = ap (λ (x : List Entry). drop (length p.start) x) is ∙ drop_start p.start more
 
 pub ear_ends : (crew : ℕ → Post) (p : CorePass) (old new : EarValue) → 0 < p.number → new.child ≡ old.child → crew p.number ≡ Ear old.child

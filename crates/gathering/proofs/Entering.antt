@@ -11,8 +11,8 @@ use Rattle.journal_model.specs.declared.opening.Opening.{Opening}
 use Rattle.journal_model.specs.Journal.{is_started}
 use Rattle.journal_model.specs.Legality.{Legal, least_free, is_free, is_claimed, is_claimed_by, is_busy, is_prepared, is_run_again, numbers_of, has_open_job, both_conflict, task_of, turn_of_task}
 use Rattle.journal_model.specs.Shares.{are_others}
-use Rattle.journal_model.proofs.Holding.{held_claimed, not_true}
-use Rattle.journal_model.proofs.Looks.{entry, both, differ, true_not_false}
+use Rattle.journal_model.proofs.Holding.{held_claimed}
+use Rattle.journal_model.proofs.Looks.{entry}
 use Rattle.journal_model.proofs.Testing.{by_either}
 use Rattle.host_core.specs.declared.event.Event.TheVariants.{Claim as ClaimEvent, Answer as AnswerEvent}
 use Rattle.host_core.specs.declared.event.Event.{Event}
@@ -24,8 +24,11 @@ use Rattle.task_run.specs.Askings.{closing}
 use Rattle.gathering.specs.Tasks.{Lasts}
 use Rattle.gathering.specs.Workers.{Free, Busy, WorkBegun, Entered, ClaimGives}
 use Rattle.gathering.proofs.Halls.{legal_log, signed_log, others_log}
-use Rattle.journal_model.proofs.Working.{find_holds, jobs_stay_closed, no_jobs_in}
+use Rattle.journal_model.proofs.Working.{jobs_stay_closed, no_jobs_in}
 use Rattle.gathering.proofs.Laboring.{work_others, busy_others, busy_apart, claim_begins, answer_frees}
+use Rattle.std.proofs.lemmas.Bool.{not-true as not_true, and_parts as both, ne_eqb as differ}
+use Rattle.ann_key.proofs.Booleans.{true_and_false as true_not_false}
+use Rattle.ann_key.proofs.Lists.{found_so as find_holds}
 
 pub entered : (h : HallValue Entry Opening) (before after : PassValue Entry Opening) (event : Event) (reply : Reply)
     → HasEntered IsMadeBy MayStep h before after event reply → Entered h.fixed before.number (seen_of before) (seen_of after) event reply

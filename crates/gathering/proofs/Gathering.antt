@@ -15,9 +15,8 @@ use Rattle.journal_model.specs.Legality.{Legal, claims, holder, is_busy, is_clai
 use Rattle.journal_model.specs.Makers.{made_by_number, is_taken_by}
 use Rattle.journal_model.specs.Shares.{are_own, are_others}
 use Rattle.journal_model.proofs.Holders.{others_unheld}
-use Rattle.journal_model.proofs.Holding.{holder_append, not_true}
+use Rattle.journal_model.proofs.Holding.{holder_append}
 use Rattle.journal_model.proofs.Idling.{all_shut, claimed_positive}
-use Rattle.journal_model.proofs.Looks.{both, same, same_number, true_not_false}
 use Rattle.journal_model.proofs.Standing.{task_stands}
 use Rattle.journal_model.proofs.Testing.{by_either, all-split, any-more, none_picked}
 use Rattle.journal_model.proofs.Working.{tasks_kept, claimed_once, held_taken_from}
@@ -29,6 +28,9 @@ use Rattle.gathering.proofs.Owning.{owned, nobody}
 use Rattle.gathering.proofs.Crews.{mains_nowhere}
 use Rattle.gathering.proofs.Halls.{legal_log, signed_log, Signed, Saw, saw, only_all, have, AllHave, posts_log, numbered_log, Has}
 use Rattle.gathering.proofs.Turning.{others_turns, turns_by-append}
+use Rattle.std.proofs.lemmas.Bool.{not-true as not_true, and_parts as both, eqb-true as same_number}
+use Rattle.ann_key.proofs.Numbers.{same_number as same}
+use Rattle.ann_key.proofs.Booleans.{true_and_false as true_not_false}
 
 -- ---- a hall of a core that is closed
 

@@ -13,11 +13,12 @@ use Rattle.journal_model.specs.declared.entry.Entry.{Entry}
 use Rattle.journal_model.specs.declared.opening.Opening.{Opening}
 use Rattle.journal_model.specs.Legality.{Legal}
 use Rattle.journal_model.specs.Shares.{makes_only, are_others}
-use Rattle.journal_model.proofs.Looks.{same_number}
-use Rattle.journal_model.proofs.Testing.{all-split, all-join, all-each, all-both, others, only_others, or_left, or_right}
+use Rattle.journal_model.proofs.Testing.{all-split, all-join, all-each, all-both, others, only_others}
 use Rattle.host_core.specs.Mays.{MayStep, IsMadeBy}
 use Rattle.gathering.specs.Posts.{Post, makes}
 use Rattle.gathering.specs.Rounds.{CorePass, since}
+use Rattle.std.proofs.lemmas.Bool.{eqb-true as same_number}
+use Rattle.ann_key.proofs.Booleans.{or_left, or_right}
 
 abbrev pub Log : Type 0
 Log = List (Link Entry)

@@ -16,8 +16,8 @@ use Rattle.journal_model.specs.Makers.{is_of_task}
 use Rattle.journal_model.specs.Shares.{are_others, makes_only}
 use Rattle.journal_model.proofs.Holders.{others_unheld, others_apart, turn_stays}
 use Rattle.journal_model.proofs.Holding.{holder_append}
-use Rattle.journal_model.proofs.Looks.{entry, both, same, same_number, any-append, true_not_false, verdict_of-append}
-use Rattle.journal_model.proofs.Testing.{or_left, or_false, by_either, all-join, only_others}
+use Rattle.journal_model.proofs.Looks.{entry, any-append, verdict_of-append}
+use Rattle.journal_model.proofs.Testing.{by_either, all-join, only_others}
 use Rattle.journal_model.proofs.Working.{holder_apart, unrenewed_in}
 use Rattle.task_run.specs.Askings.{closing}
 use Rattle.gathering.specs.Posts.{Post, makes, works}
@@ -26,6 +26,9 @@ use Rattle.gathering.specs.Rounds.{CorePass, since, WorkerEnds}
 use Rattle.gathering.specs.Workers.{AtWork, Free, Busy}
 use Rattle.gathering.proofs.Halls.{drop_start}
 use Rattle.gathering.proofs.Turning.{claim_turns, is_turn, others_turns, takes_turn-append, turn_before}
+use Rattle.std.proofs.lemmas.Bool.{and_parts as both, eqb-true as same_number}
+use Rattle.ann_key.proofs.Numbers.{same_number as same}
+use Rattle.ann_key.proofs.Booleans.{true_and_false as true_not_false, or_left, or_false}
 
 -- ---- what lasts
 

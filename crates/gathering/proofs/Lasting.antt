@@ -10,8 +10,7 @@ use Rattle.journal_model.specs.declared.entry.Entry.{Entry}
 use Rattle.journal_model.specs.declared.opening.Opening.{Opening}
 use Rattle.journal_model.specs.Journal.{each_of, is_open, verdict_of}
 use Rattle.journal_model.specs.Legality.{job_for, has_open_job}
-use Rattle.journal_model.proofs.Holding.{not_true}
-use Rattle.journal_model.proofs.Looks.{entry, each_of-append, either_left, either_right}
+use Rattle.journal_model.proofs.Looks.{entry, each_of-append}
 use Rattle.ann_outside.specs.declared.file_desk.Call.{Call}
 use Rattle.annex_model.specs.Messages.{host_reading}
 use Rattle.journal_model.specs.Journal.{addressed}
@@ -21,6 +20,8 @@ use Rattle.task_run.specs.Askings.{TaskStretch, closing, past_claim, run_turn, r
 use Rattle.task_run.specs.Runs.{TaskRun}
 use Rattle.journal_model.proofs.Working.{AllAsked, all_asked, closed_all, kept_verdict}
 use Rattle.gathering.specs.JournalRuns.{JournalRun, is_shut}
+use Rattle.std.proofs.lemmas.Bool.{not-true as not_true}
+use Rattle.ann_key.proofs.Booleans.{left_false as either_left, right_false as either_right}
 
 -- ---- the same verdicts
 

@@ -6,9 +6,10 @@ use Rattle.journal_model.specs.declared.entry.What.{What}
 use Rattle.journal_model.specs.declared.entry.Entry.{Entry}
 use Rattle.journal_model.specs.Journal.{any}
 use Rattle.journal_model.specs.Shares.{are_own}
-use Rattle.journal_model.proofs.Looks.{same, true_not_false}
 use Rattle.journal_model.proofs.Testing.{into, all-each, none-each, by_either}
 use Rattle.gathering.specs.Posts.{Post, makes, OnlyAt, Nowhere}
+use Rattle.ann_key.proofs.Numbers.{same_number as same}
+use Rattle.ann_key.proofs.Booleans.{true_and_false as true_not_false}
 
 -- entries that one post alone makes are its number's
 pub owned : (crew : ℕ → Post) (pick : What → Bool) (n : ℕ) → OnlyAt crew pick n → (rest : List Entry)

@@ -15,11 +15,11 @@ use Rattle.journal_model.specs.Due.{due_after}
 use Rattle.journal_model.specs.Legality.{Legal, claims, claimed_after, holder, is_busy, is_claimed, is_claimed_by, is_held_by, is_number, is_prepared, is_run_again, least_free, may_come, numbers_of}
 use Rattle.journal_model.specs.Makers.{is_of_task, is_taken_by}
 use Rattle.journal_model.specs.Shares.{are_others}
-use Rattle.journal_model.proofs.Holding.{claimed_append, closing_claims, held_busy, holder_append, not_true}
+use Rattle.journal_model.proofs.Holding.{claimed_append, closing_claims, held_busy, holder_append}
 use Rattle.journal_model.proofs.Linking.{unended}
-use Rattle.journal_model.proofs.Looks.{entry, any-append, both, differ, either_left, either_right, same, same_number, true_not_false}
+use Rattle.journal_model.proofs.Looks.{entry, any-append}
 use Rattle.journal_model.proofs.Standing.{Legal-from}
-use Rattle.journal_model.proofs.Testing.{all-each, all-split, by_either, differ_by, neither, none-each, or_false, or_left, or_right}
+use Rattle.journal_model.proofs.Testing.{all-each, all-split, by_either, differ_by, none-each}
 use Rattle.journal_model.proofs.Working.{due_untasked, held_taken_from, unclaimed_in, untaken_by}
 use Rattle.host_core.specs.Steps.{are_all_claimed, is_gone}
 use Rattle.gathering.specs.Posts.{Post, makes}
@@ -27,6 +27,9 @@ use Rattle.gathering.specs.Tasks.{IsThrough, is_renewal}
 use Rattle.gathering.specs.Rounds.{CorePass, LinkValue, since, IsAmong, IsLostChild}
 use Rattle.gathering.proofs.Gathering.{Closed, pass_of, lasts}
 use Rattle.gathering.proofs.Halls.{Has, Saw}
+use Rattle.std.proofs.lemmas.Bool.{not-true as not_true, and_parts as both, ne_eqb as differ, eqb-true as same_number}
+use Rattle.ann_key.proofs.Booleans.{left_false as either_left, right_false as either_right, true_and_false as true_not_false, or_neither as neither, or_false, or_left, or_right}
+use Rattle.ann_key.proofs.Numbers.{same_number as same}
 
 -- the number leaves a task to be run again
 abbrev pub renews_by : ℕ → Entry → Bool

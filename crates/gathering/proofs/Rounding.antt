@@ -23,9 +23,9 @@ use Rattle.journal_model.specs.Shares.{are_own, makes_only, is_heard, is_said, i
 use Rattle.journal_model.proofs.Ears.{ear_apart}
 use Rattle.journal_model.proofs.Holders.{untaken_unheld}
 use Rattle.journal_model.proofs.Linking.{why_of-append}
-use Rattle.journal_model.proofs.Looks.{same, differ, any-append, either_left, either_right, true_not_false}
+use Rattle.journal_model.proofs.Looks.{any-append}
 use Rattle.journal_model.proofs.Mouths.{mouth_apart}
-use Rattle.journal_model.proofs.Testing.{or_left, or_right, neither, by_either, any-fewer, none-each}
+use Rattle.journal_model.proofs.Testing.{by_either, any-fewer, none-each}
 use Rattle.journal_model.proofs.Turns.{turn_apart, tagged_turn}
 use Rattle.host_core.specs.Steps.{are_all_claimed}
 use Rattle.gathering.specs.Pairs.{Pairwise}
@@ -39,6 +39,9 @@ use Rattle.gathering.proofs.Crews.{mains_nowhere, heard_at_ear, said_at_mouth, c
 use Rattle.gathering.proofs.Halls.{Saw, drop_start}
 use Rattle.gathering.proofs.Renewing.{Through, left_in, renewer_lives, renews_by}
 use Rattle.gathering.proofs.Turning.{is_turn, turn_made, untaken_turns}
+use Rattle.ann_key.proofs.Numbers.{same_number as same}
+use Rattle.std.proofs.lemmas.Bool.{ne_eqb as differ}
+use Rattle.ann_key.proofs.Booleans.{left_false as either_left, right_false as either_right, true_and_false as true_not_false, or_left, or_right, or_neither as neither}
 
 -- ---- passes that claim nothing, and that leave no task to be run again
 
@@ -77,7 +80,7 @@ pub claim_not_heard : (c t : ℕ) (w : What) → claims t w ≡ true → by_ear 
 claim_not_heard c t (Claim task child) h = refl
 claim_not_heard c t w h = absurd cc
 
-claim_not_end : (c t : ℕ) (w : What) → claims t w ≡ true → gives_up c w ≡ false
+pub claim_not_end : (c t : ℕ) (w : What) → claims t w ≡ true → gives_up c w ≡ false
 claim_not_end c t (Claim task child) h = refl
 claim_not_end c t w h = absurd cc
 

@@ -1,5 +1,5 @@
 -- The turns that a number takes along a stretch of entries.
-use Rattle.std.proofs.Common.{◌≡◌, ℕ, List, [], ◌∷◌, ◌++◌, refl, sym, ap, ◌∙◌, Bool, true, false, ◌==◌, cond, Some, None, Option, append_assoc, append-nil}
+use Rattle.std.proofs.Common.{◌≡◌, ℕ, List, [], ◌∷◌, ◌++◌, refl, sym, ap, ◌∙◌, Bool, true, false, ◌==◌, cond, None, Option, append_assoc, append-nil}
 use Rattle.std.specs.Prelude.{◌&&◌, ◌||◌}
 use Rattle.std.specs.List.{list_any, cons_option}
 use Rattle.std.proofs.lemmas.List.Folds.{list_any-append}
@@ -10,17 +10,14 @@ use Rattle.journal_model.specs.Legality.{claims, turn_of_task}
 use Rattle.journal_model.specs.Makers.{is_taken_by}
 use Rattle.journal_model.specs.Shares.{are_others}
 use Rattle.journal_model.proofs.Holders.{others_untaken}
-use Rattle.journal_model.proofs.Looks.{either_left, either_right, same, true_not_false}
-use Rattle.journal_model.proofs.Testing.{or_false}
 use Rattle.gathering.specs.Tasks.{claimed_turn, turns_by, takes_turn}
+use Rattle.ann_key.proofs.Lists.{cons_append}
+use Rattle.ann_key.proofs.Booleans.{left_false as either_left, right_false as either_right, true_and_false as true_not_false, or_false}
+use Rattle.ann_key.proofs.Numbers.{same_number as same}
 
 -- the turn that the entry gives the number, where it stands after past
 abbrev turn_by : ℕ → List Entry → Entry → Option (ℕ × ℕ)
 turn_by n past e = cond (e.by == n) (claimed_turn past e.what) None
-
-cons_append : {X : Type 0} (o : Option X) (xs ys : List X) → cons_option o (xs ++ ys) ≡ cons_option o xs ++ ys
-cons_append None xs ys = refl
-cons_append (Some x) xs ys = refl
 
 pub turns_by-append : (n : ℕ) (past xs ys : List Entry) → turns_by n past (xs ++ ys) ≡ turns_by n past xs ++ turns_by n (past ++ xs) ys
 turns_by-append n past [] ys = ap (λ (p : List Entry). turns_by n p ys) (sym (append-nil past))

@@ -1,6 +1,6 @@
 -- Replies as they stand on the wire, and what a text sets.
 use Rattle.std.proofs.Common.{◌≡◌, ◌∙◌, ℕ, suc, ◌+◌, ◌<◌, List, [], ◌∷◌, ◌++◌, refl, sym, ap, subst, Bool, true, false, not, cond, Option, Some, None, length, map, take, get_or, arith, add-one}
-use Rattle.std.specs.Prelude.{◌||◌, ◌==◌, fold, IsTrue, IfOk, OnOk, Ok, Err, Result, codes}
+use Rattle.std.specs.Prelude.{◌==◌, fold, IsTrue, IfOk, OnOk, Ok, Err, Result, codes}
 use Rattle.ann_key.specs.declared.bytes.NoMemory.{NoMemory}
 use Rattle.std.specs.List.{cons_option, list_any}
 use Rattle.std.proofs.Math.Seq.{take-suc}
@@ -23,10 +23,8 @@ use Rattle.journal_model.specs.Registers.{if_setting, values_at}
 use Rattle.journal_model.proofs.Registering.{replies_same}
 use Rattle.journal_model.proofs.UrlsFollow.{values_follow}
 use Rattle.host_core.specs.Settings.{IsServed, is_aside_heard}
-
-map-append : {X Y : Type 0} (f : X → Y) (xs ys : List X) → map f (xs ++ ys) ≡ map f xs ++ map f ys
-map-append f [] ys = refl
-map-append f (x ∷ xs) ys = ap (λ zs. f x ∷ zs) (map-append f xs ys)
+use Rattle.ann_key.proofs.Booleans.{not_right as or_right}
+use Rattle.std.proofs.lemmas.List.{map-append}
 
 pub map_next : (f : List ℕ → List ℕ) (xs : List (List ℕ)) (i : ℕ) (x : List ℕ) → i < length xs → x ≡ get_or xs i x
     → map f (take i xs) ++ f x ∷ [] ≡ map f (take (i + 1) xs)
@@ -70,10 +68,6 @@ set_message r m = go (is_setting m) refl
 pub set_read : (r new : RegisterFile) (text : List ℕ) (m : RemoteMessage) → Some m ≡ remote_reading text → new ≡ set_by r m
     → new ≡ set_by_all r (cons_option (if_setting (remote_reading text)) [])
 set_read r new text m read is = is ∙ set_message r m ∙ ap (λ (x : Option RemoteMessage). set_by_all r (cons_option (if_setting x) [])) read
-
-or_right : (a b : Bool) → not (a || b) ≡ true → not b ≡ true
-or_right true b h = absurd cc
-or_right false b h = h
 
 behind : (front back : List ℕ) → not (has_newline (front ++ back)) ≡ true → not (has_newline back) ≡ true
 behind [] back h = h

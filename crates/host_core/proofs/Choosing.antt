@@ -13,7 +13,6 @@ use Rattle.journal_model.specs.declared.entry.Entry.{Entry}
 use Rattle.journal_model.specs.declared.opening.Opening.{Opening}
 use Rattle.journal_model.specs.Journal.{any, each_of, offers, is_started, is_ended, is_mute, is_live, unsent, addressed, on_wire, is_full}
 use Rattle.journal_model.specs.Legality.{is_empty, count, is_start, least_free, is_prepared, is_in_turn, may_ask, may_stop, may_come, may_lead, MayStand, IsGroup, needs_lead, is_led, says_name, is_text, claimed_for, is_number, asks_in_turn, is_run_again, offered_names}
-use Rattle.journal_model.proofs.Looks.{same_number, both}
 use Rattle.annex_model.proofs.Classes.{askable_test}
 use Rattle.journal_model.proofs.Asking.{read_askable}
 use Rattle.talk_serial.specs.declared.request.Request.{Request}
@@ -22,7 +21,6 @@ use Rattle.annex_model.specs.Extensions.{names_of}
 use Rattle.annex_model.specs.Talks.{has_lead}
 use Rattle.annex_model.specs.Turns.{is_at}
 use Rattle.annex_model.specs.declared.turn.Turn.TheVariants.{Later}
-use Rattle.std.specs.List.{list_any}
 use Rattle.journal_model.specs.Due.{due_after, made_by}
 use Rattle.journal_model.proofs.Growing.{is_lead}
 use Rattle.talk_serial.specs.Requests.{message_of, name_of}
@@ -31,28 +29,26 @@ use Rattle.host_core.specs.declared.event.Event.TheVariants.{Claim as ClaimEvent
 use Rattle.host_core.specs.declared.event.Reply.TheVariants.{Job}
 use Rattle.host_core.specs.Steps.{Step, step_of, group_of, append, odd, gone, claim, next_job, next_on_wire, asking, is_named_well, may_request, may_answer, may_end, Comes, Appends}
 use Rattle.host_core.proofs.Stepping.{step_comes}
+use Rattle.std.proofs.lemmas.Bool.{not-true as is_not, eqb-true as same_number, and_parts as both}
+use Rattle.ann_key.proofs.Lists.{any_some}
 
-live : (past : List Entry) (c : ℕ) → is_live past c ≡ true → (is_started past c ≡ true) × (is_ended past c ≡ false)
+pub live : (past : List Entry) (c : ℕ) → is_live past c ≡ true → (is_started past c ≡ true) × (is_ended past c ≡ false)
 live past c h = (let t = both (is_started past c) (not (is_ended past c)) h in (t.0, go (is_ended past c) t.1))
   where
     go : (b : Bool) → not b ≡ true → b ≡ false
     go true h = absurd cc
     go false h = refl
 
-is_not : (b : Bool) → not b ≡ true → b ≡ false
-is_not true h = absurd cc
-is_not false h = refl
-
 -- ---- the claim of the least free task
 
-numbered : (t : ℕ) (free : Option ℕ) → is_number t free ≡ true → free ≡ Some t
+pub numbered : (t : ℕ) (free : Option ℕ) → is_number t free ≡ true → free ≡ Some t
 numbered t None h = absurd cc
 numbered t (Some k) h = ap Some (same_number k t h)
 
 claimed : (o : Opening) (past : List Entry) (by t child : ℕ) → least_free o past ≡ Some t → (claim o past by child (least_free o past)).group ≡ group_of o past by (Claim t child)
 claimed o past by t child e = ap (λ (free : Option ℕ). (claim o past by child free).group) e
 
-claim_chosen : (o : Opening) (past : List Entry) (by t child : ℕ) (main : Bool) → (child == 0 && by == 0) ≡ main → least_free o past ≡ Some t
+pub claim_chosen : (o : Opening) (past : List Entry) (by t child : ℕ) (main : Bool) → (child == 0 && by == 0) ≡ main → least_free o past ≡ Some t
     → (main || (is_prepared past child && is_live past child && not (is_mute past child))) ≡ true
     → (step_of o past by (ClaimEvent child)).group ≡ group_of o past by (Claim t child)
 claim_chosen o past by t child true m e h = rw m (claimed o past by t child e)
@@ -118,14 +114,6 @@ ask_chosen o past by child job task line (Some q) reads plain s e m j turn may =
         (record { reply = Job (next_job past child); group = made_by by (asking past task child n x) })) odd).group
 
 -- ---- a name
-
-any_some : (p : ℕ → Bool) (xs : List ℕ) → list_any p xs ≡ true → (x : ℕ) × (p x ≡ true)
-any_some p [] h = absurd cc
-any_some p (x ∷ xs) h = go (p x) refl h (any_some p xs)
-  where
-    go : (b : Bool) → p x ≡ b → (b || list_any p xs) ≡ true → (list_any p xs ≡ true → (y : ℕ) × (p y ≡ true)) → (y : ℕ) × (p y ≡ true)
-    go true e h r = (x, e)
-    go false e h r = r h
 
 lead_chosen : (o : Opening) (past : List Entry) (by child job : ℕ) (line : List ℕ) (r : Option HostMessage) → is_started past child ≡ true → is_ended past child ≡ false
     → is_mute past child ≡ false → job ≡ next_job past child → says_name past child job line r ≡ true → may_lead past by child ≡ true → Appends o past by (Lead child job line)

@@ -34,6 +34,7 @@ use Rattle.host_core.specs.Steps.{Step, step_of, group_of, layouts_for, odd}
 use Rattle.host_core.specs.Moves.{dues, group_made, first_room}
 use Rattle.host_core.specs.Settings.{set_in, is_reply}
 use Rattle.host_core.proofs.Stepping.{Came, plain_may, step_came}
+use Rattle.ann_key.proofs.Booleans.{and_last}
 
 -- ---- what is due notes nothing
 
@@ -81,12 +82,8 @@ notes_grow o past grown before after by what due was is more =
 
 -- ---- a note that a group begins with is of chunks that hold something
 
-first_is : (d e : Entry) (ds es : List Entry) → d ∷ ds ≡ e ∷ es → d ≡ e
+pub first_is : (d e : Entry) (ds es : List Entry) → d ∷ ds ≡ e ∷ es → d ≡ e
 first_is d e ds es h = cc
-
-and_last : (a b : Bool) → (a && b) ≡ true → b ≡ true
-and_last true b h = h
-and_last false b h = absurd cc
 
 above_none : (n : ℕ) → nat_lt 0 n ≡ true → 0 < n
 above_none n h = grind (arith, nat_tests)
@@ -112,7 +109,7 @@ note_fits o past by event (Some w) due few e = go (step_of o past by event) (ste
 
 -- ---- a note sets nothing, and takes room
 
-unset : (b : Bool) → cond {A = Option RemoteMessage} b None None ≡ None
+pub unset : (b : Bool) → cond {A = Option RemoteMessage} b None None ≡ None
 unset true = refl
 unset false = refl
 

@@ -26,16 +26,18 @@ use Rattle.journal_model.specs.Legality.{Legal, MayStand, may_come, needs_lead, 
 use Rattle.journal_model.specs.Projection.{Fits}
 use Rattle.journal_model.proofs.Asking.{asked_text}
 use Rattle.journal_model.proofs.Growing.{Led, Legal-group, due_none_asks, group_keeps, groups_from, is_lead, none_asks, pair, pair_group}
-use Rattle.journal_model.proofs.Holding.{not_true}
 use Rattle.journal_model.proofs.Keeping.{in_turn_of, named_text, plain_lead}
-use Rattle.journal_model.proofs.Looks.{is_asked, both, each_of-append, entry, same, same_number, unasked_closed, open_unsettled, settled_none}
+use Rattle.journal_model.proofs.Looks.{is_asked, each_of-append, entry, unasked_closed, open_unsettled, settled_none}
 use Rattle.journal_model.proofs.PartsGrow.{part-group}
 use Rattle.journal_model.proofs.Projecting.{parts_fit, asked_parts}
-use Rattle.journal_model.proofs.Replying.{slice_get-left, slice_get-here}
+use Rattle.journal_model.proofs.Replying.{slice_get-left}
 use Rattle.talk_serial.specs.declared.talk.Heard.TheVariants.{Aside as HeardAside}
 use Rattle.talk_serial.specs.Hearings.{heard, heard_as}
 use Rattle.journal_scan.specs.Looks.{asked_at, hosts_line, is_hosts, request_text, text_after}
 use Rattle.talk_serial.specs.Requests.{is_request}
+use Rattle.std.proofs.lemmas.Bool.{not-true as not_true, and_parts as both, eqb-true as same_number}
+use Rattle.ann_key.proofs.Numbers.{same_number as same}
+use Rattle.ann_key.proofs.Lists.{get_after as slice_get-here}
 
 -- ---- it has a request, to which nothing but the beginning of an answer was said
 

@@ -6,7 +6,7 @@ use Rattle.std.proofs.lemmas.Bool.Decides.{nat_tests}
 use Rattle.std.proofs.lemmas.List.Sums.{sum_by-cons}
 use Rattle.std.specs.List.{cons_option}
 use Rattle.std.proofs.Math.Seq.{take-length}
-use Rattle.std.proofs.lemmas.List.{take-append-drop, take-append-le}
+use Rattle.std.proofs.lemmas.List.{take-append-drop, take-append-le, map-append}
 use Rattle.journal_model.specs.declared.verdict.Verdict.{Verdict}
 use Rattle.journal_model.specs.declared.verdict.Verdict.TheVariants.{Ended, Unsent}
 use Rattle.journal_model.specs.declared.opening.Opening.{Opening}
@@ -17,8 +17,8 @@ use Rattle.journal_model.specs.Journal.{asks, asked_jobs, each_of, is_settled, i
 use Rattle.journal_model.specs.Due.{made_by}
 use Rattle.journal_model.specs.Legality.{Legal}
 use Rattle.journal_model.specs.Room.{room_for, room_for_all, room_of}
-use Rattle.journal_model.proofs.Looks.{each_of-append, either_left, either_right, both}
-use Rattle.journal_model.proofs.Rooms.{room_suffices, room_grows}
+use Rattle.journal_model.proofs.Looks.{each_of-append}
+use Rattle.journal_model.proofs.Rooms.{room_suffices, room_grows, rooms-cons as room_cons}
 use Rattle.host_core.specs.declared.due.Due.{Due}
 use Rattle.host_core.specs.declared.due.Due.TheVariants.{Nothing, Settle, Request, Replies, EndOf, EndedJobs, UnsentJobs}
 use Rattle.host_core.specs.declared.event.Event.{Event}
@@ -26,6 +26,9 @@ use Rattle.host_core.specs.Steps.{step_of, needs_room, needs_memory, is_free}
 use Rattle.journal_scan.specs.Looks.{NoneDue, due_asked, due_job, due_jobs, job_at}
 use Rattle.host_core.specs.Moves.{dues, group_made, first_room, due_room, group_room, due_bytes, group_bytes}
 use Rattle.host_core.proofs.Stepping.{Legal-step}
+use Rattle.ann_key.proofs.Lists.{length-map}
+use Rattle.ann_key.proofs.Booleans.{left_false as either_left, right_false as either_right}
+use Rattle.std.proofs.lemmas.Bool.{and_parts as both}
 
 -- ---- the due jobs are those of the definitions
 
@@ -107,14 +110,6 @@ same_at init more n at c u long h =
 abbrev pub pushed : List Entry → ℕ → ℕ → ℕ → Verdict → Bool → ℕ → List Entry
 pushed past by c n verdict u at = made_by by (map (λ j. Settled c j verdict) (each_of (due_job past c u) (take at past)))
 
-map-append : {X Y : Type 0} (f : X → Y) (xs ys : List X) → map f (xs ++ ys) ≡ map f xs ++ map f ys
-map-append f [] ys = refl
-map-append f (x ∷ xs) ys = ap (λ zs. f x ∷ zs) (map-append f xs ys)
-
-length-map : {X Y : Type 0} (f : X → Y) (xs : List X) → length (map f xs) ≡ length xs
-length-map f [] = refl
-length-map f (x ∷ xs) = ap suc (length-map f xs)
-
 pub pushed_next : (init : List Entry) (by c n : ℕ) (verdict : Verdict) (u : Bool) (at : ℕ) → n ≤ length init → at < n
     → (init ++ pushed (take n init) by c n verdict u at)
     ++ made_by by (map (λ j. Settled c j verdict) (cons_option (job_at (init ++ pushed (take n init) by c n verdict u at) n at c u) []))
@@ -186,9 +181,6 @@ one_fewer [] some = absurd (let no : ⊥ = omega (arith, some) in no)
 one_fewer (y ∷ ys) some = omega arith
 
 -- ---- the group within the room
-
-room_cons : (e : Entry) (es : List Entry) → room_for_all (e ∷ es) ≡ room_for e.what + room_for_all es
-room_cons e es = sum_by-cons (λ (d : Entry). room_for d.what) e es
 
 puts_room : (by c j : ℕ) (lines : List (List ℕ)) → room_for_all (made_by by (map (λ line. Put c j line) lines)) ≡ 2 * length lines
 puts_room by c j [] = refl

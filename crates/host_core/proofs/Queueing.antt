@@ -2,7 +2,7 @@
 use Rattle.std.proofs.Common.{◌≡◌, ◌∙◌, ℕ, zero, suc, ◌+◌, ◌<◌, ◌≤◌, ◌^◌, List, [], ◌∷◌, ◌++◌, refl, sym, ap, subst, Bool, true, false, not, cond, Option, Some, None, length, arith, inl, inr, append-nil}
 use Rattle.std.specs.Prelude.{◌&&◌, ◌||◌, ◌==◌, find, is_some}
 use Rattle.std.specs.List.{list_any, range_with_len}
-use Rattle.std.proofs.lemmas.Bool.{eqb-true, not-true}
+use Rattle.std.proofs.lemmas.Bool.{eqb-true, not-true, and_parts as both}
 use Rattle.journal_model.specs.declared.holder.Holder.{Holder}
 use Rattle.journal_model.specs.declared.entry.What.{What}
 use Rattle.journal_model.specs.declared.entry.What.TheVariants.{Claim, Lead, Ask, Answer as Answered, Again}
@@ -12,7 +12,7 @@ use Rattle.journal_model.specs.Due.{due_after, made_by}
 use Rattle.journal_model.specs.Legality.{both_conflict, has_open_job, holder, is_busy, is_claimed, is_claimed_by, is_free, is_number, is_run_again, least_free, may_come, numbers_of, task_of, turned_by}
 use Rattle.journal_model.proofs.Growing.{pair}
 use Rattle.journal_model.proofs.Holding.{claimed, claimed_append, claimed_group, closed, due_names, held_busy, holder_append, unturned}
-use Rattle.journal_model.proofs.Looks.{both, entry}
+use Rattle.journal_model.proofs.Looks.{entry}
 use Rattle.task_queue.specs.Queues.{IsNext, IsQueued, IsTurned, busy_after, is_among}
 use Rattle.task_queue.specs.declared.queue.Queue.{Queue}
 use Rattle.host_core.specs.declared.due.Due.{Due}
@@ -21,6 +21,7 @@ use Rattle.host_core.specs.Moves.{dues, group_made}
 use Rattle.host_core.specs.Queued.{IsNextIn, IsTurnedIn}
 use Rattle.host_core.specs.Steps.{Step, step_of}
 use Rattle.host_core.proofs.Stepping.{Came, plain_may, step_came}
+use Rattle.host_core.proofs.Noting.{first_is}
 
 -- ---- what a group makes of the tasks
 
@@ -94,10 +95,7 @@ next_so o past by w q are may = tt
 
 -- ---- the group of a step
 
-first_is : (d e : Entry) (ds es : List Entry) → d ∷ ds ≡ e ∷ es → d ≡ e
-first_is d e ds es h = cc
-
-rest_is : (d e : Entry) (ds es : List Entry) → d ∷ ds ≡ e ∷ es → ds ≡ es
+pub rest_is : (d e : Entry) (ds es : List Entry) → d ∷ ds ≡ e ∷ es → ds ≡ es
 rest_is d e ds es h = cc
 
 record Follows (past : List Entry) (by : ℕ) (w : What) (rest : List Entry) (q : Queue) : Type 0 where

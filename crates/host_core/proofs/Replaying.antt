@@ -3,11 +3,11 @@ use Rattle.std.proofs.Common.{◌≡◌, ◌∙◌, ℕ, zero, suc, ◌+◌, ◌
 use Rattle.std.specs.Prelude.{◌&&◌, IsSome, map, filter, filter_map, slice_get, option_and_then}
 use Rattle.std.specs.List.{cons_option, range_with_len, list_all}
 use Rattle.std.proofs.Math.Seq.{drop-append_seam, take-append_seam}
-use Rattle.std.proofs.lemmas.List.Elements.{filter_map-append, filter-append}
+use Rattle.std.proofs.lemmas.List.Elements.{filter_map-append}
 use Rattle.annex_model.specs.declared.final_line.Final.{Final}
 use Rattle.annex_model.specs.declared.final_line.Final.TheVariants.{Unsupported}
 use Rattle.annex_model.specs.Messages.{RemoteMessage, HostMessage, Config, Infofield, UnsupportedRequest, remote_reading}
-use Rattle.annex_model.specs.Talks.{Item, Shape, OneLine, Configs, Infos, shape_of, may_go_on, awaits, final_of, said, remote_items, item_is_aside, spells_aside, is_remote, is_aside, is_nothing, is_config, is_infofield, is_infovalue, are_pairs, is_unsupported, are_configs, are_infos, by_shape, said_alone}
+use Rattle.annex_model.specs.Talks.{Item, Shape, OneLine, Configs, Infos, shape_of, may_go_on, awaits, final_of, said, item_is_aside, spells_aside, is_remote, is_aside, is_nothing, is_config, is_infofield, is_infovalue, are_pairs, is_unsupported, are_configs, are_infos, by_shape, said_alone}
 use Rattle.journal_model.specs.declared.entry.Entry.{Entry}
 use Rattle.journal_model.specs.Parts.{item_of, part_from, part, item_at}
 use Rattle.annex_model.specs.Hearings.{by_answer}
@@ -17,23 +17,13 @@ use Rattle.talk_serial.specs.Requests.{message_of}
 use Rattle.talk_serial.specs.Hearings.{heard, heard_as, is_taken, Follows}
 use Rattle.journal_scan.specs.Looks.{remote_text}
 use Rattle.host_core.specs.Moves.{takes_lines, said_by, said_before}
+use Rattle.ann_key.proofs.Lists.{range_next}
+use Rattle.annex_model.proofs.FrontsTalk.{said-append}
 
 abbrev Said : Type 0
 Said = List (Option RemoteMessage)
 
 -- ---- what is said, in stretches
-
-map-append : {X Y : Type 0} (f : X → Y) (xs ys : List X) → map f (xs ++ ys) ≡ map f xs ++ map f ys
-map-append f [] ys = refl
-map-append f (x ∷ xs) ys = ap (λ zs. f x ∷ zs) (map-append f xs ys)
-
-pub said-append : (xs ys : List Item) → said (xs ++ ys) ≡ said xs ++ said ys
-said-append xs ys =
-    let read : Item → Option RemoteMessage = λ i. remote_reading i.text in
-    let plain : Item → Bool = λ i. not (item_is_aside i) in
-    ap (λ (is : List Item). map read (filter plain is)) (filter-append (λ (i : Item). is_remote i.side) xs ys)
-    ∙ ap (map read) (filter-append plain (remote_items xs) (remote_items ys))
-    ∙ map-append read (filter plain (remote_items xs)) (filter plain (remote_items ys))
 
 -- what is said by an item is what is said by its text, where it is the remote's
 pub said_item : (o : Option Item) (text : List ℕ) → Some text ≡ remote_text o → said (cons_option o []) ≡ said_by (remote_reading text)
@@ -225,14 +215,6 @@ none_told q ms h = absurd (none_begins q ms h)
 
 -- ---- the part, place by place
 
-range_next : (a n : ℕ) → range_with_len a (suc n) ≡ range_with_len a n ++ (a + n) ∷ []
-range_next a zero =
-    let here : a ≡ a + 0 = omega arith in
-    ap (λ (k : ℕ). k ∷ []) here
-range_next a (suc n) =
-    let same : (a + 1) + n ≡ a + suc n = omega arith in
-    ap (λ (ks : List ℕ). a ∷ ks) (range_next (a + 1) n) ∙ ap (λ (k : ℕ). a ∷ (range_with_len (a + 1) n ++ k ∷ [])) same
-
 pub said_next : (past : List Entry) (c j n : ℕ) → said_before past c j (n + 1) ≡ said_before past c j n ++ said (cons_option (item_at past c j n) [])
 said_next past c j n =
     let one : n + 1 ≡ suc n = omega arith in
@@ -247,7 +229,7 @@ get_seam : (xs : List Entry) (e : Entry) (ys : List Entry) → slice_get (xs ++ 
 get_seam [] e ys = refl
 get_seam (x ∷ xs) e ys = get_seam xs e ys
 
-item_seam : (c j : ℕ) (past : List Entry) (e : Entry) (rest : List Entry) → item_at (past ++ e ∷ rest) c j (length past) ≡ item_of c j past e.what rest
+pub item_seam : (c j : ℕ) (past : List Entry) (e : Entry) (rest : List Entry) → item_at (past ++ e ∷ rest) c j (length past) ≡ item_of c j past e.what rest
 item_seam c j past e rest =
     let one : length past + 1 ≡ length (past ++ e ∷ []) = sym (length-append past (e ∷ [])) in
     let behind : drop (length past + 1) (past ++ e ∷ rest) ≡ rest =
@@ -256,7 +238,7 @@ item_seam c j past e rest =
     ∙ ap (λ (p : List Entry). item_of c j p e.what (drop (length past + 1) (past ++ e ∷ rest))) (take-append_seam past (e ∷ rest))
     ∙ ap (item_of c j past e.what) behind
 
-part_places : (c j : ℕ) (past rest : List Entry) → part_from c j past rest ≡ filter_map (item_at (past ++ rest) c j) (range_with_len (length past) (length rest))
+pub part_places : (c j : ℕ) (past rest : List Entry) → part_from c j past rest ≡ filter_map (item_at (past ++ rest) c j) (range_with_len (length past) (length rest))
 part_places c j past [] = refl
 part_places c j past (e ∷ rest) =
     let next : length (past ++ e ∷ []) ≡ length past + 1 = length-append past (e ∷ []) in

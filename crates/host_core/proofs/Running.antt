@@ -2,7 +2,7 @@
 use Rattle.std.proofs.Common.{◌≡◌, ◌∙◌, ℕ, zero, suc, ◌+◌, ◌-◌, ◌<◌, ◌≤◌, ◌^◌, List, [], ◌∷◌, ◌++◌, refl, sym, ap, subst, Bool, true, false, not, cond, Option, Some, None, length, set, arith, inl, inr, get_or-set_other, get_or-set_same, append-nil}
 use Rattle.std.specs.Prelude.{◌&&◌, ◌==◌, nat_lt, find}
 use Rattle.std.specs.List.{range_with_len}
-use Rattle.std.proofs.lemmas.Bool.{eqb-true, eqb-false}
+use Rattle.std.proofs.lemmas.Bool.{eqb-true, eqb-false, and_parts as both}
 use Rattle.std.proofs.lemmas.Bool.Decides.{nat_tests}
 use Rattle.std.proofs.lemmas.List.{get_or_past, length-set}
 use Rattle.journal_model.specs.declared.holder.Holder.{Holder}
@@ -14,7 +14,7 @@ use Rattle.journal_model.specs.Due.{due_after, made_by}
 use Rattle.journal_model.specs.Legality.{count, renews, holder, turned_by, is_number, is_free, least_free, is_claimed_by, has_open_job, is_of_lost_child, is_held_over_child, is_run_again, may_come, turn_of_task}
 use Rattle.journal_model.proofs.Growing.{pair}
 use Rattle.journal_model.proofs.Holding.{claimed, closed, due_names, holder_append, unturned}
-use Rattle.journal_model.proofs.Looks.{both, entry}
+use Rattle.journal_model.proofs.Looks.{entry}
 use Rattle.journal_model.proofs.Working.{count-append, count_one, due_untasked, one_if, unrenewed_in}
 use Rattle.host_core.specs.declared.due.Due.{Due}
 use Rattle.host_core.specs.declared.due.Due.TheVariants.{Nothing}
@@ -26,6 +26,8 @@ use Rattle.host_core.specs.Moves.{IsStep, dues, group_made}
 use Rattle.host_core.specs.Runs.{AreRuns, IsCounted, held_so, no_run, run_again, run_in, runs_after, runs_by}
 use Rattle.host_core.specs.Steps.{Step, step_of, claim}
 use Rattle.host_core.proofs.Stepping.{Came, plain_may, step_came}
+use Rattle.host_core.proofs.Noting.{first_is}
+use Rattle.host_core.proofs.Queueing.{rest_is}
 
 -- ---- at the begin nothing was done
 
@@ -217,12 +219,6 @@ countable o past by (Again task answer) runs few are may =
 countable o past by w runs few are may = tt
 
 -- ---- the group of a step
-
-first_is : (d e : Entry) (ds es : List Entry) → d ∷ ds ≡ e ∷ es → d ≡ e
-first_is d e ds es h = cc
-
-rest_is : (d e : Entry) (ds es : List Entry) → d ∷ ds ≡ e ∷ es → ds ≡ es
-rest_is d e ds es h = cc
 
 -- the first entry has its place and can be counted, and the rest changes nothing
 record Fits (past : List Entry) (by : ℕ) (w : What) (rest : List Entry) (runs : List Run) : Type 0 where

@@ -21,7 +21,7 @@ use Rattle.journal_model.specs.Due.{made_by, due_by_got, due_after, after_line, 
 use Rattle.journal_model.specs.Legality.{Legal, may_come}
 use Rattle.journal_model.specs.Replies.{is_setting, set_by, set_by_all}
 use Rattle.journal_model.specs.Registers.{settings, settings_from, setting_of, if_setting, is_open_job, is_got, HasNoLine}
-use Rattle.journal_model.proofs.Looks.{same, unasked_closed}
+use Rattle.journal_model.proofs.Looks.{unasked_closed}
 use Rattle.journal_model.proofs.PartsGrow.{come_names_none}
 use Rattle.journal_model.proofs.Registering.{settings-append, settings_from-none}
 use Rattle.journal_model.proofs.Projecting.{invariant}
@@ -32,6 +32,9 @@ use Rattle.host_core.specs.Steps.{Step, step_of, group_of}
 use Rattle.host_core.specs.Moves.{dues, group_made}
 use Rattle.host_core.specs.Settings.{serves, serves_line, serves_message, is_reply, set_in, registers_after, is_line, IsLine, IsDueReply}
 use Rattle.host_core.proofs.Stepping.{Came, plain_may, step_came}
+use Rattle.host_core.proofs.Noting.{first_is, unset as neither}
+use Rattle.host_core.proofs.Queueing.{rest_is}
+use Rattle.ann_key.proofs.Numbers.{same_number as same}
 
 -- ---- settings are asides, and no errors
 
@@ -63,10 +66,6 @@ pick None true false f = refl
 pick None false true f = refl
 pick None false false f = refl
 pick (Some m) b s f = ap (λ (t : Bool). cond t (Some m) None) (f m refl)
-
-neither : (b : Bool) → cond {A = Option RemoteMessage} b None None ≡ None
-neither true = refl
-neither false = refl
 
 and_second : (a b d : Bool) → (a && b && d) ≡ true → b ≡ true
 and_second true true d h = refl
@@ -195,12 +194,6 @@ setting_first o past by (Lost child task) due legal served e = sym (neither (is_
 setting_first o past by (Answered task answer) due legal served e = sym (neither (is_reply due))
 setting_first o past by (Noted task chunk count) due legal served e = sym (neither (is_reply due))
 setting_first o past by (Again task answer) due legal served e = sym (neither (is_reply due))
-
-rest_is : (d e : Entry) (ds es : List Entry) → d ∷ ds ≡ e ∷ es → ds ≡ es
-rest_is d e ds es h = cc
-
-first_is : (d e : Entry) (ds es : List Entry) → d ∷ ds ≡ e ∷ es → d ≡ e
-first_is d e ds es h = cc
 
 pub settings_group : (o : Opening) (past : List Entry) (by : ℕ) (event : Event) (what : Option What) (due : Due) → length past < 2 ^ 64 → Legal o past → IsDueReply past what due
     → group_made past by what due ≡ (step_of o past by event).group

@@ -24,9 +24,7 @@ use Rattle.journal_model.specs.Legality.{Legal, IsGroup, is_led, needs_lead, say
 use Rattle.task_text.specs.declared.task.Task.{Task}
 use Rattle.journal_model.specs.Due.{made_by}
 use Rattle.journal_model.proofs.Growing.{Led, pair, is_lead, due_group, pair_group, group_keeps}
-use Rattle.journal_model.proofs.Holding.{not_true}
 use Rattle.journal_model.proofs.Named.{lead_work, same_addressed, same_ask}
-use Rattle.journal_model.proofs.Looks.{same, both}
 use Rattle.host_core.specs.declared.event.Event.{Event}
 use Rattle.host_core.specs.declared.event.Event.TheVariants.{Claim as ClaimEvent, Start as StartEvent, NoStart as NoStartEvent, Ask as AskEvent, Lookup, Look, Listen, Fetch, Got as GotEvent, Stop, Sent as SentEvent, Mute as MuteEvent, Answer as AnswerEvent, Note as NoteEvent, Layouts as LayoutsEvent, Shut}
 use Rattle.host_core.specs.declared.event.Reply.TheVariants.{Child, Job, Over, Done, Gone}
@@ -35,6 +33,8 @@ use Rattle.talk_serial.specs.declared.request.Request.{Request}
 use Rattle.talk_serial.specs.declared.request.Request.TheVariants.{TransferExport, CheckExport, RemoveExport, RenameExport}
 use Rattle.talk_serial.specs.Requests.{message_of, name_of}
 use Rattle.host_core.proofs.Wiring.{wired_text, wired_turn, few_jobs}
+use Rattle.std.proofs.lemmas.Bool.{not-true as not_true, and_parts as both}
+use Rattle.ann_key.proofs.Numbers.{same_number as same}
 
 -- ---- what a step may append: nothing; an entry that is no name and needs none, with what it makes due; or a name and the request that it leads
 
@@ -97,7 +97,7 @@ asks_lost o past by task child q b g =
     inr (inl (Lost child task, may, refl))
 
 -- a request without a name needs none, and one with a name is for a later job
-unnamed : (r : Request) → name_of r ≡ None → has_lead (message_of r) ≡ false
+pub unnamed : (r : Request) → name_of r ≡ None → has_lead (message_of r) ≡ false
 unnamed (TransferExport store key file name) h = absurd cc
 unnamed (CheckExport key name) h = absurd cc
 unnamed (RemoveExport key name) h = absurd cc

@@ -18,7 +18,7 @@ use Rattle.journal_model.specs.declared.opening.Opening.{Opening}
 use Rattle.journal_model.specs.Journal.{any, each_of, starts, ends, mutes, end_why, offers, is_started, is_ended, is_mute, is_tagged, on_wire, open_jobs, asked_jobs, verdict_of, why_of}
 use Rattle.journal_model.specs.Legality.{Legal, count, prepares, is_prepared, is_done, is_empty, is_greeted, is_in_turn, may_work}
 use Rattle.journal_model.specs.Projection.{final_in}
-use Rattle.journal_model.proofs.Looks.{both, same, any-append, each_of-append, verdict_of-append}
+use Rattle.journal_model.proofs.Looks.{any-append, each_of-append, verdict_of-append}
 use Rattle.journal_model.proofs.Linking.{why_is_end}
 use Rattle.journal_model.proofs.Verdicts.{ended_verdict, unsent_verdict}
 use Rattle.talk_serial.specs.declared.request.Request.{Request}
@@ -26,14 +26,17 @@ use Rattle.talk_serial.specs.Requests.{message_of, name_of}
 use Rattle.talk_serial.proofs.Reading.{unnamed}
 use Rattle.host_core.specs.Steps.{group_of, is_named_well, next_job, may_request}
 use Rattle.journal_model.specs.Shares.{are_by, by_link, is_closed}
-use Rattle.link_roles.specs.Asks.{lost_as}
 use Rattle.link_roles.specs.Alone.{AskedAlone, IsSettled, IsLost}
 use Rattle.child_start.specs.Greetings.{is_of_greeting, loses, Greeted, IsReady}
 use Rattle.child_start.proofs.Losing.{count_behind, count_none, links_unlost}
-use Rattle.child_start.proofs.Jobs.{idle_asked, jobs_settled, or_true}
-use Rattle.child_start.proofs.Requests.{main_both}
+use Rattle.child_start.proofs.Jobs.{idle_asked, jobs_settled}
 use Rattle.info_run.specs.Infos.{is_answered, are_answered}
 use Rattle.info_run.specs.Askings.{is_of_asking, line_to, asked_lines, Asks, AsksFront, HasFailed, is_question, is_kept, MayGoOn}
+use Rattle.ann_key.proofs.Booleans.{and_false as no_offer, or_true}
+use Rattle.child_start.proofs.Requests.{not_lost}
+use Rattle.std.proofs.lemmas.Bool.{and_parts as both}
+use Rattle.ann_key.proofs.Numbers.{same_number as same}
+use Rattle.link_roles.proofs.Roles.{by_append as main_both}
 
 -- ---- one fact of each entry
 
@@ -45,7 +48,7 @@ all_so p r so (e ∷ es) h =
     let t = both (p e.what) (list_all (λ (x : Entry). p x.what) es) h in
     rw (so e.what t.0, all_so p r so es t.1) refl
 
-none_so : (p r : What → Bool) → ((w : What) → p w ≡ true → r w ≡ false) → (es : List Entry)
+pub none_so : (p r : What → Bool) → ((w : What) → p w ≡ true → r w ≡ false) → (es : List Entry)
     → list_all (λ (e : Entry). p e.what) es ≡ true → any r es ≡ false
 none_so p r so [] h = refl
 none_so p r so (e ∷ es) h =
@@ -59,7 +62,7 @@ nothing_so p f so (e ∷ es) h =
     let t = both (p e.what) (list_all (λ (x : Entry). p x.what) es) h in
     rw (so e.what t.0, nothing_so p f so es t.1) refl
 
-all_both : (p : What → Bool) (xs ys : List Entry) → list_all (λ (e : Entry). p e.what) xs ≡ true → list_all (λ (e : Entry). p e.what) ys ≡ true
+pub all_both : (p : What → Bool) (xs ys : List Entry) → list_all (λ (e : Entry). p e.what) xs ≡ true → list_all (λ (e : Entry). p e.what) ys ≡ true
     → list_all (λ (e : Entry). p e.what) (xs ++ ys) ≡ true
 all_both p xs ys h k = list_all-append (λ (e : Entry). p e.what) xs ys ∙ ap (λ (b : Bool). b && list_all (λ (e : Entry). p e.what) ys) h ∙ k
 
@@ -80,7 +83,7 @@ asking_kept : (c : ℕ) (w : What) → is_of_asking c w ≡ true → is_kept w �
 asking_kept c (End child why) h = (both (child == c) (not (is_closed why)) h).1
 asking_kept c w h = refl
 
-greeting_offers : (c d : ℕ) (w : What) → is_of_greeting c w ≡ true → offers d w ≡ false
+pub greeting_offers : (c d : ℕ) (w : What) → is_of_greeting c w ≡ true → offers d w ≡ false
 greeting_offers c d (Start child slot offer) h = absurd cc
 greeting_offers c d w h = refl
 
@@ -89,10 +92,6 @@ greeting_kept c (End child why) h = (both (child == c) (not (is_closed why)) h).
 greeting_kept c w h = refl
 
 -- ---- a child that is ready
-
-no_offer : (b : Bool) → (b && false) ≡ false
-no_offer true = refl
-no_offer false = refl
 
 pub may_begin : (journal : List Entry) (c : ℕ) → Greeted [] journal 0 false c → IsReady journal c → MayGoOn [] journal journal c
 may_begin journal c g r =
@@ -194,11 +193,6 @@ prepared_on old more c h =
     go : (v : Option Verdict) → is_done v ≡ true → is_done (option_or v (verdict_of more c 1)) ≡ true
     go (Some v) h = h
     go None h = absurd cc
-
--- a verdict that a line gave is not that of a request that was lost
-not_lost : {A : Type 0} (v : Verdict) (why : Option Why) → is_some (final_in v) ≡ true → v ≡ lost_as why → A
-not_lost v None h e = let bad : false ≡ true = subst (λ (x : Verdict). is_some (final_in x) ≡ true) e h in absurd cc
-not_lost v (Some why) h e = let bad : false ≡ true = subst (λ (x : Verdict). is_some (final_in x) ≡ true) e h in absurd cc
 
 -- no question has a lead, so no name was said before it
 question_leads : (q : HostMessage) → is_question q ≡ true → has_lead q ≡ false

@@ -11,8 +11,8 @@ use Rattle.journal_model.specs.declared.opening.Opening.{Opening}
 use Rattle.journal_model.specs.Journal.{any, is_ended, is_started, offers, starts}
 use Rattle.journal_model.specs.Legality.{Legal, count, is_start}
 use Rattle.journal_model.specs.Shares.{are_by, is_of_child}
-use Rattle.journal_model.proofs.Looks.{any-append, differ, each_of-append, same}
-use Rattle.journal_model.proofs.Testing.{all-each, all-join, by_either, neither, or_left, or_right}
+use Rattle.journal_model.proofs.Looks.{any-append, each_of-append}
+use Rattle.journal_model.proofs.Testing.{all-each, all-join, by_either}
 use Rattle.host_core.specs.Steps.{are_all_claimed}
 use Rattle.link_roles.proofs.Linked.{any_narrower}
 use Rattle.child_start.proofs.Begun.{later_unstarted}
@@ -26,7 +26,7 @@ use Rattle.lone_rounds.proofs.Apart.{ended_on, ready_same}
 use Rattle.lone_rounds.proofs.Growing.{SaysStart, says_start}
 use Rattle.lone_rounds.proofs.Losing.{lost_both}
 use Rattle.lone_rounds.proofs.Nexts.{next_both, next_first}
-use Rattle.lone_rounds.proofs.Tests.{and_behind, any_none, any_same, children_up_to, count-append, count_none, neither_nor, offers_both}
+use Rattle.lone_rounds.proofs.Tests.{any_none, any_same, children_up_to, neither_nor, offers_both}
 use Rattle.lone_rounds.proofs.Unready.{and_true}
 use Rattle.pool_starts.specs.Slots.{AllInTurn, AreSpent, IsManned, StandsInTurn, are_spent, in_pool, is_first_start, offers_tags, spends}
 use Rattle.gathering.specs.Rounds.{IsAtRest}
@@ -36,10 +36,15 @@ use Rattle.job_rounds.specs.Posts.{AllPosted}
 use Rattle.job_rounds.specs.Starts.{JobStretch, JobsBetween}
 use Rattle.job_rounds.proofs.Desks.{desks_as_many, desks_join, desks_nothing, desks_on, have_both, have_none}
 use Rattle.job_rounds.proofs.Posting.{posted_both, posted_main}
-use Rattle.job_rounds.proofs.Shutting.{shut_open}
-use Rattle.job_rounds.proofs.Slots.{apart_pool, first_none, offers_of, pool_offers, turn_both}
+use Rattle.job_rounds.proofs.Slots.{apart_pool, first_none, offers_of, pool_offers}
 use Rattle.job_rounds.proofs.Spent.{all_spent_both, pool_spent}
 use Rattle.job_rounds.proofs.Stretching.{start_takes}
+use Rattle.std.proofs.lemmas.Bool.{ne_eqb as differ}
+use Rattle.ann_key.proofs.Numbers.{same_number as same}
+use Rattle.ann_key.proofs.Booleans.{or_neither as neither, or_left, or_right, and_assoc as and_behind}
+use Rattle.journal_model.proofs.Working.{count-append, count_none}
+use Rattle.pool_starts.proofs.Own.{shut_open}
+use Rattle.pool_starts.proofs.SlotLaws.{turn_both}
 
 -- ---- the numbers of the children
 

@@ -1,5 +1,5 @@
 -- Where no desk counted a fault and each task found what it should, each answer in the journal is a success, or says that no memory was found.
-use Rattle.std.proofs.Common.{◌≡◌, ◌∙◌, ◌⊎◌, inl, inr, ℕ, zero, suc, ◌+◌, ◌-◌, ◌^◌, ◌≤◌, ◌<◌, ◌==◌, Bool, true, false, cond, List, [], ◌∷◌, ◌++◌, length, refl, sym, ap, subst, arith, Some, None, Option, Ok}
+use Rattle.std.proofs.Common.{◌≡◌, ◌∙◌, ◌⊎◌, inl, inr, ℕ, ◌+◌, ◌-◌, ◌^◌, ◌≤◌, ◌<◌, ◌==◌, Bool, true, false, cond, List, [], ◌∷◌, ◌++◌, length, refl, sym, ap, subst, arith, Some, None, Option, Ok}
 use Rattle.std.specs.Prelude.{◌||◌, All, is_some, map, min}
 use Rattle.std.specs.List.{list_all, list_any, cons_option}
 use Rattle.std.proofs.lemmas.Bool.Decides.{nat_tests}
@@ -16,8 +16,8 @@ use Rattle.journal_model.specs.declared.opening.Opening.{Opening}
 use Rattle.journal_model.specs.Journal.{any}
 use Rattle.journal_model.specs.Legality.{answers, claims, is_of_lost_child, task_of, turn_of_task}
 use Rattle.journal_model.specs.Makers.{is_of_task}
-use Rattle.journal_model.proofs.Looks.{any-append, entry, same, same_number, true_not_false}
-use Rattle.journal_model.proofs.Testing.{by_either, or_left, or_right}
+use Rattle.journal_model.proofs.Looks.{any-append, entry}
+use Rattle.journal_model.proofs.Testing.{by_either}
 use Rattle.journal_model.proofs.Working.{tasks_kept}
 use Rattle.task_text.specs.declared.task.Task.{Task}
 use Rattle.task_text.specs.declared.task.Work.{Work}
@@ -36,6 +36,10 @@ use Rattle.job_rounds.specs.Completeness.{DesksFound, FindsWell, JobsComplete}
 use Rattle.job_rounds.specs.Desks.{AreDone, DesksDid, HasDesk, HaveDesks, IsTaskDone, claimed_for, claims_for, desk_of}
 use Rattle.job_rounds.proofs.NoneUnserved.{none_unserved}
 use Rattle.job_rounds.proofs.OneAnswer.{Stands, answered_once, only_one}
+use Rattle.task_laws.proofs.OneStore.{task_above as task_number}
+use Rattle.ann_key.proofs.Numbers.{same_number as same}
+use Rattle.std.proofs.lemmas.Bool.{eqb-true as same_number}
+use Rattle.ann_key.proofs.Booleans.{true_and_false as true_not_false, or_left, or_right}
 
 -- ---- counts
 
@@ -203,10 +207,6 @@ module _ (o : Opening) (setup : Setup) (limit : ℕ) (journal : List Entry) (sta
 stands_any : (p : What → Bool) (xs : List Entry) (w : What) → Stands xs w → p w ≡ true → any p xs ≡ true
 stands_any p xs w s h =
     ap (any p) s.is ∙ any-append p s.front (entry s.by w ∷ s.back) ∙ or_right (any p s.front) (p w || any p s.back) (or_left (p w) (any p s.back) h)
-
-task_number : (o : Opening) (t : ℕ) (task : Task) → task_of o t ≡ Some task → 0 < t
-task_number o zero task h = absurd cc
-task_number o (suc t) task h = omega arith
 
 -- A run that isn't to be run again is closed by its answer.
 run_stands : (journal : List Entry) (t : ℕ) (run : TaskStretch journal t) → run.renewed ≡ false → Stands journal (Answered t run.answer)

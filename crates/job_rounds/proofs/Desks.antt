@@ -1,5 +1,5 @@
 -- What the desks did, as the journal grows.
-use Rattle.std.proofs.Common.{◌≡◌, ℕ, ◌+◌, ◌<◌, List, [], ◌∷◌, ◌++◌, refl, sym, ap, subst, ◌∙◌, append_assoc, append-nil, true, false, ◌==◌, Some, None, Option, arith, inl, inr, length, suc}
+use Rattle.std.proofs.Common.{◌≡◌, ℕ, ◌+◌, ◌<◌, List, [], ◌∷◌, ◌++◌, refl, sym, ap, subst, ◌∙◌, append_assoc, append-nil, true, false, ◌==◌, None, Option, arith, inl, inr, length, suc}
 use Rattle.std.specs.List.{cons_option}
 use Rattle.ann_outside.specs.Calls.{Gained}
 use Rattle.journal_model.specs.declared.entry.What.{What}
@@ -10,7 +10,6 @@ use Rattle.journal_model.specs.Journal.{each_of}
 use Rattle.journal_model.specs.Legality.{count}
 use Rattle.journal_model.specs.Shares.{are_by}
 use Rattle.journal_model.proofs.Holding.{claimed}
-use Rattle.journal_model.proofs.Looks.{both, differ, same_number}
 use Rattle.task_run.specs.declared.setup.Setup.{Setup}
 use Rattle.lone_work.specs.Works.{DeskTells, RanFor, TaskDone, all_calls, turns_of}
 use Rattle.lone_work.proofs.Working.{calls_both, caused_both, run_lasts, turns_both}
@@ -22,12 +21,10 @@ use Rattle.lone_rounds.specs.Stints.{AllHaveRun, TasksDone}
 use Rattle.lone_rounds.proofs.Runs.{gained_more, gained_nothing}
 use Rattle.job_rounds.specs.Desks.{AreDone, DeskDid, DesksDid, HasDesk, HaveDesks, IsTaskDone, WorkerRun, claimed_for, claims_for, desk_of}
 use Rattle.job_rounds.proofs.Unserved.{unserved_lasts, zero_unserved}
+use Rattle.ann_key.proofs.Lists.{cons_append as cons_both}
+use Rattle.std.proofs.lemmas.Bool.{and_parts as both, ne_eqb as differ, eqb-true as same_number}
 
 -- ---- what is claimed for a desk
-
-cons_both : {A : Type 0} (x : Option A) (ys zs : List A) → cons_option x (ys ++ zs) ≡ cons_option x ys ++ zs
-cons_both None ys zs = refl
-cons_both (Some a) ys zs = refl
 
 pub claims_both : (k : ℕ) (past xs ys : List Entry) → claims_for k past (xs ++ ys) ≡ claims_for k past xs ++ claims_for k (past ++ xs) ys
 claims_both k past [] ys = ap (λ (p : List Entry). claims_for k p ys) (sym (append-nil past))

@@ -7,11 +7,9 @@ use Rattle.journal_model.specs.declared.verdict.Why.TheVariants.{Closed}
 use Rattle.journal_model.specs.declared.entry.Entry.{Entry}
 use Rattle.journal_model.specs.declared.opening.Opening.{Opening}
 use Rattle.journal_model.specs.Halves.{EarValue, MouthValue}
-use Rattle.journal_model.specs.Journal.{any, is_started, is_tagged, starts}
+use Rattle.journal_model.specs.Journal.{any, is_started, is_tagged}
 use Rattle.journal_model.specs.Legality.{Legal, may_stop}
 use Rattle.journal_model.specs.Shares.{is_of_child}
-use Rattle.journal_model.proofs.Looks.{any-append, both, differ}
-use Rattle.journal_model.proofs.Testing.{or_left}
 use Rattle.journal_model.proofs.Turns.{tagged_on}
 use Rattle.link_roles.specs.Alone.{Closes}
 use Rattle.link_roles.proofs.Roles.{all_right}
@@ -33,10 +31,9 @@ use Rattle.crew_rounds.specs.Outcomes.{IfDone, IfKept}
 use Rattle.crew_rounds.specs.Tagged.{TaggedCan}
 use Rattle.job_rounds.specs.Servings.{CanBeServed, ServesAlone}
 use Rattle.job_rounds.proofs.RoundDid.{in_range}
-use Rattle.job_rounds.proofs.Shutting.{rest_shut}
-
-pub started_then : (past more : List Entry) (c : ℕ) → is_started past c ≡ true → is_started (past ++ more) c ≡ true
-started_then past more c h = any-append (starts c) past more ∙ or_left (is_started past c) (is_started more c) h
+use Rattle.gathering.proofs.Laboring.{started_lasts as started_then}
+use Rattle.std.proofs.lemmas.Bool.{and_parts as both, ne_eqb as differ}
+use Rattle.pool_starts.proofs.Own.{rest_shut}
 
 -- entries of numbers from 1 on, of which the main thread made all that is of the child: none is
 none_of_mains : (c m : ℕ) (xs : List Entry) → list_all (λ (e : Entry). list_any (λ (n : ℕ). n == e.by) (range_with_len 1 m)) xs ≡ true

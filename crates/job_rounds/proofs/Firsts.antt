@@ -27,8 +27,9 @@ use Rattle.job_rounds.specs.Pools.{IsLinkLeft, LeavesPool, PoolServed}
 use Rattle.job_rounds.specs.Servings.{CanBeServed, FirstServed, Serves, ServesUnless, Starved, plainly}
 use Rattle.job_rounds.specs.Starts.{RunLacksMemory, OneJobStart, StartsAll}
 use Rattle.job_rounds.proofs.PoolEnding.{closes_alone, laid_alone, roomless_pool, starved_ends}
-use Rattle.job_rounds.proofs.PoolStretch.{Asked, all_told, asked_so, its_objects, none_started, pool_next, pool_start, stays_so, untagged_start}
+use Rattle.job_rounds.proofs.PoolStretch.{Asked, all_told, asked_so, its_objects, none_started, pool_next, pool_start, untagged_start}
 use Rattle.job_rounds.proofs.Rounding.{served_start}
+use Rattle.job_rounds.proofs.PoolLinks.{stays_same as stays_so}
 
 -- ---- the wire of one child
 
@@ -136,10 +137,6 @@ module _ (o : Opening) (setup : Setup) (limit : ℕ) (offer tagged : Bool) (old 
 
   pub first_err : (whole : Bool) → whole ≡ false → FirstServed W o setup limit program g new desks desks' whole ear mouth mid last wires wires' → RunLacksMemory o setup limit offer program old new desks desks' before last wires wires'
   first_err whole e f = lacking (subst (λ (b : Bool). FirstServed W o setup limit program g new desks desks' b ear mouth mid last wires wires') e f)
-
--- an answer that is Ok is no Err
-pub ok_no_err : {A B : Type 0} (r : Result A B) (a : A) → r ≡ Ok a → IsErr r → ⊥
-ok_no_err {A} {B} r a e h = (let bad : false ≡ true = subst (λ (x : Result A B). IsErr x) e h in absurd cc)
 
 -- ---- whoever did the tasks
 

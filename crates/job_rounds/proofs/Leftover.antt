@@ -10,7 +10,7 @@ use Rattle.journal_model.specs.declared.opening.Opening.{Opening}
 use Rattle.journal_model.specs.Journal.{any, is_ended, offers, open_jobs}
 use Rattle.journal_model.specs.Legality.{Legal, count, is_busy, is_start, turn_of_task}
 use Rattle.journal_model.specs.Shares.{are_by, is_of_child}
-use Rattle.journal_model.proofs.Looks.{any-append, each_of-append, either_left}
+use Rattle.journal_model.proofs.Looks.{any-append, each_of-append}
 use Rattle.journal_model.proofs.Testing.{all-each, all-join}
 use Rattle.child_start.proofs.Jobs.{idle_on}
 use Rattle.child_end.specs.Programs.{ProgramsValue}
@@ -28,10 +28,10 @@ use Rattle.lone_rounds.proofs.Leaving.{kept_still}
 use Rattle.lone_rounds.proofs.Losing.{lost_both, lost_tasks, loses_task}
 use Rattle.lone_rounds.proofs.Nexts.{is_quiet, next_both, next_quiet}
 use Rattle.lone_rounds.proofs.Runs.{IsOfNoCall, gained_nothing}
-use Rattle.lone_rounds.proofs.Tests.{any_same, children_up_to, count-append, count_none, no_children, offers_both, offers_none}
+use Rattle.lone_rounds.proofs.Tests.{any_same, children_up_to, no_children, offers_both, offers_none}
 use Rattle.lone_rounds.proofs.Turns.{claim_takes, none_fails}
 use Rattle.lone_rounds.proofs.Zeros.{left_still, rests_one}
-use Rattle.pool_starts.proofs.SlotLaws.{LeavesClaimed, leaves_claimed, leaves_front}
+use Rattle.pool_starts.proofs.SlotLaws.{LeavesClaimed, leaves_claimed, leaves_front, turn_both, turn_where as turn_manned}
 use Rattle.pool_starts.specs.Slots.{AllInTurn, AreSpent, IsManned, are_spent, is_first_start}
 use Rattle.job_rounds.specs.Desks.{DeskDid, DesksDid, HaveDesks}
 use Rattle.job_rounds.specs.Posts.{AllPosted}
@@ -40,9 +40,11 @@ use Rattle.job_rounds.specs.Starts.{JobsBetween}
 use Rattle.job_rounds.proofs.Between.{few_of}
 use Rattle.job_rounds.proofs.Desks.{desks_first, desks_join, desks_on, did_join, did_nothing, have_both, have_main, main_claims}
 use Rattle.job_rounds.proofs.Posting.{posted_both, posted_main}
-use Rattle.job_rounds.proofs.Shutting.{unasked}
-use Rattle.job_rounds.proofs.Slots.{manned_still, turn_both, turn_manned}
+use Rattle.job_rounds.proofs.Slots.{manned_still}
 use Rattle.job_rounds.proofs.Spent.{all_spent_both}
+use Rattle.ann_key.proofs.Booleans.{left_false as either_left}
+use Rattle.journal_model.proofs.Working.{count-append, count_none}
+use Rattle.pool_starts.proofs.Own.{unasked}
 
 -- ---- what they are not
 

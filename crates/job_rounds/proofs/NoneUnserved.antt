@@ -8,9 +8,9 @@ use Rattle.journal_model.specs.declared.verdict.Verdict.{Verdict}
 use Rattle.journal_model.specs.declared.verdict.Why.{Why}
 use Rattle.journal_model.specs.declared.verdict.Why.TheVariants.{Closed}
 use Rattle.journal_model.specs.declared.entry.What.{What}
-use Rattle.journal_model.specs.declared.entry.What.TheVariants.{Claim, Start, NoStart, Mute, End, Verdict as Settled, Answer as Answered}
+use Rattle.journal_model.specs.declared.entry.What.TheVariants.{Claim, Start, NoStart, End, Verdict as Settled, Answer as Answered}
 use Rattle.journal_model.specs.declared.entry.Entry.{Entry}
-use Rattle.journal_model.specs.Journal.{any, each_of, first_of, ends, mutes, is_mute, verdict_in, end_why, why_of}
+use Rattle.journal_model.specs.Journal.{any, each_of, first_of, ends, is_mute, verdict_in, end_why, why_of}
 use Rattle.journal_model.specs.Legality.{count, is_prepared}
 use Rattle.journal_model.specs.Shares.{is_closed}
 use Rattle.journal_model.proofs.Looks.{any-append}
@@ -18,32 +18,12 @@ use Rattle.task_run.specs.TaskRuns.{failed_start, refused_at, refusal_of}
 use Rattle.lone_rounds.specs.Starting.{children, is_spent, is_unclosed, up_to}
 use Rattle.lone_rounds.specs.Rounds.{ZeroAnswers, start_untaken}
 use Rattle.task_laws.specs.LoneWell.{ChildrenWell, is_muting, is_no_start, is_refusal, is_unclosed_end}
-use Rattle.task_laws.proofs.NoZero.{none_without_child}
+use Rattle.task_laws.proofs.NoZero.{none_without_child, before, none_mute}
 use Rattle.pool_starts.specs.Slots.{are_spent, is_first_start, is_lost, is_pool_spent, spends}
 use Rattle.job_rounds.specs.Unserved.{UnservedAnswers}
 use Rattle.job_rounds.specs.JobsWell.{NoneUnserved}
 
 -- ---- of the entries before a place
-
-before : (p : What → Bool) (xs ys : List Entry) → any p (xs ++ ys) ≡ false → any p xs ≡ false
-before p [] ys h = refl
-before p (x ∷ xs) ys h =
-    let parts = or_parts (p x.what) (any p (xs ++ ys)) h in
-    let one : p x.what ≡ false = parts.0 in
-    let rest : any p xs ≡ false = before p xs ys parts.1 in
-    rw (one, rest) refl
-
-none_mute : (past : List Entry) (c : ℕ) → any is_muting past ≡ false → is_mute past c ≡ false
-none_mute [] c h = refl
-none_mute (e ∷ past) c h =
-    let parts = or_parts (is_muting e.what) (any is_muting past) h in
-    let one : mutes c e.what ≡ false = by_what e.what parts.0 in
-    let rest : is_mute past c ≡ false = none_mute past c parts.1 in
-    rw (one, rest) refl
-  where
-    by_what : (w : What) → is_muting w ≡ false → mutes c w ≡ false
-    by_what (Mute child) k = absurd cc
-    by_what w k = refl
 
 closed_not : (why : Why) → not (is_closed why) ≡ false → is_unclosed (Some why) ≡ false
 closed_not Closed h = refl

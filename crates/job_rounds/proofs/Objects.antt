@@ -1,9 +1,8 @@
 -- The wires and the programs of a run, as its journal grows by a start of slot 0 and those of its pool.
-use Rattle.std.proofs.Common.{◌≡◌, ℕ, suc, ◌+◌, ◌≤◌, List, [], ◌∷◌, ◌++◌, refl, sym, ap, subst, ◌∙◌, length, length-append, Bool, true, false, Some, None, Option, arith}
+use Rattle.std.proofs.Common.{◌≡◌, ℕ, suc, ◌+◌, ◌≤◌, List, [], ◌∷◌, ◌++◌, refl, sym, ap, subst, ◌∙◌, length, false, Some, None, Option, arith}
 use Rattle.std.specs.Prelude.{◌-◌, ◌^◌, filter, min}
 use Rattle.std.specs.List.{cons_option}
-use Rattle.ann_outside.specs.Starts.{Starts, IsNumbered}
-use Rattle.ann_outside.specs.Causes.{AddsOne}
+use Rattle.ann_outside.specs.Starts.{Starts}
 use Rattle.journal_model.specs.declared.entry.What.{What}
 use Rattle.journal_model.specs.declared.entry.What.TheVariants.{Start, NoStart}
 use Rattle.journal_model.specs.declared.entry.Entry.{Entry}
@@ -13,38 +12,21 @@ use Rattle.journal_model.specs.Shares.{is_of_child}
 use Rattle.journal_model.proofs.Looks.{each_of-append}
 use Rattle.link_roles.proofs.Linked.{any_narrower}
 use Rattle.child_end.specs.Programs.{AddsAll, ProgramsValue, RoseBy, is_failed_start, told, told_in}
-use Rattle.child_end.specs.Wires.{IsOfStart, WireValue, came, came_in}
+use Rattle.child_end.specs.Wires.{WireValue, came, came_in}
 use Rattle.lone_rounds.specs.Starting.{is_any_start}
 use Rattle.lone_rounds.specs.Stints.{AreLinked, AreUpTo, IsLinked, Kept, StartsOne, main_entry}
-use Rattle.lone_rounds.proofs.Leaving.{adds_both, linked_both, linked_on, none_told, rose_both}
-use Rattle.lone_rounds.proofs.Tests.{count-append, count_none, none_came}
+use Rattle.lone_rounds.proofs.Leaving.{adds_both, linked_both, linked_on, none_told, rose_both, failed_start_is, as_many}
+use Rattle.lone_rounds.proofs.Tests.{none_came}
 use Rattle.job_rounds.specs.Starts.{StartsAll}
+use Rattle.pool_starts.proofs.Seating.{shifted}
+use Rattle.journal_model.proofs.Working.{count-append, count_none}
 
 -- ---- counts of faults
 
 pub rose_later : (n a b c : ℕ) → a ≤ b → RoseBy n b c → RoseBy n a c
 rose_later n a b c h r = (let x : min (b + n) (2 ^ 64 - 1) ≤ c = r in omega (arith, h, x))
 
-pub failed_start_is : (w : What) → is_failed_start w ≡ true → is_any_start w ≡ true
-failed_start_is (NoStart slot) h = refl
-failed_start_is w h = absurd cc
-
 -- ---- the numbers of starts
-
-pub of_start : (old new : Option Starts) (x : List ℕ × Bool) (n : Option ℕ) → AddsOne old new x → IsNumbered new n → IsOfStart old 1 n
-of_start old new x None a h = tt
-of_start None new x (Some n) a h = tt
-of_start (Some xs) None x (Some n) a h = absurd a
-of_start (Some xs) (Some ys) x (Some n) a h = h ∙ ap (λ (zs : Starts). length zs) a ∙ length-append xs (x ∷ [])
-
--- a start after those that were told
-shifted : (old mid : Option Starts) (told_so : Starts) (k at : ℕ) (n : Option ℕ) → AddsAll old mid told_so → length told_so ≡ k → IsOfStart mid at n → IsOfStart old (at + k) n
-shifted old mid told_so k at None a e h = tt
-shifted None mid told_so k at (Some n) a e h = tt
-shifted (Some xs) None told_so k at (Some n) a e h = absurd a
-shifted (Some xs) (Some ys) told_so k at (Some n) a e h =
-    let many = ap (λ (zs : Starts). length zs) a ∙ length-append xs told_so in
-    omega (arith, h, many, e)
 
 one_shifted : (old mid : Option Starts) (told_so : Starts) (journal : List Entry) (k at : ℕ) (wire : WireValue) → AddsAll old mid told_so → length told_so ≡ k → IsLinked mid journal at wire → IsLinked old journal (at + k) wire
 one_shifted old mid told_so journal k at wire a e l = record {
@@ -69,15 +51,6 @@ linked_shifted old mid told_so journal k a e at (Some c ∷ cs) (w ∷ ws) h =
     )
 
 -- ---- told and came
-
-as_many : (program : List ℕ) (journal : List Entry) → length (told program journal) ≡ length (came journal)
-as_many program [] = refl
-as_many program (e ∷ journal) = go e.what (as_many program journal)
-  where
-    go : (w : What) → length (told program journal) ≡ length (came journal) → length (cons_option (told_in program w) (told program journal)) ≡ length (cons_option (came_in w) (came journal))
-    go (Start child slot offer) r = ap (λ (n : ℕ). suc n) r
-    go (NoStart slot) r = ap (λ (n : ℕ). suc n) r
-    go w r = r
 
 -- ---- one start alone
 

@@ -1,7 +1,7 @@
 -- A task is answered once.
 use Rattle.std.proofs.Common.{◌≡◌, ℕ, ◌+◌, ◌≤◌, List, [], ◌∷◌, ◌++◌, refl, sym, ap, subst, ◌∙◌, Bool, true, false, not, cond, length, length-append, arith}
 use Rattle.std.specs.Prelude.{◌&&◌, ◌||◌, filter}
-use Rattle.std.proofs.lemmas.Bool.{or_parts}
+use Rattle.std.proofs.lemmas.Bool.{or_parts, eqb-true as same_number}
 use Rattle.std.proofs.lemmas.List.Elements.{filter-append}
 use Rattle.journal_model.specs.declared.entry.What.{What}
 use Rattle.journal_model.specs.declared.entry.What.TheVariants.{Answer as Answered}
@@ -13,10 +13,9 @@ use Rattle.journal_model.specs.Legality.{Legal, answers, count, holder, is_busy,
 use Rattle.journal_model.specs.Makers.{is_of_task}
 use Rattle.journal_model.proofs.Growing.{Near, Legal-induction}
 use Rattle.journal_model.proofs.Holding.{closing_claims, held_busy, held_near}
-use Rattle.journal_model.proofs.Looks.{entry, same_number}
+use Rattle.journal_model.proofs.Looks.{entry}
 use Rattle.journal_model.proofs.Testing.{by_either}
-use Rattle.journal_model.proofs.Working.{count-append, due_untasked}
-use Rattle.lone_rounds.proofs.Tests.{count_none}
+use Rattle.journal_model.proofs.Working.{count-append, due_untasked, count_none}
 
 -- the entry stands among these
 pub record Stands (xs : List Entry) (w : What) : Type 0 where

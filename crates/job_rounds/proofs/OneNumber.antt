@@ -9,8 +9,7 @@ use Rattle.journal_model.specs.declared.entry.What.TheVariants.{End, Verdict as 
 use Rattle.journal_model.specs.declared.entry.Entry.{Entry}
 use Rattle.journal_model.specs.Journal.{is_tagged}
 use Rattle.journal_model.specs.Shares.{by_link, is_closed, is_memory}
-use Rattle.journal_model.proofs.Looks.{both, differ, same_number}
-use Rattle.journal_model.proofs.Testing.{all-split, by_either, or_left, or_right}
+use Rattle.journal_model.proofs.Testing.{all-split, by_either}
 use Rattle.link_roles.proofs.Linked.{ear_links, mouth_links}
 use Rattle.gathering.specs.Posts.{Ear, Ender, Idle, Lone, Mouth, Worker, gives_up, makes, serves, works}
 use Rattle.job_rounds.specs.PostLaws.{HasOneNumber}
@@ -18,6 +17,8 @@ use Rattle.job_rounds.specs.Posts.{AllPosted, PostedOver, is_paired, names, post
 use Rattle.job_rounds.proofs.Pairing.{serves_names}
 use Rattle.job_rounds.proofs.Since.{since_more}
 use Rattle.job_rounds.proofs.Unpaired.{posted_at}
+use Rattle.std.proofs.lemmas.Bool.{and_parts as both, ne_eqb as differ, eqb-true as same_number}
+use Rattle.ann_key.proofs.Booleans.{or_left, or_right}
 
 -- ---- what a post makes, a worker that has the child for itself may make too
 

@@ -3,25 +3,23 @@ use Rattle.std.proofs.Common.{◌≡◌, ℕ, ◌+◌, ◌-◌, ◌<◌, List, [
 use Rattle.std.specs.Prelude.{◌&&◌, All, slice_get}
 use Rattle.std.specs.List.{list_all}
 use Rattle.journal_model.specs.declared.entry.What.{What}
-use Rattle.journal_model.specs.declared.entry.What.TheVariants.{Claim, Start, Lead, Ask, Put, Sent, Mute, Got, End, Verdict as Settled, Lost}
+use Rattle.journal_model.specs.declared.entry.What.TheVariants.{Claim, Lead, Ask, Put, Sent, Mute, Got, End, Verdict as Settled, Lost}
 use Rattle.journal_model.specs.declared.entry.Entry.{Entry}
 use Rattle.journal_model.specs.Journal.{accepts_async, any, is_started, is_tagged, offers, starts, verdict_of}
 use Rattle.journal_model.specs.Shares.{are_by, is_closed}
-use Rattle.journal_model.proofs.Looks.{any-append, both, differ, entry, same_number}
-use Rattle.journal_model.proofs.Testing.{all-each, all-join, any-more, by_either, or_false, or_left, or_true}
+use Rattle.journal_model.proofs.Looks.{any-append, entry}
+use Rattle.journal_model.proofs.Testing.{all-each, all-join, any-more, by_either}
 use Rattle.gathering.specs.Laws.{Distinct, children_of}
 use Rattle.gathering.specs.Posts.{serves}
 use Rattle.gathering.specs.Rounds.{LinkValue}
 use Rattle.job_rounds.specs.Posts.{are_paired, is_paired, names, since_start}
 use Rattle.job_rounds.proofs.PoolPosts.{Posted, at_place}
-use Rattle.job_rounds.proofs.RoundDid.{equal_test}
 use Rattle.job_rounds.proofs.Since.{since_more}
+use Rattle.pool_starts.proofs.SlotLaws.{offered_starts as offer_starts}
+use Rattle.std.proofs.lemmas.Bool.{and_parts as both, ne_eqb as differ, eqb-true as same_number, eq-eqb as equal_test}
+use Rattle.ann_key.proofs.Booleans.{or_false, or_left, or_true}
 
 -- ---- a child that takes tags
-
-offer_starts : (c : ℕ) (w : What) → offers c w ≡ true → starts c w ≡ true
-offer_starts c (Start child slot offer) h = (both (child == c) offer h).0
-offer_starts c w h = absurd cc
 
 -- it was started
 pub tagged_started : (past : List Entry) (c : ℕ) → is_tagged past c ≡ true → is_started past c ≡ true

@@ -12,8 +12,7 @@ use Rattle.journal_model.specs.Halves.{EarValue, MouthValue}
 use Rattle.journal_model.specs.Journal.{any, asks, each_of, is_ended}
 use Rattle.journal_model.specs.Makers.{is_of_task}
 use Rattle.journal_model.specs.Shares.{are_by, is_closed, is_of_child}
-use Rattle.journal_model.proofs.Looks.{both, differ, same, same_number}
-use Rattle.journal_model.proofs.Testing.{all-each, all-join, by_either, or_right}
+use Rattle.journal_model.proofs.Testing.{all-each, all-join, by_either}
 use Rattle.journal_model.proofs.Working.{holder_apart}
 use Rattle.gathering.specs.Laws.{children_of}
 use Rattle.gathering.specs.Rounds.{IsAtRest, LinkValue}
@@ -29,8 +28,10 @@ use Rattle.lone_rounds.proofs.Tests.{any_none, each_none}
 use Rattle.pool_starts.specs.Pools.{changes_claim}
 use Rattle.pool_starts.specs.Slots.{in_pool}
 use Rattle.job_rounds.specs.PoolSteps.{ClosesAll}
-use Rattle.job_rounds.proofs.RoundDid.{equal_test}
-use Rattle.job_rounds.proofs.Shutting.{rest_shut, shut_open}
+use Rattle.std.proofs.lemmas.Bool.{and_parts as both, ne_eqb as differ, eqb-true as same_number, eq-eqb as equal_test}
+use Rattle.ann_key.proofs.Numbers.{same_number as same}
+use Rattle.ann_key.proofs.Booleans.{or_right}
+use Rattle.pool_starts.proofs.Own.{rest_shut, shut_open}
 
 -- ---- what closings append
 

@@ -28,11 +28,11 @@ use Rattle.job_rounds.specs.PoolSteps.{AreLaid, ClosesAll, RoundsPool, ServesFir
 use Rattle.job_rounds.specs.Posts.{since_start}
 use Rattle.job_rounds.specs.Servings.{CanBeServed}
 use Rattle.job_rounds.proofs.PoolClosings.{closes_held}
-use Rattle.job_rounds.proofs.PoolLinks.{link_same}
 use Rattle.job_rounds.proofs.PoolMiddle.{Middle, middle_alone, middle_none, middle_round}
 use Rattle.job_rounds.proofs.PoolTags.{later_ascend, seated_serving}
 use Rattle.job_rounds.proofs.PoolWhole.{pool_can, pool_low, pool_mains, pool_served, pool_untagged}
 use Rattle.job_rounds.proofs.PoolWires.{Settled, leaves_pool, wire_stays}
+use Rattle.pool_rounds.proofs.Backs.{links_still as link_same}
 
 -- a link for each seat that serves
 pub pool_serving : {wanted : Type 0} {whole : Bool} {o : Opening} {jobs : ℕ} {program : List ℕ} {old g : List Entry} {first : LinkValue} {before after : ProgramsValue} {seats : List SeatValue} {links : List LinkValue}

@@ -11,7 +11,6 @@ use Rattle.journal_model.specs.declared.verdict.Why.TheVariants.{Closed}
 use Rattle.journal_model.specs.Journal.{is_started}
 use Rattle.journal_model.specs.Legality.{may_stop}
 use Rattle.journal_model.specs.Shares.{is_of_child}
-use Rattle.journal_model.proofs.Looks.{differ}
 use Rattle.link_roles.specs.Alone.{Closes, KeepsLink}
 use Rattle.gathering.specs.Laws.{Distinct, children_of}
 use Rattle.gathering.specs.Rounds.{IsAtRest, LinkValue}
@@ -24,13 +23,14 @@ use Rattle.lone_rounds.proofs.Apart.{apart_in}
 use Rattle.lone_rounds.proofs.Stinting.{may_close}
 use Rattle.lone_rounds.proofs.Tests.{any_none}
 use Rattle.crew_rounds.specs.PoolChildren.{MayServe, PoolCan}
-use Rattle.pool_rounds.specs.Pool.{AreSameLinks}
 use Rattle.pool_starts.specs.Pools.{OverBy, SeatValue, Serves}
 use Rattle.job_rounds.specs.PoolSteps.{AreLaid, AreSettled, ClosesAll, serving}
-use Rattle.job_rounds.proofs.Ends.{started_then}
 use Rattle.job_rounds.proofs.PoolClosings.{Closings, closings, closings_calm}
 use Rattle.job_rounds.proofs.PoolMiddle.{ServedPart, served_part}
-use Rattle.job_rounds.proofs.Shutting.{rest_shut}
+use Rattle.ann_key.proofs.Lists.{no_items}
+use Rattle.std.proofs.lemmas.Bool.{ne_eqb as differ}
+use Rattle.gathering.proofs.Laboring.{started_lasts as started_then}
+use Rattle.pool_starts.proofs.Own.{rest_shut}
 
 -- ---- lists that are mapped
 
@@ -41,10 +41,6 @@ all_unmapped {X} P f (x ∷ xs) h = All-cons (λ (y : X). P (f y)) x xs (All-hea
 pub all_mapped : {X Y : Type 0} (P : Y → Type 0) (f : X → Y) → ((x : X) → P (f x)) → (xs : List X) → All P (map f xs)
 all_mapped P f h [] = All-nil P
 all_mapped P f h (x ∷ xs) = All-cons P (f x) (map f xs) (h x) (all_mapped P f h xs)
-
-pub link_same : (links : List LinkValue) → AreSameLinks links links
-link_same [] = tt
-link_same (l ∷ links) = (((refl, refl), (refl, refl)), link_same links)
 
 -- the first of a list, by its place
 pub first_of_all : {X : Type 0} (xs : List X) (x : X) → 0 < length xs → x ≡ slice_index_or xs 0 x → (rest : List X) × (xs ≡ x ∷ rest)
@@ -104,10 +100,6 @@ pub record Laying {W S L : Type 0} (value : W → WireValue) (seat : S → SeatV
   pub are : map value wires ≡ map value wires0 ++ done
   pub then : (more : List WireValue) → AreSettled (map seat (reverse seats)) (map link (reverse links)) more → AreSettled (map seat (reverse seats0)) (map link (reverse links0)) (done ++ more)
   pub fits : serving (map seat (reverse seats)) ≡ length links
-
-no_items : {X : Type 0} (xs : List X) → length xs ≡ 0 → xs ≡ []
-no_items [] e = refl
-no_items (x ∷ xs) e = absurd (let bad : ⊥ = omega (arith, e) in bad)
 
 module _ {W S L : Type 0} (value : W → WireValue) (seat : S → SeatValue) (link : L → LinkValue) where
   pub laying_begins : (seats seats0 : List S) (links links0 : List L) (wires : List W) → seats0 ≡ reverse seats → links0 ≡ reverse links → serving (map seat seats) ≡ length links

@@ -19,9 +19,9 @@ use Rattle.gathering.proofs.Turning.{turns_by-append}
 use Rattle.journal_model.specs.Shares.{are_by, is_of_child}
 use Rattle.journal_model.proofs.Idling.{asks_none, mains_ask}
 use Rattle.journal_model.proofs.Linking.{why_is_end, why_of-append}
-use Rattle.journal_model.proofs.Looks.{any-append, both, differ, either_left, is_asked, same_number}
+use Rattle.journal_model.proofs.Looks.{any-append, is_asked}
 use Rattle.journal_model.proofs.Projecting.{invariant}
-use Rattle.journal_model.proofs.Testing.{all-each, all-join, all-split, by_either, or_left, or_right}
+use Rattle.journal_model.proofs.Testing.{all-each, all-join, all-split, by_either}
 use Rattle.journal_model.proofs.Verdicts.{unasked_none}
 use Rattle.host_core.specs.Steps.{are_all_claimed, is_gone}
 use Rattle.link_roles.proofs.Linked.{any_narrower}
@@ -35,11 +35,11 @@ use Rattle.lone_work.specs.Works.{DeskTells, by_worker}
 use Rattle.lone_rounds.specs.Rounds.{AllLostWell, is_of_run}
 use Rattle.lone_rounds.specs.Starting.{is_any_start, is_unclosed}
 use Rattle.lone_rounds.specs.Stints.{HasServed, TasksDone, in_stint}
-use Rattle.lone_rounds.proofs.Apart.{apart_in, ended_unclosed, is_unclosed_end, link_unclosed, mute_on, no_start_in, unclosed_on}
+use Rattle.lone_rounds.proofs.Apart.{apart_in, ended_unclosed, is_unclosed_end, mute_on, no_start_in, unclosed_on}
 use Rattle.lone_rounds.proofs.Later.{late, late_from}
 use Rattle.lone_rounds.proofs.Losing.{lost_others, lost_tasks, loses_task}
 use Rattle.lone_rounds.proofs.Runs.{done_same, gained_nothing, worker_runs}
-use Rattle.lone_rounds.proofs.Served.{all_unclosed}
+use Rattle.lone_rounds.proofs.Served.{all_unclosed, worker_unclosed as worker_ends}
 use Rattle.lone_rounds.proofs.Stinting.{Closing, Part, closing, closing_claims, closing_loses, closing_part, closing_rests, of_closing, part_both, worker_loses, worker_part}
 use Rattle.lone_rounds.proofs.Tests.{any_none}
 use Rattle.crew_rounds.specs.PoolChildren.{MayServe, PoolCan}
@@ -54,9 +54,13 @@ use Rattle.job_rounds.proofs.Desks.{desks_main, desks_nothing, have_main}
 use Rattle.job_rounds.proofs.PoolPosts.{pool_asks, pool_claims, pool_desks, pool_within, start_is_mains}
 use Rattle.job_rounds.proofs.Pairing.{paired_first}
 use Rattle.job_rounds.proofs.Posting.{none_main, posted_main, posted_pool}
-use Rattle.job_rounds.proofs.PoolTags.{prepared_on, starts_offer, tag_stays}
+use Rattle.job_rounds.proofs.PoolTags.{starts_offer, tag_stays}
 use Rattle.job_rounds.proofs.RoundDid.{any_round_did, in_range, lost_unclosed}
-use Rattle.job_rounds.proofs.Shutting.{AreShut, rest_shut, shut_next, shut_open}
+use Rattle.job_rounds.proofs.Shutting.{AreShut, shut_next}
+use Rattle.std.proofs.lemmas.Bool.{and_parts as both, ne_eqb as differ, eqb-true as same_number}
+use Rattle.ann_key.proofs.Booleans.{left_false as either_left, or_left, or_right}
+use Rattle.gathering.proofs.Laboring.{prepared_lasts as prepared_on}
+use Rattle.pool_starts.proofs.Own.{rest_shut, shut_open}
 
 -- ---- a child that is lost
 
@@ -310,10 +314,6 @@ stint_pool first c w le h = go w h
     go (Answered task answer) k = refl
     go (Again task answer) k = refl
     go (Noted task chunk count) k = refl
-
-worker_ends : (c : ℕ) (w : What) → by_worker c w ≡ true → is_unclosed_end w ≡ true
-worker_ends c (End child why) h = link_unclosed c (End child why) h
-worker_ends c w h = refl
 
 -- ended after g, by entries of which none closes a child
 still_unclosed : (g more : List Entry) (c : ℕ) → list_all (λ (e : Entry). is_unclosed_end e.what) more ≡ true → (why_of g c ≡ Some Closed → ⊥) → why_of (g ++ more) c ≡ Some Closed → ⊥

@@ -12,7 +12,7 @@ use Rattle.journal_model.specs.Legality.{turn_of_task}
 use Rattle.gathering.specs.Tasks.{claimed_turn, turns_by}
 use Rattle.journal_model.specs.Shares.{is_closed}
 use Rattle.journal_model.proofs.Idling.{are_mains, asks_none}
-use Rattle.journal_model.proofs.Looks.{both, differ, either_left, either_right, entry, same_number}
+use Rattle.journal_model.proofs.Looks.{entry}
 use Rattle.gathering.specs.Laws.{children_of}
 use Rattle.gathering.specs.Posts.{Idle, is_mains, lone_post, makes, pool_crew, serves}
 use Rattle.gathering.specs.Rounds.{LinkValue}
@@ -23,7 +23,9 @@ use Rattle.lone_rounds.specs.Rounds.{is_of_run}
 use Rattle.lone_rounds.proofs.Later.{late}
 use Rattle.pool_starts.specs.Slots.{in_pool}
 use Rattle.job_rounds.specs.Desks.{HasDesk, HaveDesks, claimed_for, claims_for, desk_of}
-use Rattle.job_rounds.proofs.RoundDid.{equal_test, in_range, same_test}
+use Rattle.job_rounds.proofs.RoundDid.{in_range}
+use Rattle.std.proofs.lemmas.Bool.{and_parts as both, ne_eqb as differ, eqb-true as same_number, eq-eqb as equal_test}
+use Rattle.ann_key.proofs.Booleans.{left_false as either_left, right_false as either_right, same_test}
 
 -- ---- the post of a number
 

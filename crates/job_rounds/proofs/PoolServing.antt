@@ -18,16 +18,14 @@ use Rattle.task_run.specs.declared.setup.Setup.{Setup}
 use Rattle.lone_work.specs.Works.{CanWork, DeskTells}
 use Rattle.lone_rounds.specs.Stints.{HasServed}
 use Rattle.crew_round.specs.declared.slot.Refused.{Refused}
-use Rattle.crew_rounds.specs.declared.outcome.Outcome.{Outcome}
-use Rattle.crew_rounds.specs.declared.outcome.Outcome.TheVariants.{Done, NoMemory, NoThreads}
-use Rattle.crew_rounds.specs.Outcomes.{IfDone, IfKept}
 use Rattle.crew_rounds.specs.PoolChildren.{MayServe, PoolCan}
 use Rattle.pool_rounds.specs.Pool.{AreSameLinks, PoolLeaves}
 use Rattle.job_rounds.specs.PoolSteps.{ClosesAll, RoundsPool, ServesFirst, ServesLinks, ServesLinksUnless, ServesOne, ServesThen}
-use Rattle.job_rounds.proofs.Ends.{started_then}
 use Rattle.job_rounds.proofs.PoolClosings.{closes_held}
-use Rattle.job_rounds.proofs.PoolLinks.{all_mapped, all_unmapped, first_can, first_held, first_of_all, link_same}
+use Rattle.job_rounds.proofs.PoolLinks.{all_mapped, all_unmapped, first_can, first_held, first_of_all}
 use Rattle.job_rounds.proofs.PoolMiddle.{ServedPart, served_calm, served_part}
+use Rattle.gathering.proofs.Laboring.{started_lasts as started_then}
+use Rattle.pool_rounds.proofs.Backs.{links_still as link_same}
 
 -- ---- the first link
 
@@ -145,16 +143,6 @@ round_beside tells o setup g mid ls ms all used used' back others m many numbere
   many = length-map used tells ∙ many;
   round = subst (λ (k : ℕ). GoesOn g mid (λ rest. PoolLeaves o setup (range_with_len 1 (1 + k)) g rest ls ms (map tells used) (map tells used'))) numbered goes;
 }
-
-pub if_done : {P Q : Type 0} (x : Outcome) → (P → Q) → IfDone x P → IfDone x Q
-if_done Done f h = f h
-if_done NoMemory f h = tt
-if_done (NoThreads refused) f h = tt
-
-pub if_kept : {P Q : Type 0} (x : Outcome) → (P → Q) → IfKept x P → IfKept x Q
-if_kept Done f h = tt
-if_kept NoMemory f h = f h
-if_kept (NoThreads refused) f h = f h
 
 -- ---- where no round began: what was done then was done from before it
 

@@ -1,26 +1,22 @@
 -- A child of slot 0 that takes no tags: a pool is started after it and does tasks, and all are closed.
-use Rattle.std.proofs.Common.{◌≡◌, ◌⊎◌, ℕ, ◌+◌, ◌<◌, ◌≤◌, List, [], ◌∷◌, ◌++◌, refl, sym, ap, subst, ◌∙◌, append_assoc, append-nil, length, Bool, true, false, not, ◌==◌, cond, Some, None, Option, arith, inl, inr}
+use Rattle.std.proofs.Common.{◌≡◌, ◌⊎◌, ℕ, ◌+◌, ◌≤◌, List, [], ◌∷◌, ◌++◌, refl, sym, ap, subst, ◌∙◌, append_assoc, append-nil, length, Bool, true, false, not, ◌==◌, cond, Some, None, Option, arith, inl, inr}
 use Rattle.std.specs.Prelude.{◌&&◌, ◌||◌, filter, nat_le, option_and_then, option_map}
 use Rattle.std.specs.List.{cons_option, last_or, list_all, list_any}
 use Rattle.std.specs.Option.{option_or}
 use Rattle.std.proofs.lemmas.List.Folds.{list_all-append}
 use Rattle.ann_outside.specs.Starts.{Starts}
-use Rattle.ann_outside.specs.Causes.{AddsOne, Stays}
-use Rattle.annex_model.specs.Messages.{remote_reading}
-use Rattle.annex_model.specs.Tags.{names_async}
+use Rattle.ann_outside.specs.Causes.{AddsOne}
 use Rattle.journal_model.specs.declared.verdict.Verdict.{Verdict}
-use Rattle.journal_model.specs.declared.verdict.Verdict.TheVariants.{Done as DoneAt}
 use Rattle.journal_model.specs.declared.entry.What.{What}
 use Rattle.journal_model.specs.declared.entry.What.TheVariants.{Claim, Start, NoStart}
 use Rattle.journal_model.specs.declared.entry.Entry.{Entry}
 use Rattle.journal_model.specs.declared.opening.Opening.{Opening}
 use Rattle.journal_model.specs.Halves.{EarValue, MouthValue}
-use Rattle.journal_model.specs.Journal.{accepts_async, any, each_of, got_line, is_ended, is_settled, is_tagged, offers, open_jobs, verdict_of}
+use Rattle.journal_model.specs.Journal.{accepts_async, any, each_of, is_ended, is_settled, is_tagged, offers, open_jobs, verdict_of}
 use Rattle.journal_model.specs.Legality.{Legal, count, is_done, is_start, prepares}
-use Rattle.journal_model.proofs.Looks.{any-append, both, each_of-append, either_left, unsettled, verdict_of-append}
+use Rattle.journal_model.proofs.Looks.{any-append, each_of-append, unsettled, verdict_of-append}
 use Rattle.journal_model.proofs.Projecting.{invariant}
-use Rattle.journal_model.proofs.Replying.{slice_get-left}
-use Rattle.journal_model.proofs.Testing.{all-join, neither, or_false, or_left}
+use Rattle.journal_model.proofs.Testing.{all-join}
 use Rattle.host_core.specs.Steps.{are_all_claimed}
 use Rattle.link_roles.proofs.Linked.{any_narrower}
 use Rattle.child_start.specs.Greetings.{AreNumbered, Greeted, IsReady, is_of_greeting}
@@ -33,23 +29,31 @@ use Rattle.lone_rounds.specs.Starting.{children, is_any_start, is_ready_untagged
 use Rattle.lone_rounds.specs.Rounds.{AllLostWell, AllStandNext, NoneUntaken, StandsNext, is_of_run, start_untaken, turn_of}
 use Rattle.lone_rounds.specs.Stints.{AreLinked, MayHaveAsked, in_stint, main_entry}
 use Rattle.lone_rounds.proofs.Apart.{no_start_in}
-use Rattle.lone_rounds.proofs.Leaving.{adds_both, adds_one, none_told}
+use Rattle.lone_rounds.proofs.Leaving.{adds_both, adds_one, none_told, failed_start_is, of_start}
 use Rattle.lone_rounds.proofs.Losing.{greeted_next, lost_both, lost_greeting}
 use Rattle.lone_rounds.proofs.Nexts.{next_both, next_quiet}
-use Rattle.lone_rounds.proofs.Stinting.{greeting_part, greeting_claims_none, quiet_greeting}
-use Rattle.lone_rounds.proofs.Tests.{any_none, count-append, count_none, each_none, no_children, none_came}
+use Rattle.lone_rounds.proofs.Stinting.{greeting_part, greeting_claims_none, quiet_greeting, all_in}
+use Rattle.lone_rounds.proofs.Tests.{any_none, each_none, no_children, none_came}
 use Rattle.pool_starts.specs.Slots.{AllInTurn, begins_by_start, has_pool, in_pool, is_first_start, is_lost, is_unclaimed_since, last_slot, offers_tags, slot_of, spends}
 use Rattle.job_rounds.specs.Desks.{DesksDid, HaveDesks}
 use Rattle.job_rounds.specs.Pools.{LeavesPool, ServesPool}
 use Rattle.job_rounds.specs.Posts.{AllPosted}
 use Rattle.job_rounds.specs.Starts.{JobStretch, OneJobStart, StartsAll}
 use Rattle.job_rounds.proofs.Desks.{desks_join, desks_nothing, have_both, have_none}
-use Rattle.job_rounds.proofs.Objects.{failed_start_is, linked_shifted, of_start, rose_later}
+use Rattle.job_rounds.proofs.Objects.{linked_shifted, rose_later}
 use Rattle.job_rounds.proofs.Posting.{posted_both, posted_main}
-use Rattle.job_rounds.proofs.Shutting.{rest_shut}
-use Rattle.job_rounds.proofs.Slots.{first_none, new_slot, new_unclaimed, pool_of, stint_pool, turn_both}
-use Rattle.job_rounds.proofs.Spent.{lost_spends, prepared_on}
-use Rattle.job_rounds.proofs.Stretching.{all_in, greeting_turn, job_start, no_tags}
+use Rattle.job_rounds.proofs.Slots.{first_none, new_slot, new_unclaimed, pool_of, stint_pool}
+use Rattle.job_rounds.proofs.Spent.{lost_spends}
+use Rattle.job_rounds.proofs.Stretching.{greeting_turn, job_start}
+use Rattle.job_rounds.proofs.PoolLinks.{stays_same as stays_so}
+use Rattle.journal_model.proofs.Replying.{accepted}
+use Rattle.std.proofs.lemmas.Bool.{and_parts as both}
+use Rattle.ann_key.proofs.Booleans.{left_false as either_left, or_neither as neither, or_false, or_left}
+use Rattle.journal_model.proofs.Working.{count-append, count_none}
+use Rattle.pool_starts.proofs.Own.{rest_shut}
+use Rattle.pool_starts.proofs.SlotLaws.{turn_both}
+use Rattle.gathering.proofs.Laboring.{prepared_lasts as prepared_on}
+use Rattle.job_rounds.proofs.PoolWhole.{tags_start as no_tags}
 
 -- ---- what the last start came to
 
@@ -100,11 +104,6 @@ pool_untaken old later c n offer within ready = go (pool_turns n (Some (Some c))
     go (inr e) = ap (λ (x : Option Turn). failed_start begun (option_and_then (λ turn. turn) x)) (last_is ∙ e)
 
 -- ---- the child of slot 0
-
-accepted : (past more : List Entry) (v : Option Verdict) → ((at : ℕ) → v ≡ Some (DoneAt at) → at < length past) → accepts_async (past ++ more) v ≡ accepts_async past v
-accepted past more None h = refl
-accepted past more (Some (DoneAt at)) h = ap (λ (e : Option Entry). names_async (remote_reading (got_line e))) (slice_get-left past more at (h at refl))
-accepted past more (Some v) h = refl
 
 module _ (o : Opening) (g more : List Entry) (c : ℕ) (legal : Legal o g) (ready : IsReady g c) (idle : open_jobs g c ≡ []) (untagged : any offers_tags more ≡ false) where
   settled_first : is_settled g c 0 ≡ true
@@ -355,10 +354,6 @@ asked_after None None more x h = tt
 asked_after None (Some ys) more x h = absurd h
 asked_after (Some xs) None more x h = absurd h
 asked_after (Some xs) (Some ys) more x h = h ∙ sym (append_assoc xs more (x ∷ []))
-
-pub stays_so : (starts : Option Starts) → Stays starts starts
-stays_so None = tt
-stays_so (Some xs) = refl
 
 -- the programs, as they told the starts that were made
 pub record Asked (program : List ℕ) (journal : List Entry) (before after : ProgramsValue) : Type 0 where

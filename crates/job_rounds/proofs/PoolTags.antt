@@ -5,31 +5,29 @@ use Rattle.std.specs.List.{list_any, cons_option}
 use Rattle.std.specs.Option.{option_or}
 use Rattle.std.proofs.lemmas.List.Elements.{All-nil, All-cons, All-weaker}
 use Rattle.journal_model.specs.declared.verdict.Verdict.{Verdict}
-use Rattle.journal_model.specs.declared.verdict.Verdict.TheVariants.{Done as DoneAt}
 use Rattle.journal_model.specs.declared.entry.What.{What}
 use Rattle.journal_model.specs.declared.entry.What.TheVariants.{Start, NoStart, Ask}
 use Rattle.journal_model.specs.declared.entry.Entry.{Entry}
 use Rattle.journal_model.specs.declared.opening.Opening.{Opening}
-use Rattle.annex_model.specs.Messages.{remote_reading}
-use Rattle.annex_model.specs.Tags.{names_async}
 use Rattle.ann_outside.specs.Starts.{Starts}
-use Rattle.journal_model.specs.Journal.{accepts_async, any, asked_jobs, each_of, got_line, is_settled, is_started, is_tagged, offers, settles, starts, verdict_of}
+use Rattle.journal_model.specs.Journal.{accepts_async, any, asked_jobs, each_of, is_settled, is_tagged, offers, starts, verdict_of}
 use Rattle.journal_model.specs.Due.{due_after}
 use Rattle.journal_model.specs.Legality.{Legal, asks_prepare, count, is_done, is_greeted, is_prepared, is_start, may_come, prepares}
 use Rattle.journal_model.proofs.Growing.{Legal-induction}
 use Rattle.journal_model.proofs.Holding.{due_names}
-use Rattle.journal_model.proofs.Looks.{any-append, both, each_of-append, either_left, either_right, entry, same_number, unsettled, verdict_of-append}
+use Rattle.journal_model.proofs.Looks.{any-append, each_of-append, entry, unsettled, verdict_of-append}
 use Rattle.journal_model.proofs.Projecting.{invariant}
-use Rattle.journal_model.proofs.Replying.{slice_get-left}
-use Rattle.journal_model.proofs.Testing.{by_either, neither, or_left, or_right}
+use Rattle.journal_model.proofs.Testing.{by_either}
 use Rattle.child_end.specs.Wires.{came, came_in}
-use Rattle.child_start.proofs.Begun.{later_unstarted}
 use Rattle.gathering.specs.Rounds.{LinkValue}
 use Rattle.lone_rounds.specs.Starting.{children, is_any_start, started_in}
-use Rattle.lone_rounds.proofs.Tests.{or_false}
 use Rattle.pool_starts.specs.Pools.{AreSeated, OverBy, SeatValue, Serves}
 use Rattle.pool_starts.specs.Slots.{offers_tags}
 use Rattle.job_rounds.specs.PoolSteps.{serving}
+use Rattle.child_start.proofs.Jobs.{settled_on}
+use Rattle.journal_model.proofs.Replying.{accepted}
+use Rattle.std.proofs.lemmas.Bool.{and_parts as both, eqb-true as same_number}
+use Rattle.ann_key.proofs.Booleans.{left_false as either_left, right_false as either_right, or_left, or_right, or_false}
 
 -- ---- job 0 of a prepared child is settled
 
@@ -65,9 +63,6 @@ asks_behind o past by c (Ask child job task line) may is =
     subst (λ (d : ℕ). is_settled past d 0 ≡ true) (same_number child c mine.0) here
 asks_behind o past by c w may is = absurd cc
 
-settled_on : (past more : List Entry) (c j : ℕ) → is_settled past c j ≡ true → is_settled (past ++ more) c j ≡ true
-settled_on past more c j h = any-append (settles c j) past more ∙ or_left (is_settled past c j) (is_settled more c j) h
-
 prepared_behind : (o : Opening) (journal : List Entry) → Legal o journal → (c : ℕ) → any (prepares c) journal ≡ true → is_settled journal c 0 ≡ true
 prepared_behind o journal l =
     Legal-induction o (λ past. (c : ℕ) → any (prepares c) past ≡ true → is_settled past c 0 ≡ true) (λ c h. absurd cc) (λ past e legal before may. step past e.by e.what before may) journal l
@@ -84,11 +79,6 @@ prepared_behind o journal l =
         go false x false y d z k = absurd (let bad : true ≡ false = sym k ∙ z in cc)
 
 -- ---- a prepared child stays so, and tagged or not
-
-accepted : (past more : List Entry) (v : Option Verdict) → ((at : ℕ) → v ≡ Some (DoneAt at) → at < length past) → accepts_async (past ++ more) v ≡ accepts_async past v
-accepted past more None h = refl
-accepted past more (Some (DoneAt at)) h = ap (λ (e : Option Entry). names_async (remote_reading (got_line e))) (slice_get-left past more at (h at refl))
-accepted past more (Some v) h = refl
 
 pub tag_stays : (o : Opening) (past more : List Entry) (c : ℕ) → Legal o past → is_prepared past c ≡ true → any (offers c) more ≡ false → is_tagged (past ++ more) c ≡ is_tagged past c
 tag_stays o past more c legal ready none =
@@ -108,17 +98,6 @@ tag_stays o past more c legal ready none =
 
     unoffered : any (offers c) (past ++ more) ≡ any (offers c) past
     unoffered = any-append (offers c) past more ∙ ap (λ (b : Bool). any (offers c) past || b) none ∙ or_false (any (offers c) past)
-
-done_more : (v w : Option Verdict) → is_done v ≡ true → is_done (option_or v w) ≡ true
-done_more None w h = absurd cc
-done_more (Some v) w h = h
-
-pub prepared_on : (past more : List Entry) (c : ℕ) → is_prepared past c ≡ true → is_prepared (past ++ more) c ≡ true
-prepared_on past more c h =
-    let t = both (is_done (verdict_of past c 1)) (any (prepares c) past) h in
-    let done : is_done (verdict_of (past ++ more) c 1) ≡ true = ap is_done (verdict_of-append c 1 past more) ∙ done_more (verdict_of past c 1) (verdict_of more c 1) t.0 in
-    let asked : any (prepares c) (past ++ more) ≡ true = any-append (prepares c) past more ∙ or_left (any (prepares c) past) (any (prepares c) more) t.1 in
-    rw (done, asked) refl
 
 -- ---- what is not offered
 
@@ -141,21 +120,6 @@ tags_offer (e ∷ xs) c h = rw (one e.what (either_left (offers_tags e.what) (an
         go true b e = e
         go false b e = refl
     one w k = refl
-
--- a child that wasn't started was offered nothing
-unstarted_offer : (xs : List Entry) (c : ℕ) → is_started xs c ≡ false → any (offers c) xs ≡ false
-unstarted_offer [] c h = refl
-unstarted_offer (e ∷ xs) c h = rw (one e.what (either_left (starts c e.what) (is_started xs c) h), unstarted_offer xs c (either_right (starts c e.what) (is_started xs c) h)) refl
-  where
-    one : (w : What) → starts c w ≡ false → offers c w ≡ false
-    one (Start child slot offer) k = ap (λ (b : Bool). b && offer) k
-    one w k = refl
-
--- a child of a later start, none of which offers ASYNC, takes no tags
-pub later_untagged : (o : Opening) (old more : List Entry) (c : ℕ) → Legal o old → count is_start old < c → any offers_tags more ≡ false → is_tagged (old ++ more) c ≡ false
-later_untagged o old more c legal far none =
-    ap (λ (b : Bool). b && accepts_async (old ++ more) (verdict_of (old ++ more) c 0))
-    (any-append (offers c) old more ∙ neither (any (offers c) old) (any (offers c) more) (unstarted_offer old c (later_unstarted o old legal c far)) (tags_offer more c none))
 
 -- ---- children have their numbers in turn
 

@@ -12,8 +12,8 @@ use Rattle.journal_model.specs.declared.opening.Opening.{Opening}
 use Rattle.journal_model.specs.Journal.{any, each_of, is_ended, is_started, is_tagged}
 use Rattle.journal_model.specs.Legality.{Legal, count, is_prepared, is_start}
 use Rattle.journal_model.specs.Shares.{are_by}
-use Rattle.journal_model.proofs.Looks.{any-append, both, each_of-append, same_number}
-use Rattle.journal_model.proofs.Testing.{all-each, all-join, any-more, by_either, neither, or_left, or_right}
+use Rattle.journal_model.proofs.Looks.{any-append, each_of-append}
+use Rattle.journal_model.proofs.Testing.{all-each, all-join, any-more, by_either}
 use Rattle.host_core.specs.Steps.{are_all_claimed}
 use Rattle.link_roles.proofs.Linked.{any_narrower}
 use Rattle.child_end.specs.Programs.{ProgramsValue}
@@ -32,7 +32,7 @@ use Rattle.lone_rounds.proofs.Tests.{claimed_same, each_without, no_children}
 use Rattle.crew_rounds.specs.PoolChildren.{MayServe, PoolCan}
 use Rattle.pool_starts.specs.Pools.{AreSeated, Gathered, SeatValue, is_among, changes_claim}
 use Rattle.pool_starts.specs.Slots.{AllInTurn, IsManned, in_pool, is_lost, offers_tags}
-use Rattle.pool_starts.proofs.SlotLaws.{IsFilled, LeavesClaimed, filled_on, leaves_claimed, turn_both, turn_filled, turn_quiet}
+use Rattle.pool_starts.proofs.SlotLaws.{IsFilled, LeavesClaimed, filled_on, leaves_claimed, turn_both, turn_filled, turn_quiet, pool_untagged as later_untagged}
 use Rattle.job_rounds.specs.Desks.{DesksDid, HaveDesks}
 use Rattle.job_rounds.specs.Pools.{LeavesPool, PoolServed}
 use Rattle.job_rounds.specs.PoolSteps.{ClosesAll}
@@ -42,13 +42,15 @@ use Rattle.job_rounds.proofs.Desks.{desks_join, desks_nothing, desks_on, have_bo
 use Rattle.job_rounds.proofs.PoolClosings.{Closings, closings, closings_calm, closings_ask, closings_claim, closings_close, closings_lose, closings_start, closings_take, closings_within}
 use Rattle.job_rounds.proofs.PoolMiddle.{Middle, lost_on}
 use Rattle.job_rounds.proofs.Posting.{posted_both, posted_main}
-use Rattle.job_rounds.proofs.PoolTags.{later_ascend, later_untagged, seated_above, seated_any, tag_stays, tags_offer}
+use Rattle.job_rounds.proofs.PoolTags.{later_ascend, seated_above, seated_any, tag_stays, tags_offer}
 use Rattle.job_rounds.proofs.Since.{since_main, since_more, since_new}
+use Rattle.std.proofs.lemmas.Bool.{and_parts as both, eqb-true as same_number}
+use Rattle.ann_key.proofs.Booleans.{or_neither as neither, or_left, or_right}
 
 -- ---- what is gathered
 
 -- a start that offers ASYNC is a start
-tags_start : (w : What) → offers_tags w ≡ true → is_any_start w ≡ true
+pub tags_start : (w : What) → offers_tags w ≡ true → is_any_start w ≡ true
 tags_start (Start child slot offer) h = refl
 tags_start w h = absurd cc
 

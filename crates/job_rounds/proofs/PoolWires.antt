@@ -10,7 +10,7 @@ use Rattle.journal_model.specs.Halves.{EarValue, MouthValue}
 use Rattle.journal_model.specs.Journal.{any}
 use Rattle.journal_model.specs.Legality.{count}
 use Rattle.journal_model.specs.Shares.{is_of_child}
-use Rattle.journal_model.proofs.Looks.{differ, each_of-append}
+use Rattle.journal_model.proofs.Looks.{each_of-append}
 use Rattle.link_roles.proofs.Linked.{any_narrower}
 use Rattle.child_end.specs.Programs.{AddsAll, HaveStarted, ProgramsValue, RoseBy, is_failed_start, told, told_in}
 use Rattle.child_end.specs.Wires.{IsHeld, IsLeft, IsOfStart, WireValue, came, came_in}
@@ -18,15 +18,16 @@ use Rattle.child_end.proofs.Held.{held_apart}
 use Rattle.gathering.specs.Rounds.{LinkValue}
 use Rattle.lone_rounds.specs.Starting.{is_any_start}
 use Rattle.lone_rounds.specs.Stints.{AreLinked, IsLinked, ear_of, mouth_of}
-use Rattle.lone_rounds.proofs.Leaving.{none_told, rose_still}
-use Rattle.lone_rounds.proofs.Tests.{count-append, count_none, none_came}
+use Rattle.lone_rounds.proofs.Leaving.{none_told, rose_still, failed_start_is}
+use Rattle.lone_rounds.proofs.Tests.{none_came}
 use Rattle.pool_rounds.specs.Pool.{AreSameLinks}
 use Rattle.pool_starts.specs.Pools.{AreSeated, OverBy, SeatValue, Serves}
 use Rattle.job_rounds.specs.Pools.{LeavesPool}
 use Rattle.job_rounds.specs.PoolSteps.{AreLaid, AreSettled, ClosesAll}
-use Rattle.job_rounds.proofs.Objects.{failed_start_is}
 use Rattle.job_rounds.proofs.PoolClosings.{closes_held}
 use Rattle.job_rounds.proofs.PoolTags.{Ascends, seated_above}
+use Rattle.std.proofs.lemmas.Bool.{ne_eqb as differ}
+use Rattle.journal_model.proofs.Working.{count-append, count_none}
 
 -- ---- the wire of a link
 

@@ -7,7 +7,6 @@ use Rattle.journal_model.specs.declared.entry.What.{What}
 use Rattle.journal_model.specs.declared.entry.Entry.{Entry}
 use Rattle.journal_model.specs.Journal.{any, is_tagged}
 use Rattle.journal_model.specs.Shares.{are_by}
-use Rattle.journal_model.proofs.Looks.{both, differ, either_left, either_right, same_number}
 use Rattle.gathering.specs.Laws.{Distinct, children_of}
 use Rattle.gathering.specs.Posts.{makes, pool_crew, serves, tagged_crew}
 use Rattle.gathering.specs.Rounds.{LinkValue}
@@ -16,6 +15,8 @@ use Rattle.job_rounds.specs.Posts.{AllPosted, are_paired, post_over}
 use Rattle.job_rounds.proofs.Pairing.{ArePaired, paired_on, tagged_started}
 use Rattle.job_rounds.proofs.PoolPosts.{Posted, are_posted, at_place, posted}
 use Rattle.job_rounds.proofs.RoundDid.{in_range}
+use Rattle.std.proofs.lemmas.Bool.{and_parts as both, ne_eqb as differ, eqb-true as same_number}
+use Rattle.ann_key.proofs.Booleans.{left_false as either_left, right_false as either_right}
 
 pub posted_both : (past xs ys : List Entry) → AllPosted past xs → AllPosted (past ++ xs) ys → AllPosted past (xs ++ ys)
 posted_both past [] ys h k = subst (λ (p : List Entry). AllPosted p ys) (append-nil past) k

@@ -18,8 +18,8 @@ use Rattle.journal_model.proofs.Growing.{Legal-induction}
 use Rattle.journal_model.proofs.Holding.{due_names}
 use Rattle.journal_model.proofs.Idling.{are_mains, asks_none, mains_ask}
 use Rattle.journal_model.proofs.Linking.{why_is_end}
-use Rattle.journal_model.proofs.Looks.{any-append, both, differ, either_left, either_right, entry, same, same_number, true_not_false}
-use Rattle.journal_model.proofs.Testing.{all-each, all-split, by_either, neither, or_left, or_right}
+use Rattle.journal_model.proofs.Looks.{any-append, entry}
+use Rattle.journal_model.proofs.Testing.{all-each, all-split, by_either}
 use Rattle.journal_model.proofs.Turns.{tagged_on}
 use Rattle.host_core.specs.Steps.{are_all_claimed}
 use Rattle.gathering.specs.Posts.{Ear, Ender, Mouth, Post, Worker, gives_up, is_mains, makes, tagged_crew, works}
@@ -38,6 +38,9 @@ use Rattle.lone_rounds.proofs.Later.{late, late_from}
 use Rattle.crew_rounds.specs.Crewing.{AllRun, DeskDid as CrewDid, DesksDid as CrewDesks}
 use Rattle.crew_rounds.specs.TaggedRounds.{TaggedLeaves}
 use Rattle.job_rounds.specs.Desks.{AreDone, DeskDid, DesksDid, HasDesk, HaveDesks, claimed_for, claims_for, desk_of}
+use Rattle.ann_key.proofs.Booleans.{same_test, left_false as either_left, right_false as either_right, true_and_false as true_not_false, or_neither as neither, or_right}
+use Rattle.std.proofs.lemmas.Bool.{eq-eqb as equal_test, and_parts as both, ne_eqb as differ, eqb-true as same_number}
+use Rattle.ann_key.proofs.Numbers.{same_number as same}
 
 -- ---- a tagged child has a number above 0
 
@@ -244,14 +247,6 @@ round_unclosed o crew numbers start rest r = all rest r.mains
     all (e ∷ xs) h = rw (one e.what (either_left (is_mains e.what) (any is_mains xs) h), all xs (either_right (is_mains e.what) (any is_mains xs) h)) refl
 
 -- ---- which desk
-
-pub same_test : (a b : Bool) → (a ≡ true → b ≡ true) → (b ≡ true → a ≡ true) → a ≡ b
-same_test true b f g = sym (f refl)
-same_test false true f g = g refl
-same_test false false f g = refl
-
-pub equal_test : (m n : ℕ) → m ≡ n → (m == n) ≡ true
-equal_test m n e = subst (λ (x : ℕ). (m == x) ≡ true) e (same m)
 
 -- the kth desk is that of number k + 3
 desk_is : (past : List Entry) (by c k : ℕ) → is_tagged past c ≡ true → 3 < by → (desk_of past by c == k) ≡ (by == k + 3)

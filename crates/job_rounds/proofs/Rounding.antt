@@ -8,7 +8,6 @@ use Rattle.journal_model.specs.declared.entry.Entry.{Entry}
 use Rattle.journal_model.specs.declared.opening.Opening.{Opening}
 use Rattle.journal_model.specs.Journal.{any, asked_jobs, each_of, is_tagged, open_jobs}
 use Rattle.journal_model.specs.Legality.{Legal, is_busy}
-use Rattle.journal_model.proofs.Looks.{both}
 use Rattle.journal_model.proofs.Testing.{all-join}
 use Rattle.host_core.specs.Steps.{are_all_claimed}
 use Rattle.gathering.specs.Posts.{makes, tagged_crew}
@@ -35,8 +34,9 @@ use Rattle.job_rounds.specs.Starts.{JobStretch, OneJobStart, StartsAll}
 use Rattle.job_rounds.proofs.Desks.{desks_join, desks_nothing, desks_on, have_both, have_none}
 use Rattle.job_rounds.proofs.Posting.{none_main, posted_both, posted_main, posted_tagged}
 use Rattle.job_rounds.proofs.RoundDid.{round_asks, round_desks, round_did, round_over, round_within}
-use Rattle.job_rounds.proofs.Shutting.{rest_shut}
 use Rattle.job_rounds.proofs.Stretching.{behind_first, closed_idle, job_start, more_than, served_idle, served_manned, served_turn, stint_job, stretch_job}
+use Rattle.std.proofs.lemmas.Bool.{and_parts as both}
+use Rattle.pool_starts.proofs.Own.{rest_shut}
 
 module _ (o : Opening) (setup : Setup) (limit : ℕ) (offer tagged : Bool) (old g new : List Entry) (c : ℕ) (desks desks' : List DeskTells)
     (legal : Legal o old) (left : are_all_claimed o old ≡ false) (greeted : Greeted old g 0 offer c) (legal' : Legal o g) (ready : IsReady g c) (tag : tagged ≡ is_tagged g c) (s : ServesRound o setup c g new desks desks') where

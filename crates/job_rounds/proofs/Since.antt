@@ -5,9 +5,11 @@ use Rattle.journal_model.specs.declared.entry.What.TheVariants.{Start}
 use Rattle.journal_model.specs.declared.entry.Entry.{Entry}
 use Rattle.journal_model.specs.Journal.{is_started, starts}
 use Rattle.journal_model.specs.Shares.{are_by}
-use Rattle.journal_model.proofs.Looks.{both, either_left, either_right, same}
 use Rattle.lone_rounds.specs.Stints.{main_entry}
 use Rattle.job_rounds.specs.Posts.{since_start}
+use Rattle.std.proofs.lemmas.Bool.{and_parts as both}
+use Rattle.ann_key.proofs.Booleans.{left_false as either_left, right_false as either_right}
+use Rattle.ann_key.proofs.Numbers.{same_number as same}
 
 pub since_more : (c : ℕ) (past more : List Entry) → is_started past c ≡ true → since_start c (past ++ more) ≡ since_start c past ++ more
 since_more c [] more h = absurd cc

@@ -1,5 +1,5 @@
 -- Starts in their slots: what stands after a start of slot 0, and what each place of it says of the turn.
-use Rattle.std.proofs.Common.{◌≡◌, ◌⊎◌, ℕ, zero, suc, ◌<◌, ◌≤◌, List, [], ◌∷◌, ◌++◌, refl, sym, ap, subst, ◌∙◌, append_assoc, append-nil, length, Bool, true, false, not, ◌==◌, Some, None, Option, cond, arith, inl, inr}
+use Rattle.std.proofs.Common.{◌≡◌, ◌⊎◌, ℕ, zero, suc, ◌<◌, List, [], ◌∷◌, ◌++◌, refl, sym, ap, ◌∙◌, length, Bool, true, false, not, ◌==◌, Some, None, Option, cond, arith, inl, inr}
 use Rattle.std.specs.Prelude.{◌&&◌, ◌||◌, nat_le, option_and_then, unwrap_or}
 use Rattle.std.specs.List.{cons_option, last_or, list_all, list_any}
 use Rattle.std.proofs.Math.Nat.{min-le_left}
@@ -11,8 +11,7 @@ use Rattle.journal_model.specs.declared.opening.Opening.{Opening}
 use Rattle.journal_model.specs.Journal.{any, each_of, offers}
 use Rattle.journal_model.specs.Shares.{is_of_child}
 use Rattle.journal_model.specs.Legality.{Legal}
-use Rattle.journal_model.proofs.Looks.{both, differ, each_of-append, either_left, either_right, same_number}
-use Rattle.journal_model.proofs.Testing.{or_left, or_right}
+use Rattle.journal_model.proofs.Looks.{each_of-append}
 use Rattle.host_core.specs.Steps.{unclaimed}
 use Rattle.lone_rounds.specs.Starting.{AllOffer, OffersWell, children, is_any_start, is_offered, is_ready_untagged, started_in}
 use Rattle.lone_rounds.specs.Stints.{in_stint, main_entry}
@@ -20,13 +19,11 @@ use Rattle.link_roles.proofs.Linked.{any_narrower}
 use Rattle.lone_rounds.proofs.Apart.{ready_same}
 use Rattle.lone_rounds.proofs.Tests.{each_none, each_without}
 use Rattle.pool_starts.specs.Slots.{AllInTurn, IsInSlot, IsManned, StandsInTurn, begins_by_start, first_in, has_pool, in_pool, is_first_start, is_ready_pool, is_unclaimed_since, last_slot, offers_tags, slot_of}
-use Rattle.pool_starts.proofs.SlotLaws.{LeavesClaimed, filled_on, first_same, last_first, none_first, pool_of as pool_is}
+use Rattle.pool_starts.proofs.SlotLaws.{LeavesClaimed, filled_on, first_same, last_first, none_first, pool_of as pool_is, unfirst as no_first_in}
+use Rattle.std.proofs.lemmas.Bool.{leb-true as at_least, and_parts as both, ne_eqb as differ, eqb-true as same_number}
+use Rattle.ann_key.proofs.Booleans.{left_false as either_left, right_false as either_right, or_left, or_right}
 
 -- ---- what stands after a start of slot 0
-
--- at least this number
-at_least : (n child : ℕ) → nat_le n child ≡ true → n ≤ child
-at_least n child h = grind (arith, nat_tests)
 
 same_least : (c child : ℕ) → (child == c) ≡ true → nat_le c child ≡ true
 same_least c child h = (let e = same_number child c h in grind (arith, nat_tests))
@@ -83,31 +80,13 @@ first_none n (NoStart slot) h = unslotted (slot == 0) h
     unslotted true k = absurd cc
 first_none n w h = refl
 
-pub no_first_in : (w : What) → is_first_start w ≡ false → first_in w ≡ None
-no_first_in (Start child slot offer) h = rw h refl
-no_first_in (NoStart slot) h = rw h refl
-no_first_in w h = refl
-
 -- ---- each in its turn
-
-pub turn_both : (o : Opening) (jobs : ℕ) (past xs ys : List Entry) → AllInTurn o jobs past xs → AllInTurn o jobs (past ++ xs) ys → AllInTurn o jobs past (xs ++ ys)
-turn_both o jobs past [] ys h k = subst (λ (p : List Entry). AllInTurn o jobs p ys) (append-nil past) k
-turn_both o jobs past (e ∷ xs) ys h k = (h.0, turn_both o jobs (past ++ e ∷ []) xs ys h.1 (subst (λ (p : List Entry). AllInTurn o jobs p ys) (sym (append_assoc past (e ∷ []) xs)) k))
 
 manned_turn : (o : Opening) (jobs : ℕ) (past : List Entry) (w : What) → is_any_start w ≡ false → IsManned o jobs past → StandsInTurn o jobs past w
 manned_turn o jobs past (Start child slot offer) none m = absurd cc
 manned_turn o jobs past (NoStart slot) none m = absurd cc
 manned_turn o jobs past (Claim task child) none m = m
 manned_turn o jobs past w none m = tt
-
--- where nothing is started, and at each place a task may be claimed
-pub turn_manned : (o : Opening) (jobs : ℕ) (past xs : List Entry) → any is_any_start xs ≡ false → ((front rest : List Entry) → xs ≡ front ++ rest → IsManned o jobs (past ++ front)) → AllInTurn o jobs past xs
-turn_manned o jobs past [] none f = tt
-turn_manned o jobs past (e ∷ xs) none f = (
-  manned_turn o jobs past e.what (either_left (is_any_start e.what) (any is_any_start xs) none) (subst (IsManned o jobs) (append-nil past) (f [] (e ∷ xs) refl)),
-  turn_manned o jobs (past ++ e ∷ []) xs (either_right (is_any_start e.what) (any is_any_start xs) none)
-      (λ front rest is. subst (IsManned o jobs) (sym (append_assoc past (e ∷ []) front)) (f (e ∷ front) rest (ap (λ (l : List Entry). e ∷ l) is))),
-)
 
 -- one worker needs no pool
 pub manned_one : (o : Opening) (past : List Entry) → IsManned o 1 past

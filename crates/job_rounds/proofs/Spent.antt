@@ -1,47 +1,29 @@
 -- What spends a start of slot 0 goes on spending it.
-use Rattle.std.proofs.Common.{◌≡◌, ℕ, List, [], ◌∷◌, ◌++◌, refl, sym, ap, subst, ◌∙◌, append_assoc, append-nil, Bool, true, false, not, ◌==◌, Some, None, Option}
+use Rattle.std.proofs.Common.{◌≡◌, ℕ, List, [], ◌∷◌, ◌++◌, refl, sym, ap, subst, ◌∙◌, append_assoc, append-nil, Bool, true, false, not, ◌==◌}
 use Rattle.std.specs.Prelude.{◌||◌, is_some, nat_le}
 use Rattle.std.specs.List.{list_all, list_any}
-use Rattle.std.specs.Option.{option_or}
-use Rattle.journal_model.specs.declared.verdict.Verdict.{Verdict}
 use Rattle.journal_model.specs.declared.entry.What.{What}
 use Rattle.journal_model.specs.declared.entry.What.TheVariants.{Start}
 use Rattle.journal_model.specs.declared.entry.Entry.{Entry}
-use Rattle.journal_model.specs.Journal.{any, is_mute, verdict_of, why_of}
-use Rattle.journal_model.specs.Legality.{is_done, is_prepared, prepares}
-use Rattle.journal_model.proofs.Looks.{any-append, both, each_of-append, verdict_of-append}
-use Rattle.journal_model.proofs.Testing.{or_left, or_right}
+use Rattle.journal_model.specs.Journal.{any, is_mute, why_of}
+use Rattle.journal_model.specs.Legality.{is_prepared}
+use Rattle.journal_model.proofs.Looks.{each_of-append}
 use Rattle.task_run.specs.TaskRuns.{refusal_of}
 use Rattle.lone_rounds.specs.Starting.{children, is_spent, is_unclosed, started_in, up_to}
 use Rattle.lone_rounds.specs.Stints.{main_entry}
-use Rattle.lone_rounds.proofs.Apart.{mute_on, spent_on, unclosed_on}
+use Rattle.lone_rounds.proofs.Apart.{spent_on}
 use Rattle.lone_rounds.proofs.Spending.{up_to_more, up_to_none}
 use Rattle.pool_starts.specs.Slots.{are_spent, in_pool, is_first_start, is_lost, is_pool_spent, spends}
+use Rattle.job_rounds.proofs.PoolMiddle.{lost_on}
+use Rattle.std.proofs.lemmas.Bool.{and_parts as both}
+use Rattle.ann_key.proofs.Booleans.{or_left, or_right}
 
 -- ---- a child
-
-done_more : (v w : Option Verdict) → is_done v ≡ true → is_done (option_or v w) ≡ true
-done_more None w h = absurd cc
-done_more (Some v) w h = h
-
-pub prepared_on : (past more : List Entry) (d : ℕ) → is_prepared past d ≡ true → is_prepared (past ++ more) d ≡ true
-prepared_on past more d h =
-    let t = both (is_done (verdict_of past d 1)) (any (prepares d) past) h in
-    let done : is_done (verdict_of (past ++ more) d 1) ≡ true = ap is_done (verdict_of-append d 1 past more) ∙ done_more (verdict_of past d 1) (verdict_of more d 1) t.0 in
-    let asked : any (prepares d) (past ++ more) ≡ true = any-append (prepares d) past more ∙ or_left (any (prepares d) past) (any (prepares d) more) t.1 in
-    rw (done, asked) refl
 
 either_on : (a b x y : Bool) → (a ≡ true → x ≡ true) → (b ≡ true → y ≡ true) → (a || b) ≡ true → (x || y) ≡ true
 either_on true b x y f g h = or_left x y (f refl)
 either_on false true x y f g h = or_right x y (g refl)
 either_on false false x y f g h = absurd cc
-
-pub lost_on : (past more : List Entry) (d : ℕ) → is_lost past d ≡ true → is_lost (past ++ more) d ≡ true
-lost_on past more d h =
-    let t = both (is_prepared past d) (is_mute past d || is_unclosed (why_of past d)) h in
-    let gone : (is_mute (past ++ more) d || is_unclosed (why_of (past ++ more) d)) ≡ true =
-    either_on (is_mute past d) (is_unclosed (why_of past d)) (is_mute (past ++ more) d) (is_unclosed (why_of (past ++ more) d)) (mute_on past more d) (unclosed_on past more d) t.1 in
-    rw (prepared_on past more d t.0, gone) refl
 
 -- a child that is lost is spent
 pub lost_spent : (past : List Entry) (d : ℕ) → is_lost past d ≡ true → is_spent past d ≡ true

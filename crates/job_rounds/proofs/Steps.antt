@@ -1,6 +1,5 @@
 -- What one start of slot 0 more makes of a run and of its objects, however it ends.
-use Rattle.std.proofs.Common.{◌≡◌, ℕ, suc, ◌+◌, ◌*◌, ◌<◌, ◌≤◌, List, ap, subst, ◌∙◌, Bool, true, false, arith, inl, inr}
-use Rattle.std.proofs.Math.Nat.{suc-mul}
+use Rattle.std.proofs.Common.{◌≡◌, ℕ, ◌+◌, ◌<◌, ◌≤◌, List, subst, Bool, true, false, arith, inl, inr}
 use Rattle.journal_model.specs.declared.entry.Entry.{Entry}
 use Rattle.journal_model.specs.declared.opening.Opening.{Opening}
 use Rattle.journal_model.specs.Legality.{Legal}
@@ -12,9 +11,6 @@ use Rattle.lone_rounds.specs.Stints.{Kept, MayHaveAsked}
 use Rattle.job_rounds.specs.Starts.{JobsBetween, RunLacksMemory, OneJobStart}
 use Rattle.job_rounds.proofs.Between.{between_kept, earlier_apart, few_of, jobs_next, tail}
 use Rattle.job_rounds.proofs.Objects.{kept_kept, kept_more}
-
-pub one_more : (made desks : ℕ) → (made + 1) * desks ≡ made * desks + desks
-one_more made desks = ap (λ (n : ℕ). n * desks) (let z : made + 1 ≡ suc made = omega arith in z) ∙ suc-mul made desks
 
 -- one start more, of a core under another name
 pub next_job_start : (o p : Opening) (setup : Setup) (may : Bool) (limit made : ℕ) (offer next whole : Bool) (program : List ℕ) (old new : List Entry) (desks0 desks desks' : List DeskTells) (start before after : ProgramsValue) (wires wires' : List WireValue)

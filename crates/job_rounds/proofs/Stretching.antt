@@ -18,7 +18,7 @@ use Rattle.journal_model.specs.Halves.{EarValue, MouthValue}
 use Rattle.journal_model.specs.Legality.{Legal, count, is_done, is_prepared, prepares}
 use Rattle.journal_model.specs.Shares.{are_by}
 use Rattle.journal_model.proofs.Linking.{why_is_end}
-use Rattle.journal_model.proofs.Looks.{both, or_none, verdict_of-append}
+use Rattle.journal_model.proofs.Looks.{or_none, verdict_of-append}
 use Rattle.journal_model.proofs.Testing.{all-join}
 use Rattle.host_core.specs.Steps.{are_all_claimed}
 use Rattle.link_roles.specs.Alone.{Closes}
@@ -39,28 +39,25 @@ use Rattle.lone_rounds.proofs.Apart.{no_start_in}
 use Rattle.lone_rounds.proofs.Growing.{starts_none}
 use Rattle.lone_rounds.proofs.Nexts.{is_quiet, quiet_starts}
 use Rattle.lone_rounds.proofs.Served.{all_unclosed, greeting_unclosed, new_unclosed, ready_now}
-use Rattle.lone_rounds.proofs.Stinting.{Closing, closing, greeting_part, greeting_rests, greeting_works, of_closing, one_idle, quiet_greeting}
+use Rattle.lone_rounds.proofs.Stinting.{Closing, closing, greeting_part, greeting_rests, greeting_works, of_closing, one_idle, quiet_greeting, all_in}
 use Rattle.lone_rounds.proofs.Tests.{any_none, no_children}
 use Rattle.pool_starts.specs.Pools.{changes_claim}
 use Rattle.pool_starts.specs.Slots.{AllInTurn, IsManned, has_pool, in_pool, offers_tags, spends}
-use Rattle.pool_starts.proofs.SlotLaws.{first_started, none_first, pool_of as pool_is, turn_quiet}
+use Rattle.pool_starts.proofs.SlotLaws.{first_started, none_first, pool_of as pool_is, turn_quiet, turn_both, turn_where as turn_manned}
 use Rattle.job_rounds.specs.Desks.{DesksDid, HaveDesks}
 use Rattle.job_rounds.specs.Posts.{AllPosted, since_start}
 use Rattle.job_rounds.specs.Servings.{CanBeServed}
 use Rattle.job_rounds.specs.Starts.{JobStretch, OneJobStart, StartsAll}
 use Rattle.job_rounds.proofs.Desks.{desks_main, have_main}
 use Rattle.job_rounds.proofs.Posting.{posted_main}
-use Rattle.job_rounds.proofs.Shutting.{AreShut, rest_shut, shut_next, shut_open}
+use Rattle.job_rounds.proofs.Shutting.{AreShut, shut_next}
 use Rattle.job_rounds.proofs.Since.{since_begun}
-use Rattle.job_rounds.proofs.Slots.{manned_none, manned_one, pool_failed, pool_of, stint_pool, turn_both, turn_manned}
-use Rattle.job_rounds.proofs.Spent.{own_spends, prepared_on}
-
--- entries that all pass one test pass another
-pub all_in : (p q : What → Bool) → ((w : What) → p w ≡ true → q w ≡ true) → (xs : List Entry) → list_all (λ (e : Entry). p e.what) xs ≡ true → list_all (λ (e : Entry). q e.what) xs ≡ true
-all_in p q f [] h = refl
-all_in p q f (e ∷ xs) h =
-    let t = both (p e.what) (list_all (λ (x : Entry). p x.what) xs) h in
-    rw (f e.what t.0, all_in p q f xs t.1) refl
+use Rattle.job_rounds.proofs.Slots.{manned_none, manned_one, pool_failed, pool_of, stint_pool}
+use Rattle.job_rounds.proofs.Spent.{own_spends}
+use Rattle.job_rounds.proofs.PoolWhole.{tags_start as no_tags}
+use Rattle.std.proofs.lemmas.Bool.{and_parts as both}
+use Rattle.pool_starts.proofs.Own.{rest_shut, shut_open}
+use Rattle.gathering.proofs.Laboring.{prepared_lasts as prepared_on}
 
 -- ---- the start itself
 
@@ -125,10 +122,6 @@ job_start {o} {setup} {limit} {offer} {next} {whole} {program} {first} {old} {ne
     (first, s, subst (λ (x : List Entry). StartsAll program new (main_entry first ∷ x) before after wires wires') (behind_first old later s.later new first is s.is) objects)
 
 -- ---- over one child at a time
-
-pub no_tags : (w : What) → offers_tags w ≡ true → is_any_start w ≡ true
-no_tags (Start child slot offer) h = refl
-no_tags w h = absurd cc
 
 -- what a stretch of one child is in a run with several desks
 module _ {o : Opening} {offer next : Bool} {first : What} {old new : List Entry} (s : Stretch o offer next first old new) where

@@ -2,7 +2,7 @@
 use Rattle.std.proofs.Common.{◌≡◌, ◌∙◌, ◌⊎◌, inl, inr, ℕ, zero, suc, ◌+◌, ◌≤◌, ◌==◌, Bool, true, false, not, List, [], ◌∷◌, ◌++◌, length, refl, sym, ap, subst, arith, append-nil, append_assoc}
 use Rattle.std.specs.Prelude.{◌&&◌, ◌||◌, nat_lt, if◌then◌else◌, map, All, Option, Some, None, option_map, unwrap_or, cond}
 use Rattle.std.specs.List.{cons_option}
-use Rattle.std.proofs.lemmas.Bool.{and_parts, or_parts}
+use Rattle.std.proofs.lemmas.Bool.{and_parts, or_parts, and_parts as both, eqb-true as same_is}
 use Rattle.std.proofs.lemmas.Bool.Decides.{eqb_tells, nat_tests}
 use Rattle.std.proofs.lemmas.List.{map-append}
 use Rattle.std.proofs.lemmas.List.Elements.{All-cons, All-nil}
@@ -20,7 +20,7 @@ use Rattle.journal_model.specs.Journal.{any, is_live, is_mute}
 use Rattle.journal_model.specs.Due.{due_after}
 use Rattle.journal_model.specs.Legality.{Legal, claims, count, is_claimed, is_number, is_prepared, least_free, may_come, renews, turn_of_task}
 use Rattle.journal_model.proofs.Growing.{Near, Legal-induction}
-use Rattle.journal_model.proofs.Looks.{both, entry, same_number as same_is}
+use Rattle.journal_model.proofs.Looks.{entry}
 use Rattle.journal_model.proofs.Working.{claimed_free, claims_counted, count-append, due_untasked, one_if, unclaimed_in}
 use Rattle.task_run.specs.declared.setup.Setup.{Setup}
 use Rattle.task_run.specs.declared.turn.TaskTurn.{TaskTurn}
@@ -29,6 +29,7 @@ use Rattle.task_laws.specs.Faithful.{Told, AreInTurn}
 use Rattle.task_laws.specs.ToldDesks.{AreToldFrom, IsToldAt, turn_done}
 use Rattle.job_rounds.specs.Desks.{DesksDid, claimed_for, claims_for, desk_of}
 use Rattle.job_rounds.specs.ToldDesks.{AreBlank, ArePlayedNow, AreToldAt, TasksAreTold}
+use Rattle.ann_key.proofs.Numbers.{same_number}
 
 -- ---- rows
 
@@ -125,9 +126,6 @@ turns_in rows = map (λ (row : Row). pair row.turn) rows
 abbrev IsAmong : Row → List Row → Type 0
 IsAmong row [] = ⊥
 IsAmong row (x ∷ xs) = (x ≡ row) ⊎ IsAmong row xs
-
-same_number : (a : ℕ) → (a == a) ≡ true
-same_number a = elim (eqb_tells a a) [ inl h ↦ h.0 | inr h ↦ absurd (h.1 refl) ]
 
 same_turn : (t : TaskTurn) → is_turn t (pair t) ≡ true
 same_turn t = rw (same_number t.task, same_number t.turn) refl

@@ -8,8 +8,8 @@ use Rattle.task_run.specs.TaskRuns.{failed_start}
 use Rattle.lone_rounds.specs.Starting.{is_any_start}
 use Rattle.lone_rounds.specs.Rounds.{ZeroAnswers, ZeroRun, start_untaken}
 use Rattle.lone_rounds.specs.Stints.{main_entry}
-use Rattle.lone_rounds.proofs.Tests.{count-append}
 use Rattle.job_rounds.specs.Unserved.{IsUnserved, UnservedAnswers}
+use Rattle.journal_model.proofs.Working.{count-append}
 
 pub unserved_lasts : (limit : ℕ) (past more : List Entry) (t : ℕ) (answer : Answer) → IsUnserved limit past t answer → IsUnserved limit (past ++ more) t answer
 unserved_lasts limit past more t answer z = record {

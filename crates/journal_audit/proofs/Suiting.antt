@@ -18,44 +18,24 @@ use Rattle.journal_model.specs.declared.opening.Opening.{Opening}
 use Rattle.journal_model.specs.Due.{made_by}
 use Rattle.journal_model.specs.Journal.{each_of, is_started, is_ended, is_mute, is_live, is_full, addressed, on_wire}
 use Rattle.journal_model.specs.Legality.{MayStand, asks_job, claimed_for, is_led, least_free, is_prepared, is_in_turn, is_text, may_ask, may_come, may_lead, is_number, is_claimed_by, is_run_again, has_open_job, asks_in_turn, needs_lead, says_name}
-use Rattle.journal_model.proofs.Looks.{differ, entry, same_number, both}
+use Rattle.journal_model.proofs.Looks.{entry}
 use Rattle.journal_model.proofs.Named.{same_addressed, same_ask}
 use Rattle.annex_model.proofs.Classes.{askable_test}
 use Rattle.journal_model.proofs.Asking.{read_askable}
 use Rattle.host_core.proofs.Opened.{turn_asks}
 use Rattle.talk_serial.specs.declared.request.Request.{Request}
-use Rattle.talk_serial.specs.declared.request.Request.TheVariants.{TransferExport, CheckExport, RemoveExport, RenameExport}
+use Rattle.talk_serial.specs.declared.request.Request.TheVariants.{CheckExport}
 use Rattle.talk_serial.specs.Requests.{message_of, name_of, is_request}
 use Rattle.talk_serial.proofs.Reading.{unnamed}
 use Rattle.host_core.specs.declared.event.Event.TheVariants.{Claim as ClaimEvent, Ask as AskEvent, Got as GotEvent, Answer as AnswerEvent}
 use Rattle.host_core.specs.declared.event.Reply.TheVariants.{Job}
 use Rattle.host_core.specs.Steps.{Step, step_of, group_of, append, asking, odd, gone, is_named_well, next_job, next_on_wire, may_request}
 use Rattle.journal_audit.specs.Replays.{AsksAfter, IsLedBy, MayBeNext, Pairs, Says, SaysName, Suits, name_in}
-
-is_not : (b : Bool) → not b ≡ true → b ≡ false
-is_not true h = absurd cc
-is_not false h = refl
-
-live : (past : List Entry) (c : ℕ) → is_live past c ≡ true → (is_started past c ≡ true) × (is_ended past c ≡ false)
-live past c h =
-    let t = both (is_started past c) (not (is_ended past c)) h in
-    (t.0, is_not (is_ended past c) t.1)
+use Rattle.std.proofs.lemmas.Bool.{not-true as is_not, ne_eqb as differ, eqb-true as same_number, and_parts as both}
+use Rattle.host_core.proofs.Choosing.{live, numbered, claim_chosen as claimed}
+use Rattle.host_core.proofs.Stepping.{unnamed as leadless}
 
 -- ---- the claim of the least free task
-
-numbered : (t : ℕ) (free : Option ℕ) → is_number t free ≡ true → free ≡ Some t
-numbered t None h = absurd cc
-numbered t (Some k) h = ap Some (same_number k t h)
-
-claimed : (o : Opening) (past : List Entry) (by t child : ℕ) (main : Bool) → (child == 0 && by == 0) ≡ main → least_free o past ≡ Some t
-    → (main || (is_prepared past child && is_live past child && not (is_mute past child))) ≡ true
-    → (step_of o past by (ClaimEvent child)).group ≡ group_of o past by (Claim t child)
-claimed o past by t child true m e h = rw (m, e) refl
-claimed o past by t child false m e h =
-    let x = both (is_prepared past child && is_live past child) (not (is_mute past child)) h in
-    let y = both (is_prepared past child) (is_live past child) x.0 in
-    let l = live past child y.1 in
-    rw (m, l.0, y.0, l.1, is_not (is_mute past child) x.1, e) refl
 
 pub suits_claim : (o : Opening) (past : List Entry) (by : ℕ) (w : What) (task child : ℕ) → w ≡ Claim task child → Suits o past by w (Some (ClaimEvent child))
 suits_claim o past by w task child is = subst (λ (v : What). Suits o past by v (Some (ClaimEvent child))) (sym is) (λ h. go by h)
@@ -345,13 +325,6 @@ some_name o past by child task key name ask sendable job line reads = λ may. (
     ))
 
 -- ---- what is asked after a name
-
-leadless : (r : Request) → name_of r ≡ None → has_lead (message_of r) ≡ false
-leadless (TransferExport store key file name) h = absurd cc
-leadless (CheckExport key name) h = absurd cc
-leadless (RemoveExport key name) h = absurd cc
-leadless (RenameExport key name onto) h = absurd cc
-leadless r h = refl
 
 pub after_unread : (name : List ℕ) (reading : Option HostMessage) → None ≡ reading → AsksAfter name reading None
 after_unread name reading none = λ q is. absurd (let bad : None ≡ Some q = none ∙ is in cc)

@@ -1,9 +1,9 @@
 -- How a file grows piece by piece, and what a refusal leaves of it.
-use Rattle.std.proofs.Common.{◌≡◌, ◌∙◌, ℕ, zero, suc, ◌+◌, ◌≤◌, Bool, true, false, ◌||◌, ◌&&◌, List, [], ◌∷◌, ◌++◌, length, map, refl, sym, ap, subst, append_assoc, append-nil, take, drop, add-one, inl, inr, ⊎_elim}
+use Rattle.std.proofs.Common.{◌≡◌, ◌∙◌, ℕ, zero, suc, ◌+◌, ◌≤◌, Bool, true, false, ◌||◌, List, [], ◌∷◌, ◌++◌, length, map, refl, sym, ap, subst, append_assoc, append-nil, take, drop, add-one, inl, inr, ⊎_elim}
 use Rattle.std.specs.Prelude.{Option, Some, None, option_map, IfSome, Result, Ok, Err, ◌⊎◌}
 use Rattle.std.specs.List.{slice_get, flat_map, list_all}
 use Rattle.std.proofs.Math.Bool.{or-true}
-use Rattle.std.proofs.lemmas.Bool.{le-leb}
+use Rattle.std.proofs.lemmas.Bool.{le-leb, and_from as both_true}
 use Rattle.std.proofs.lemmas.List.{take_all, map-append, take-append-drop}
 use Rattle.std.proofs.lemmas.List.Concat.{flat_map-append}
 use Rattle.std.proofs.lemmas.List.Folds.{list_all-append}
@@ -16,8 +16,9 @@ use Rattle.ann_outside.specs.declared.file_desk.Call.TheVariants.{Create, Append
 use Rattle.annex_model.specs.Lines.{text}
 use Rattle.desk_file.specs.Writes.{IsRefusal, HasGrown, GrowsBy}
 use Rattle.desk_file.proofs.Logs.{gained_nothing, gained_more, gained_call, gained_without}
-use Rattle.desk_file.proofs.WriteLaws.{where_same, where_then, grows_nothing, grows_refused}
+use Rattle.desk_file.proofs.WriteLaws.{where_same, where_then, grows_nothing, grows_refused, append_refusal}
 use Rattle.journal_desk.specs.JournalDesks.{with_end, is_piece, ArePieces, piece_appends, AppendsLines, MakesLines, TakesUp, RefusesPiece, IsMadeAs, MakesSynced}
+use Rattle.journal_model.proofs.Linking.{text-append}
 
 abbrev Pieces : Type 0
 Pieces = List (List (List ℕ))
@@ -26,10 +27,6 @@ abbrev joined : Pieces → List (List ℕ)
 joined pieces = flat_map (λ piece. piece) pieces
 
 -- ---- lines
-
-text-append : (xs ys : List (List ℕ)) → text (xs ++ ys) ≡ text xs ++ text ys
-text-append [] ys = refl
-text-append (x ∷ xs) ys = ap (λ (t : List ℕ). x ++ 10 ∷ t) (text-append xs ys) ∙ sym (append_assoc x (10 ∷ text xs) (text ys))
 
 -- only no line has no text
 no_lines : (lines : List (List ℕ)) → text lines ≡ [] → lines ≡ []
@@ -44,10 +41,6 @@ found (x ∷ xs) zero bytes h = (x, cc, refl)
 found (x ∷ xs) (suc n) bytes h = let rest = found xs n bytes h in (rest.0, rest.1, ap (λ (l : List (List ℕ)). x ∷ l) rest.2)
 
 -- ---- pieces
-
-both_true : (a b : Bool) → a ≡ true → b ≡ true → (a && b) ≡ true
-both_true true b e f = f
-both_true false b e f = absurd cc
 
 one_is_piece : (line : List ℕ) → is_piece (line ∷ []) ≡ true
 one_is_piece line = or-true _
@@ -162,12 +155,6 @@ adding_more name lines n old a b files x y held bytes held' is r taken =
     (λ t. begins name there.0 old a b files x y (take n lines) held held' r (t.0 ∙ there.1) t.1 t.2) taken)
 
 -- ---- the last call
-
-append_refusal : (b c : Option Log) (name piece : List ℕ) (e : DeskError) → c ≡ logged b (Append name piece (Err e))
-    → (ending : List Call) × IsRefusal e (Append name piece (Ok tt)) ending × Gained b c ending
-append_refusal b c name piece E.NoMemory e = ([], refl, e ∙ gained_without b (Append name piece (Err E.NoMemory)) refl)
-append_refusal b c name piece E.Failed e = (Append name piece (Err E.Failed) ∷ [], refl, e ∙ gained_call b (Append name piece (Err E.Failed)) refl)
-append_refusal b c name piece E.Missing e = (Append name piece (Err E.Missing) ∷ [], refl, e ∙ gained_call b (Append name piece (Err E.Missing)) refl)
 
 -- the pieces so far, the one that is held, and the lines that are left
 are_pieces : (pieces : Pieces) (last rest : List (List ℕ)) → list_all is_piece pieces ≡ true → is_piece last ≡ true

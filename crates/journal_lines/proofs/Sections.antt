@@ -2,6 +2,7 @@
 use Rattle.std.proofs.Common.{◌≡◌, ℕ, zero, suc, ◌+◌, ◌<◌, ◌≤◌, List, [], ◌∷◌, ◌++◌, map, length, get_or, Some, None, refl, sym, ap, ◌∙◌, arith, append_assoc}
 use Rattle.std.specs.List.{slice_get}
 use Rattle.std.specs.Prelude.{option_map}
+use Rattle.std.proofs.lemmas.List.{map-append}
 
 module _ {X : Type 0} where
   pub in_first : (xs ys : List X) (n : ℕ) → n < length xs → slice_get (xs ++ ys) n ≡ slice_get xs n
@@ -54,10 +55,6 @@ module _ {X Y : Type 0} (f : X → Y) (xs : List X) (rest : List Y) where
 
   pub mapped_behind : (n k : ℕ) → k + length xs ≡ n → slice_get (map f xs ++ rest) n ≡ slice_get rest k
   mapped_behind n k e = let long : length (map f xs) ≡ length xs = length-mapped f xs in behind_first (map f xs) rest n k (omega arith)
-
-pub map-append : {X Y : Type 0} (f : X → Y) (xs ys : List X) → map f (xs ++ ys) ≡ map f xs ++ map f ys
-map-append f [] ys = refl
-map-append f (x ∷ xs) ys = ap (λ rest. f x ∷ rest) (map-append f xs ys)
 
 pub three_sections : {X Y : Type 0} (f : X → Y) (xs ys : List X) (rest : List Y) → map f (xs ++ ys) ++ rest ≡ map f xs ++ (map f ys ++ rest)
 three_sections f xs ys rest = ap (λ l. l ++ rest) (map-append f xs ys) ∙ append_assoc (map f xs) (map f ys) rest

@@ -6,10 +6,10 @@ use Rattle.std.proofs.Math.Seq.{take-add}
 use Rattle.std.proofs.lemmas.List.{take-append-drop, take-append-le, length-drop}
 use Rattle.std.proofs.lemmas.List.Elements.{All-head, All-tail, All-weaker, filter-append}
 use Rattle.journal_model.specs.declared.entry.Entry.{Entry}
-use Rattle.journal_model.proofs.Looks.{same_number}
 use Rattle.journal_scan.specs.Looks.{is_written}
 use Rattle.journal_look.specs.declared.cursors.Cursor.{Cursor}
 use Rattle.journal_look.specs.Cursors.{AreAt, IsAt}
+use Rattle.std.proofs.lemmas.Bool.{eqb-true as same_number}
 
 get_behind : {X : Type 0} (xs ys : List X) (n : ℕ) → length xs ≤ n → slice_get (xs ++ ys) n ≡ slice_get ys (n - length xs)
 get_behind [] ys n long = let same : n - 0 ≡ n = omega arith in rw same refl

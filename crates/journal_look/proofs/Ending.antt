@@ -9,11 +9,13 @@ use Rattle.journal_model.specs.declared.entry.What.{What}
 use Rattle.journal_model.specs.declared.entry.What.TheVariants.{Claim, Start, NoStart, Lead, Ask, Put, Sent, Mute, Got, End, Verdict as Settled, Lost, Answer as Answered, Note as Noted, Again}
 use Rattle.journal_model.specs.declared.entry.Entry.{Entry}
 use Rattle.journal_model.specs.Journal.{asks, asked_jobs, is_open, is_settled}
-use Rattle.journal_model.proofs.Looks.{same, same_number, both}
 use Rattle.journal_scan.specs.Looks.{due_asked, due_job, is_hosts, job_at}
 use Rattle.journal_look.specs.declared.jobs.Open.{Open}
 use Rattle.journal_look.specs.Opens.{AreOpen, IsAsked, is_this}
 use Rattle.journal_look.proofs.Opening.{is_open_here}
+use Rattle.ann_key.proofs.Booleans.{or_right}
+use Rattle.ann_key.proofs.Numbers.{same_number as same}
+use Rattle.std.proofs.lemmas.Bool.{eqb-true as same_number, and_parts as both}
 
 abbrev pub IsLeast : ℕ → List Open → Type 0
 IsLeast from jobs = (from ≡ 0) ⊎ (list_all (λ x. nat_le from x.at) jobs ≡ true)
@@ -39,10 +41,6 @@ asks_hosts c j (Lost child task) h = absurd cc
 asks_hosts c j (Answered task answer) h = absurd cc
 asks_hosts c j (Noted task chunk count) h = absurd cc
 asks_hosts c j (Again task answer) h = absurd cc
-
-or_right : (a b : Bool) → b ≡ true → (a || b) ≡ true
-or_right true b h = refl
-or_right false b h = h
 
 asked_at : (c j at : ℕ) (past : List Entry) (e : Entry) → slice_get past at ≡ Some e → asks c e.what ≡ Some j → list_any (λ k. k == j) (asked_jobs past c) ≡ true
 asked_at c j at [] e h a = absurd cc

@@ -10,9 +10,9 @@ use Rattle.journal_model.specs.declared.entry.What.TheVariants.{Claim, Start, No
 use Rattle.journal_model.specs.declared.entry.Entry.{Entry}
 use Rattle.journal_model.proofs.Holding.{claimed_append}
 use Rattle.journal_model.specs.Legality.{claimed_after, holder, turned, turned_by}
-use Rattle.journal_model.proofs.Looks.{differ, same_number}
 use Rattle.journal_look.specs.declared.held.Held.{Held}
 use Rattle.journal_look.specs.Holds.{AreHeld, AreUnclaimed, held_by, held_of, let_go, top_after}
+use Rattle.std.proofs.lemmas.Bool.{ne_eqb as differ, eqb-true as same_number}
 
 fold_more : {A B : Type 0} (f : B → A → B) (a : B) (xs : List A) (x : A) → fold f a (xs ++ x ∷ []) ≡ f (fold f a xs) x
 fold_more f a [] x = refl

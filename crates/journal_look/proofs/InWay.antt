@@ -10,15 +10,13 @@ use Rattle.journal_model.specs.declared.entry.Entry.{Entry}
 use Rattle.journal_model.specs.Journal.{each_of}
 use Rattle.journal_model.specs.declared.opening.Opening.{Opening}
 use Rattle.journal_model.specs.Legality.{both_conflict, claimed_for, has_busy_task, holder, is_busy, is_busy_with, is_held_for, numbers_of, task_of, turned, turned_by}
-use Rattle.journal_model.proofs.Looks.{differ, same, same_number}
 use Rattle.journal_model.proofs.Named.{any_there, claimed_in}
 use Rattle.journal_look.specs.declared.held.Held.{Held}
 use Rattle.journal_look.specs.Holds.{AreHeld, held_of}
-use Rattle.journal_scan.proofs.Parted.{same_bool, both_true}
-
-or_right : (b c : Bool) → c ≡ true → (b || c) ≡ true
-or_right true c h = refl
-or_right false c h = h
+use Rattle.ann_key.proofs.Booleans.{or_right, same_test as same_bool}
+use Rattle.ann_key.proofs.Lists.{any_some as any_of}
+use Rattle.std.proofs.lemmas.Bool.{ne_eqb as differ, eqb-true as same_number, and_parts as both_true}
+use Rattle.ann_key.proofs.Numbers.{same_number as same}
 
 -- the task of some element passes, and is found
 any_held : (p : ℕ → Bool) (held : List Held) → list_any (λ h. p h.task) held ≡ true
@@ -45,14 +43,6 @@ found_any p u (x ∷ held) f h = go (x.task == u) refl f (λ k. found_any p u he
         → (is_some (find (λ (y : Held). y.task == u) held) ≡ true → list_any (λ (y : Held). p y.task) held ≡ true) → (p x.task || list_any (λ (y : Held). p y.task) held) ≡ true
     go true e f r = let here : p x.task ≡ true = subst (λ (k : ℕ). p k ≡ true) (sym (same_number x.task u e)) h in rw here refl
     go false e f r = or_right (p x.task) (list_any (λ (y : Held). p y.task) held) (r f)
-
-any_of : (q : ℕ → Bool) (xs : List ℕ) → list_any q xs ≡ true → (x : ℕ) × (q x ≡ true)
-any_of q [] h = absurd cc
-any_of q (x ∷ xs) h = go (q x) refl h (any_of q xs)
-  where
-    go : (b : Bool) → q x ≡ b → (b || list_any q xs) ≡ true → (list_any q xs ≡ true → (y : ℕ) × (q y ≡ true)) → (y : ℕ) × (q y ≡ true)
-    go true e h r = (x, e)
-    go false e h r = r h
 
 any_within : (q : ℕ → Bool) (a n u : ℕ) → a ≤ u → u < a + n → q u ≡ true → list_any q (range_with_len a n) ≡ true
 any_within q a zero u low high h = absurd (omega arith)

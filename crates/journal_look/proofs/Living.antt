@@ -12,12 +12,13 @@ use Rattle.journal_model.specs.declared.entry.What.TheVariants.{Claim, Start, No
 use Rattle.journal_model.specs.declared.entry.Entry.{Entry}
 use Rattle.journal_model.specs.Journal.{any, each_of, starts, ends, mutes, got_from, offers, sends, asks, end_why, verdict_in, first_of, why_of, verdict_of}
 use Rattle.journal_model.specs.Legality.{count, is_start, prepares}
-use Rattle.journal_model.proofs.Looks.{any-append, each_of-append, verdict_of-append, differ}
+use Rattle.journal_model.proofs.Looks.{any-append, each_of-append, verdict_of-append}
 use Rattle.journal_model.proofs.Linking.{why_of-append}
 use Rattle.journal_scan.specs.Looks.{written_to, is_no_start}
 use Rattle.journal_look.specs.declared.life.Life.{Life}
 use Rattle.journal_look.specs.declared.life.Lives.{Lives}
 use Rattle.journal_look.specs.Lives.{AreLived, AreLives, about, counted, kept, life_of, lived, unlived}
+use Rattle.std.proofs.lemmas.Bool.{ne_eqb as differ}
 
 -- ---- one more entry
 

@@ -8,9 +8,9 @@ use Rattle.journal_model.specs.Legality.{claims, claimed_after, is_claimed, is_f
 use Rattle.journal_model.specs.declared.entry.What.{What}
 use Rattle.journal_model.specs.declared.entry.What.TheVariants.{Claim, Again}
 use Rattle.journal_model.proofs.Holding.{claimed_append}
-use Rattle.journal_model.proofs.Looks.{differ}
 use Rattle.std.proofs.lemmas.Bool.Decides.{nat_tests}
 use Rattle.journal_look.specs.Marks.{AreClaimed, lowered}
+use Rattle.std.proofs.lemmas.Bool.{ne_eqb as differ}
 
 -- ---- tasks
 

@@ -12,11 +12,15 @@ use Rattle.journal_model.specs.declared.entry.What.TheVariants.{Claim, Start, No
 use Rattle.journal_model.specs.declared.entry.Entry.{Entry}
 use Rattle.journal_model.specs.Journal.{any, asks, asked_jobs, each_of, first_of, is_open, is_settled, open_jobs, settles, verdict_of}
 use Rattle.journal_model.specs.Legality.{has_open_job, job_for}
-use Rattle.journal_model.proofs.Looks.{any-append, each_of-append, verdict_of-append, settled_none, open_unsettled, same, same_number, differ, both, true_not_false}
+use Rattle.journal_model.proofs.Looks.{any-append, each_of-append, verdict_of-append, settled_none, open_unsettled}
 use Rattle.journal_scan.specs.Looks.{is_hosts}
 use Rattle.journal_look.specs.declared.jobs.Open.{Open}
 use Rattle.journal_look.specs.declared.jobs.Told.{Told}
 use Rattle.journal_look.specs.Opens.{AreNumbered, AreOpen, AreTold, IsAsked, IsTold, closed, is_this, job_on, jobs_child, jobs_on, keeps_numbers, opened, touches}
+use Rattle.ann_key.proofs.Booleans.{or_left as left_one, true_and_false as true_not_false}
+use Rattle.std.proofs.lemmas.Bool.{or_cases as either_one, eqb-true as same_number, ne_eqb as differ, and_parts as both}
+use Rattle.ann_key.proofs.Lists.{any_same}
+use Rattle.ann_key.proofs.Numbers.{same_number as same}
 
 -- ---- lists and tests
 
@@ -26,13 +30,6 @@ turned m n = go (m == n) refl
     go : (b : Bool) → (m == n) ≡ b → b ≡ (n == m)
     go true h = let e : m ≡ n = same_number m n h in subst (λ (k : ℕ). true ≡ (n == k)) (sym e) (sym (same n))
     go false h = sym (differ n m (λ (e : n ≡ m). true_not_false (m == n) (subst (λ (k : ℕ). (m == k) ≡ true) (sym e) (same m)) h))
-
-either_one : (a b : Bool) → (a || b) ≡ true → (a ≡ true) ⊎ (b ≡ true)
-either_one true b h = inl refl
-either_one false b h = inr h
-
-left_one : (a b : Bool) → a ≡ true → (a || b) ≡ true
-left_one a b h = rw h refl
 
 filter_same : {X : Type 0} (p q : X → Bool) → ((x : X) → p x ≡ q x) → (xs : List X) → filter p xs ≡ filter q xs
 filter_same p q each [] = refl
@@ -586,10 +583,6 @@ any_any {X = X} {Y = Y} r (x ∷ xs) ys = ap (λ (b : Bool). list_any (r x) ys |
     joined : (ys : List Y) → (list_any (r x) ys || list_any (λ (y : Y). list_any (λ (z : X). r z y) xs) ys) ≡ list_any (λ (y : Y). r x y || list_any (λ (z : X). r z y) xs) ys
     joined [] = refl
     joined (y ∷ ys) = four (r x y) (list_any (r x) ys) (list_any (λ (z : X). r z y) xs) (list_any (λ (w : Y). list_any (λ (z : X). r z w) xs) ys) ∙ ap (λ (b : Bool). (r x y || list_any (λ (z : X). r z y) xs) || b) (joined ys)
-
-any_same : {X : Type 0} (p q : X → Bool) → ((x : X) → p x ≡ q x) → (xs : List X) → list_any p xs ≡ list_any q xs
-any_same p q each [] = refl
-any_same p q each (x ∷ xs) = let here = each x in rw (here, any_same p q each xs) refl
 
 pub task_open_here : (past : List Entry) (jobs : List Open) (t : ℕ) → AreOpen past jobs → list_any (λ x. x.task == t) jobs ≡ has_open_job past t
 task_open_here past jobs t are =

@@ -1,25 +1,19 @@
 -- A task for which a number may make a request.
-use Rattle.std.proofs.Common.{◌≡◌, ◌∙◌, ℕ, List, [], ◌∷◌, ◌++◌, refl, sym, ap, subst, Bool, true, false, cond, Option, Some, None, inl, inr}
+use Rattle.std.proofs.Common.{◌≡◌, ◌∙◌, ℕ, List, [], ◌∷◌, ◌++◌, refl, sym, ap, Bool, true, false, cond, Option, Some, None, inl, inr}
 use Rattle.std.specs.Prelude.{◌==◌, ◌&&◌, ◌||◌, ◌⊎◌, not, find, option_map, is_some, IfSome, IsNone}
 use Rattle.std.specs.List.{list_any}
 use Rattle.journal_model.specs.declared.entry.Entry.{Entry}
 use Rattle.journal_model.specs.Journal.{each_of}
 use Rattle.journal_model.specs.Legality.{claimed_for, has_open_job, holder, is_busy_with, is_claimed_by, is_held_for, may_work}
-use Rattle.journal_model.proofs.Looks.{both}
 use Rattle.journal_model.proofs.Named.{any_there, claimed_in}
 use Rattle.journal_look.specs.declared.held.Held.{Held}
 use Rattle.journal_look.specs.Holds.{AreHeld, held_of}
 use Rattle.journal_look.proofs.InWay.{found_any, held_found}
+use Rattle.ann_key.proofs.Booleans.{never_true as never}
+use Rattle.ann_key.proofs.Lists.{found_so}
+use Rattle.std.proofs.lemmas.Bool.{and_parts as both}
 
 -- ---- the first that passes
-
-pub found_so : {X : Type 0} (p : X → Bool) (xs : List X) (x : X) → find p xs ≡ Some x → p x ≡ true
-found_so p [] x h = absurd cc
-found_so {X = X} p (y ∷ ys) x h = go (p y) refl h (found_so p ys x)
-  where
-    go : (b : Bool) → p y ≡ b → cond b (Some y) (find p ys) ≡ Some x → (find p ys ≡ Some x → p x ≡ true) → p x ≡ true
-    go true e h r = let same : y ≡ x = cc in subst (λ (z : X). p z ≡ true) same e
-    go false e h r = r h
 
 pub none_found : {X : Type 0} (p : X → Bool) (xs : List X) → find p xs ≡ None → list_any p xs ≡ false
 none_found p [] h = refl
@@ -39,10 +33,6 @@ find_none p xs None h none = none_found p xs (sym h)
 find_none p xs (Some x) h none = absurd cc
 
 -- ---- no task at all
-
-never : (b : Bool) → (b ≡ true → ⊥) → b ≡ false
-never true h = absurd (h refl)
-never false h = refl
 
 -- what isn't the main thread's own is for a task that is held for the child
 own_or_held : (past : List Entry) (by t c : ℕ) → may_work past by t c ≡ true → (may_work past by 0 c ≡ true) ⊎ (is_busy_with past c t ≡ true)

@@ -6,13 +6,14 @@ use Rattle.std.specs.Fmt.{digits, digits_onto, digit_glyph}
 use Rattle.std.proofs.lemmas.Bool.Decides.{nat_tests}
 use Rattle.std.proofs.lemmas.Slice.Eq.{bytes_eq-Decides}
 use Rattle.ann_key.specs.Numbers.{is_digit, is_number, value_of}
-use Rattle.annex_model.specs.Messages.{HostMessage, Param, Number, Key, Word, Rest, Direction, Scope, Spelled, Followed, IsOfClass, AreOfClass, IsAskable, host_row, host_line, host_reading, word_of, field_of, is_space, number_field}
+use Rattle.annex_model.specs.Messages.{HostMessage, IsAskable, host_row, host_line, host_reading, word_of, field_of, is_space, number_field}
 use Rattle.annex_model.specs.Tags.{untag, tagged_line, numbered}
 use Rattle.annex_model.proofs.Readings.{spelled_of_host}
 use Rattle.journal_model.specs.declared.entry.Entry.{Entry}
 use Rattle.journal_model.specs.Journal.{addressed, on_wire, is_tagged, by_tag, first_of, open_jobs}
 use Rattle.journal_model.specs.Legality.{asks_in_turn, is_in_turn}
-use Rattle.journal_model.proofs.PartsGrow.{and_right}
+use Rattle.annex_model.proofs.Classes.{followed_classes as followed_class}
+use Rattle.ann_key.proofs.Booleans.{and_last as and_right}
 
 -- ---- a printed number holds no space
 
@@ -109,26 +110,6 @@ number_below field h = below (value_of field) (and_right (nat_le 1 (length field
   where
     below : (n : ℕ) → nat_lt n (2 ^ 64) ≡ true → n < 2 ^ 64
     below n h = grind (arith, nat_tests)
-
--- a field spells a parameter that is of its class
-spelled_class : (p : Param) (field : List ℕ) → Spelled p field → IsOfClass p
-spelled_class (Number n) field s = subst (λ (x : ℕ). x < 2 ^ 64) s.1 (number_below field s.0)
-spelled_class (Key key) field s = s.1
-spelled_class (Word word) field s = s.1
-spelled_class (Rest rest) field s = tt
-spelled_class (Direction store) field s = tt
-spelled_class (Scope global) field s = tt
-
-followed_class : (ps : List Param) (tail : List ℕ) → Followed ps tail → AreOfClass ps
-followed_class [] tail f = tt
-followed_class (Rest rest ∷ []) tail f = tt
-followed_class (p ∷ []) tail f = spelled_class p f.0 f.3
-followed_class (Number n ∷ (q ∷ ps)) tail f = (spelled_class (Number n) f.0 f.3, followed_class (q ∷ ps) f.1 f.4)
-followed_class (Key key ∷ (q ∷ ps)) tail f = (spelled_class (Key key) f.0 f.3, followed_class (q ∷ ps) f.1 f.4)
-followed_class (Word word ∷ (q ∷ ps)) tail f = (spelled_class (Word word) f.0 f.3, followed_class (q ∷ ps) f.1 f.4)
-followed_class (Rest rest ∷ (q ∷ ps)) tail f = (spelled_class (Rest rest) f.0 f.3, followed_class (q ∷ ps) f.1 f.4)
-followed_class (Direction store ∷ (q ∷ ps)) tail f = (spelled_class (Direction store) f.0 f.3, followed_class (q ∷ ps) f.1 f.4)
-followed_class (Scope global ∷ (q ∷ ps)) tail f = (spelled_class (Scope global) f.0 f.3, followed_class (q ∷ ps) f.1 f.4)
 
 pub read_askable : (q : HostMessage) (line : List ℕ) → host_reading line ≡ Some q → IsAskable q
 read_askable q line h =

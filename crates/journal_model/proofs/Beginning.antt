@@ -19,7 +19,7 @@ use Rattle.journal_model.specs.Legality.{task_of}
 use Rattle.journal_model.specs.NoteRows.{known_since, remote}
 use Rattle.journal_model.specs.OpeningRows.{begun_as, begun_with}
 use Rattle.journal_model.specs.Rows.{one_check, sample_key}
-use Rattle.journal_model.proofs.Looks.{both, same_number}
+use Rattle.std.proofs.lemmas.Bool.{and_parts as both, eqb-true as same_number}
 
 -- the task of a number is one that a line spells
 pub task_fits : (o : Opening) (t : ℕ) (task : Task) → MayBegin o → task_of o t ≡ Some task → IsTask task
@@ -30,7 +30,7 @@ task_fits o t task begins there = go (t == 0) there
     go false h =
         subst IsTask (get_or_from_slice_get o.tasks (t - 1) task task h) (begins.tasks (t - 1) task (slice_get_within o.tasks (t - 1) task h))
 
-above : (b : ℕ) → (nat_lt 32 b && not (b == 127)) ≡ true → (b == 32) ≡ false
+pub above : (b : ℕ) → (nat_lt 32 b && not (b == 127)) ≡ true → (b == 32) ≡ false
 above b h = go (b == 32) refl
   where
     go : (s : Bool) → (b == 32) ≡ s → s ≡ false

@@ -15,11 +15,11 @@ use Rattle.journal_model.specs.Due.{due_by, due_after}
 use Rattle.journal_model.specs.Limits.{longest_line, most_entries, most_line_bytes}
 use Rattle.journal_model.specs.Legality.{Legal, may_come}
 use Rattle.journal_model.specs.Wires.{Wired, are_short}
-use Rattle.journal_model.proofs.Looks.{both}
 use Rattle.journal_model.proofs.Testing.{all-split}
 use Rattle.journal_model.proofs.Soft.{is_soft, soft_got, soft_mute, soft_verdicts, soft_stretch}
 use Rattle.journal_model.proofs.Linking.{got_more, text-append}
 use Rattle.journal_model.proofs.Growing.{Legal-induction}
+use Rattle.std.proofs.lemmas.Bool.{and_parts as both}
 
 abbrev heard_size : List Entry → ℕ → ℕ
 heard_size past c = length (text (got_lines past c))
@@ -40,7 +40,7 @@ heard_fits c (e ∷ past) = omega (arith, heard_fits c past, line_size c e.what 
 
 -- ---- what is due is no line of a child
 
-due_soft : (o : Opening) (past : List Entry) (w : What) → list_all is_soft (due_by o past w) ≡ true
+pub due_soft : (o : Opening) (past : List Entry) (w : What) → list_all is_soft (due_by o past w) ≡ true
 due_soft o past (Got c line) = soft_got o past c line
 due_soft o past (End c why) = soft_verdicts c (Ended why) (open_jobs past c)
 due_soft o past (Mute c) = soft_mute o past c

@@ -14,13 +14,13 @@ use Rattle.journal_model.specs.Journal.{asks, settles, ends, is_ended, is_mute, 
 use Rattle.journal_model.specs.Due.{due_by, due_by_got, due_after, made_by, replying}
 use Rattle.journal_model.specs.Legality.{Legal, may_come, may_ask, asks_in_turn}
 use Rattle.journal_model.proofs.Growing.{Legal-induction}
-use Rattle.journal_model.proofs.Looks.{entry, is_asked, settled_all, both, same, same_number, each_of-append, any-append}
+use Rattle.journal_model.proofs.Looks.{entry, is_asked, settled_all, each_of-append, any-append}
 use Rattle.journal_model.proofs.Holding.{GotDue, got_due}
 use Rattle.journal_model.proofs.Soft.{is_soft, soft_got, soft_mute, soft_verdicts}
 use Rattle.journal_model.proofs.Fresh.{mute_ends_none}
-
-clash : {A : Type 0} (b : Bool) → b ≡ true → b ≡ false → A
-clash b t f = let bad : true ≡ false = sym t ∙ f in absurd cc
+use Rattle.ann_key.proofs.Booleans.{first_of_five, true_and_false as clash}
+use Rattle.std.proofs.lemmas.Bool.{and_parts as both, eqb-true as same_number}
+use Rattle.ann_key.proofs.Numbers.{same_number as same}
 
 -- ---- the verdicts of an end settle each open job
 
@@ -33,7 +33,7 @@ settles_in c j by v (k ∷ ks) h = go (k == j) h (settles_in c j by v ks)
     go true h r = rw (same c) refl
     go false h r = rw (same c, r h) refl
 
-asked_open : (past : List Entry) (c j : ℕ) (ks : List ℕ) → is_settled past c j ≡ false → list_any (λ k. k == j) ks ≡ true
+pub asked_open : (past : List Entry) (c j : ℕ) (ks : List ℕ) → is_settled past c j ≡ false → list_any (λ k. k == j) ks ≡ true
     → list_any (λ k. k == j) (filter (λ k. not (is_settled past c k)) ks) ≡ true
 asked_open past c j [] u h = absurd cc
 asked_open past c j (k ∷ ks) u h = go (k == j) refl h (asked_open past c j ks u)
@@ -111,16 +111,12 @@ group_settles o past c j by (Noted task chunk count) e = absurd cc
 
 -- ---- nothing is asked of a child that has ended
 
-soft_asks : (c by : ℕ) (ws : List What) → list_all is_soft ws ≡ true → asked_jobs (made_by by ws) c ≡ []
+pub soft_asks : (c by : ℕ) (ws : List What) → list_all is_soft ws ≡ true → asked_jobs (made_by by ws) c ≡ []
 soft_asks c by [] h = refl
 soft_asks c by (Settled child job verdict ∷ ws) h = soft_asks c by ws h
 soft_asks c by (Put child job line ∷ ws) h = soft_asks c by ws h
 soft_asks c by (End child why ∷ ws) h = soft_asks c by ws (both (is_soft (End child why)) (list_all is_soft ws) h).1
 soft_asks c by (w ∷ ws) h = absurd cc
-
-first_of_five : (a b c d e : Bool) → (a && b && c && d && e) ≡ true → a ≡ true
-first_of_five true b c d e h = refl
-first_of_five false b c d e h = absurd cc
 
 group_asks : (o : Opening) (past : List Entry) (c by : ℕ) (w : What) → may_come o past by w ≡ true → is_ended past c ≡ true
     → asked_jobs (entry by w ∷ due_after o past (entry by w)) c ≡ []

@@ -6,7 +6,9 @@ use Rattle.std.proofs.lemmas.List.Sums.{sum_by-cons, sum_by-append}
 use Rattle.journal_model.specs.declared.entry.What.{What}
 use Rattle.journal_model.specs.declared.entry.Entry.{Entry}
 use Rattle.journal_model.specs.Journal.{any, each_of}
-use Rattle.journal_model.proofs.Looks.{same, same_number, both, either_left, either_right}
+use Rattle.ann_key.proofs.Numbers.{same_number as same}
+use Rattle.std.proofs.lemmas.Bool.{eqb-true as same_number, and_parts as both}
+use Rattle.ann_key.proofs.Booleans.{left_false as either_left, right_false as either_right}
 
 pub record IsSame {X : Type 0} (eq : X → X → Bool) : Type 0 where
   pub itself : (x : X) → eq x x ≡ true

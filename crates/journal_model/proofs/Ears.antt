@@ -16,10 +16,12 @@ use Rattle.journal_model.specs.Wires.{RestFits, Wired, Caused, Took, are_short, 
 use Rattle.journal_model.specs.Limits.{longest_line}
 use Rattle.journal_model.specs.Shares.{is_memory, is_heard}
 use Rattle.journal_model.specs.Halves.{EarValue, EarWired, MouthValue, MouthWired}
-use Rattle.journal_model.proofs.Looks.{same, either_left, either_right, each_of-append, true_not_false}
+use Rattle.journal_model.proofs.Looks.{each_of-append}
 use Rattle.journal_model.proofs.Testing.{all-join}
 use Rattle.journal_model.proofs.Soft.{IsSoft, is_soft_why}
 use Rattle.journal_model.proofs.Linking.{got_more, why_of-append, why_alone, unended}
+use Rattle.ann_key.proofs.Numbers.{same_number as same}
+use Rattle.ann_key.proofs.Booleans.{left_false as either_left, right_false as either_right, true_and_false as true_not_false}
 
 -- ---- halves that tell
 

@@ -1,6 +1,5 @@
 -- The fields of a message hold no byte 10 where the line that spells it holds none.
-use Rattle.std.proofs.Common.{◌≡◌, ℕ, ◌<◌, ◌^◌, ◌==◌, Bool, true, false, not, ◌||◌, ◌⊎◌, inl, inr, List, [], ◌∷◌, ◌++◌, refl, sym, ap, subst, ◌∙◌, arith}
-use mathlib.Core.Bool.{false≢true}
+use Rattle.std.proofs.Common.{◌≡◌, ℕ, ◌<◌, ◌^◌, ◌==◌, Bool, true, false, not, ◌⊎◌, inl, inr, List, [], ◌∷◌, ◌++◌, refl, sym, ap, subst, ◌∙◌, arith}
 use Rattle.std.specs.Prelude.{decimal, nat_lt}
 use Rattle.std.specs.List.{list_all}
 use Rattle.std.proofs.lemmas.List.Folds.{list_any-append}
@@ -9,17 +8,13 @@ use Rattle.ann_key.specs.Numbers.{is_digit, is_number, value_of}
 use Rattle.ann_key.proofs.Unique.{decimal_is_numeral}
 use Rattle.annex_model.specs.Lines.{has_newline}
 use Rattle.annex_model.specs.Messages.{RemoteMessage, RemoteSpells, Param, Number, Key, Word, Rest, Direction, Scope, Spelled, Followed, remote_row, field_text}
-use Rattle.reg_file.proofs.LinkLists.{both}
-use Rattle.reg_file.proofs.Settings.{both_true}
 use Rattle.journal_model.specs.Replies.{are_line_fields}
+use Rattle.ann_key.proofs.Booleans.{neither_is as apart, not_either as neither}
+use Rattle.std.proofs.lemmas.Bool.{and_parts as both, and_from as both_true}
 
 -- ---- digits
 digit_fits : (b : ℕ) → is_digit b ≡ true → not (b == 10) ≡ true
 digit_fits b h = grind (arith, nat_tests)
-
-neither : (a b : Bool) → not a ≡ true → not b ≡ true → not (a || b) ≡ true
-neither true b h k = absurd (false≢true h)
-neither false b h k = k
 
 digits_fit : (bytes : List ℕ) → list_all is_digit bytes ≡ true → not (has_newline bytes) ≡ true
 digits_fit [] h = refl
@@ -37,10 +32,6 @@ decimal_fits : (n : ℕ) → n < 2 ^ 64 → not (has_newline (decimal n)) ≡ tr
 decimal_fits n h = digits_fit (decimal n) (number_digits (decimal n) (both (is_number (decimal n)) _ (decimal_is_numeral n h).form).0).0
 
 -- ---- fields
-apart : (a b : Bool) → not (a || b) ≡ true → (not a ≡ true) × (not b ≡ true)
-apart true b h = absurd (false≢true h)
-apart false b h = (refl, h)
-
 field_fits : (p : Param) (field : List ℕ) → Spelled p field → not (has_newline field) ≡ true → not (has_newline (field_text p)) ≡ true
 field_fits (Number n) field s h = let small : n < 2 ^ 64 = subst (λ (k : ℕ). k < 2 ^ 64) s.1 (number_digits field s.0).1 in decimal_fits n small
 field_fits (Key key) field s h = ap (λ (t : List ℕ). not (has_newline t)) (sym s.0) ∙ h

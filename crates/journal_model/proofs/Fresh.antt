@@ -16,9 +16,12 @@ use Rattle.journal_model.specs.Journal.{each_of, writes, sends, starts, why_of, 
 use Rattle.journal_model.specs.Due.{ending, replying, due_by, due_by_got, due_after, made_by}
 use Rattle.journal_model.specs.Legality.{Legal, may_come, may_ask, may_lead, may_stop, asks_in_turn, says_name, is_empty}
 use Rattle.journal_model.proofs.Growing.{Legal-induction}
-use Rattle.journal_model.proofs.Looks.{both, same, same_number, any-append, either_left}
+use Rattle.journal_model.proofs.Looks.{any-append}
 use Rattle.journal_model.proofs.Soft.{is_soft, got_cases, soft_stretch, soft_got, soft_mute, soft_verdicts}
 use Rattle.journal_model.proofs.Linking.{Adds, nothing_both}
+use Rattle.ann_key.proofs.Booleans.{first_of_five, left_false as either_left}
+use Rattle.std.proofs.lemmas.Bool.{and_parts as both, eqb-true as same_number}
+use Rattle.ann_key.proofs.Numbers.{same_number as same}
 
 -- an end and a reply in the stretch are of that child
 abbrev pub is_of : ℕ → What → Bool
@@ -127,10 +130,6 @@ other_child o past c by (Again task answer) n = record { got = refl; written = r
 other_child o past c by (Noted task chunk count) n = record { got = refl; written = refl; covers = refl; mutes = refl; ends = refl }
 
 -- ---- a child that wasn't started
-
-first_of_five : (a b c d e : Bool) → (a && b && c && d && e) ≡ true → a ≡ true
-first_of_five true b c d e h = refl
-first_of_five false b c d e h = absurd cc
 
 -- an entry of a child comes only where the child was started
 unstarted : (o : Opening) (past : List Entry) (c by : ℕ) (w : What) → may_come o past by w ≡ true → is_started past c ≡ false

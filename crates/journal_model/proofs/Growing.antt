@@ -12,8 +12,10 @@ use Rattle.journal_model.specs.Journal.{open_jobs}
 use Rattle.journal_model.specs.Due.{due_after, due_by, due_by_got, made_by}
 use Rattle.journal_model.specs.Legality.{StandsFrom, Legal, may_come, owed_from, owed_after, still_owed, led_by, asks_job, needs_lead, IsDue, MayStand, Follows, LegalByGroups, IsGroup, IsGroups, LegalByPlaces}
 use Rattle.journal_model.specs.Room.{is_ask}
-use Rattle.journal_model.proofs.Looks.{entry, both, same, same_number}
+use Rattle.journal_model.proofs.Looks.{entry}
 use Rattle.journal_model.proofs.Soft.{is_soft, is_soft_why, soft_got, soft_mute, soft_verdicts}
+use Rattle.std.proofs.lemmas.Bool.{and_parts as both, eqb-true as same_number}
+use Rattle.ann_key.proofs.Numbers.{same_number as same}
 
 -- ---- two stretches, one behind the other
 

@@ -8,13 +8,12 @@ use Rattle.journal_model.specs.declared.entry.Entry.{Entry}
 use Rattle.journal_model.specs.Journal.{got_from, line_from, got_lines, asked_jobs, open_jobs, is_settled, verdict_of, has_spoken, is_tagged}
 use Rattle.journal_model.specs.Legality.{is_empty}
 use Rattle.journal_model.specs.Wires.{may_hear, heard_from, is_heard_in_turn}
-use Rattle.journal_model.proofs.Looks.{is_asked, same, same_number, unsettled}
+use Rattle.journal_model.proofs.Looks.{is_asked, unsettled}
+use Rattle.ann_key.proofs.Booleans.{and_assoc}
+use Rattle.ann_key.proofs.Numbers.{same_number as same}
+use Rattle.std.proofs.lemmas.Bool.{eqb-true as same_number}
 
-and_assoc : (a b c : Bool) → ((a && b) && c) ≡ (a && (b && c))
-and_assoc true b c = refl
-and_assoc false b c = refl
-
-heard-append : (c : ℕ) (past xs ys : List Entry) → heard_from c past (xs ++ ys) ≡ (heard_from c past xs && heard_from c (past ++ xs) ys)
+pub heard-append : (c : ℕ) (past xs ys : List Entry) → heard_from c past (xs ++ ys) ≡ (heard_from c past xs && heard_from c (past ++ xs) ys)
 heard-append c past [] ys = ap (λ (p : List Entry). heard_from c p ys) (sym (append-nil past))
 heard-append c past (e ∷ xs) ys =
     let here : Bool = not (got_from c e.what) || may_hear past c in

@@ -9,9 +9,9 @@ use Rattle.journal_model.specs.Makers.{is_of_task, is_taken_by}
 use Rattle.journal_model.specs.Shares.{are_others}
 use Rattle.journal_model.proofs.Holding.{held_busy, held_claimed, holder_append}
 use Rattle.journal_model.proofs.Idling.{claimed_positive}
-use Rattle.journal_model.proofs.Looks.{true_not_false}
 use Rattle.journal_model.proofs.Testing.{all-each, by_either, differ_by, none-each}
 use Rattle.journal_model.proofs.Working.{count-append, count_none, held_alone, held_taken_from}
+use Rattle.ann_key.proofs.Booleans.{true_and_false as true_not_false}
 
 -- ---- the holder
 

@@ -14,8 +14,10 @@ use Rattle.journal_model.specs.Journal.{any, each_of, on_wire, is_live, is_open,
 use Rattle.journal_model.specs.Due.{due_after, due_by_got, made_by, ending, verdict_at, replying}
 use Rattle.journal_model.specs.Legality.{Legal, may_come, is_number, is_free, least_free, numbers_of, claims, claimed_after, claimed_on, answers, is_claimed, is_answered, is_run_again, is_busy, is_claimed_by, is_held_by, holder, turned, turned_by, has_open_job}
 use Rattle.journal_model.proofs.Growing.{Near, Near-induction}
-use Rattle.journal_model.proofs.Looks.{entry, same_number, both, any-append, settled_all}
+use Rattle.journal_model.proofs.Looks.{entry, any-append, settled_all}
 use Rattle.journal_model.proofs.Soft.{got_cases}
+use Rattle.ann_key.proofs.Booleans.{and_true, or_false, or_true}
+use Rattle.std.proofs.lemmas.Bool.{not-true as not_true, eqb-true as same_number, and_parts as both}
 
 -- ---- whom an entry names
 
@@ -75,14 +77,6 @@ due_names f verdict end put o past by (Got child line) = by_due (due_by_got o pa
     by_due due (inr (inr (inl e))) = rw (e.3, verdict child e.0 e.1) refl
     by_due due (inr (inr (inr e))) = rw e.3 (replies_name f put past by child e.0 e.1)
 due_names f verdict end put o past by w = refl
-
-or_false : (b : Bool) → (b || false) ≡ b
-or_false true = refl
-or_false false = refl
-
-or_true : (b : Bool) → (b || true) ≡ true
-or_true true = refl
-or_true false = refl
 
 -- ---- a task's holder
 
@@ -224,10 +218,6 @@ none_answer t (e ∷ xs) a = go e.what a (none_answer t xs)
     go (Answered task answer) a r = absurd cc
     go w a r = r a
 
-pub not_true : (b : Bool) → not b ≡ true → b ≡ false
-not_true false h = refl
-not_true true h = absurd cc
-
 pub held_busy : (by : ℕ) (h : Option Holder) → is_held_by by h ≡ true → is_some h ≡ true
 held_busy by None h = absurd cc
 held_busy by (Some x) h = refl
@@ -254,10 +244,6 @@ fits_again by None k a held f = absurd cc
 fits_again by (Some x) true true held f = absurd (let bad : true ≡ false = f.0 in cc)
 fits_again by (Some x) true false held f = (refl, λ h. absurd cc)
 fits_again by (Some x) false a held f = absurd (let bad : true ≡ false = f.0 in cc)
-
-and_true : (b : Bool) → (b && true) ≡ b
-and_true true = refl
-and_true false = refl
 
 first_passes : (p : ℕ → Bool) (t : ℕ) (ts : List ℕ) → is_number t (find p ts) ≡ true → p t ≡ true
 first_passes p t [] h = absurd cc

@@ -11,11 +11,14 @@ use Rattle.journal_model.specs.Journal.{any, each_of, asks, asked_jobs, is_open,
 use Rattle.journal_model.specs.Due.{due_after}
 use Rattle.journal_model.specs.Legality.{Legal, may_come, answers, claims, claimed_after, holder, is_claimed, is_busy, is_claimed_by, job_for, has_open_job, may_work, is_busy_with, is_number, is_free, least_free, is_prepared}
 use Rattle.journal_model.proofs.Growing.{Near, Near-induction, Legal-induction}
-use Rattle.journal_model.proofs.Looks.{entry, is_asked, both, same, same_number, differ, either_left, either_right, true_not_false, any-append, each_of-append, unasked_closed}
+use Rattle.journal_model.proofs.Looks.{entry, is_asked, any-append, each_of-append, unasked_closed}
 use Rattle.journal_model.specs.Makers.{is_of_task, is_taken_by}
 use Rattle.journal_model.proofs.Holding.{claimed_group, claimed_split, held_busy, held_claimed, held_unanswered}
-use Rattle.journal_model.proofs.Testing.{or_left, or_right, neither, by_either, all-join, all-split, any-more, out}
+use Rattle.journal_model.proofs.Testing.{by_either, all-join, all-split, any-more, out}
 use Rattle.journal_model.proofs.Working.{idle_shut, stays_closed, due_untasked, ask_work}
+use Rattle.std.proofs.lemmas.Bool.{and_parts as both, eqb-true as same_number, ne_eqb as differ}
+use Rattle.ann_key.proofs.Numbers.{same_number as same}
+use Rattle.ann_key.proofs.Booleans.{left_false as either_left, right_false as either_right, true_and_false as true_not_false, or_left, or_right, or_neither as neither}
 
 -- ---- no task has the number 0
 

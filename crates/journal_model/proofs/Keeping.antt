@@ -11,7 +11,7 @@ use Rattle.journal_model.specs.declared.verdict.Verdict.TheVariants.{Done as Don
 use Rattle.std.specs.Prelude.{bytes_eq}
 use Rattle.std.proofs.lemmas.Slice.Eq.{bytes_eq-Decides}
 use Rattle.annex_model.specs.Messages.{HostMessage, Export, Transferexport, Checkpresentexport, Removeexport, Renameexport, IsAskable, host_line, host_reading}
-use Rattle.annex_model.specs.Talks.{Item, Host, Talking, IsLead, AreReplied, has_lead, request_lines, of_host, shown, with_replies, remote_items, said, Shape, OneLine, Configs, Infos, shape_of, may_go_on}
+use Rattle.annex_model.specs.Talks.{Item, Host, Talking, IsLead, AreReplied, has_lead, request_lines, of_host, shown, with_replies, remote_items, said, shape_of, may_go_on}
 use Rattle.annex_model.specs.Hearings.{asked_by, request_in}
 use Rattle.annex_model.specs.Turns.{turn_of, is_at}
 use Rattle.annex_model.proofs.Leads.{plain_asked}
@@ -26,11 +26,14 @@ use Rattle.journal_model.specs.Parts.{part, part_from, is_place, is_for}
 use Rattle.journal_model.specs.Due.{due_after, made_by, ending, replies_at}
 use Rattle.journal_model.specs.Legality.{may_come, may_ask, asks_in_turn, is_in_turn, suits_child, is_text, is_greeted, is_led, says_name, claimed_for}
 use Rattle.journal_model.specs.Projection.{Fits, JobFits, PartIsAsked}
-use Rattle.journal_model.proofs.PartsGrow.{part-group, and_false, and_right}
+use Rattle.journal_model.proofs.PartsGrow.{part-group}
 use Rattle.journal_model.proofs.Asking.{asked_text, text_on_wire, read_askable}
 use Rattle.journal_model.proofs.Growing.{Led, pair}
 use Rattle.journal_model.proofs.Replying.{IsPlaced, longer}
-use Rattle.journal_model.proofs.Looks.{entry, is_asked, same_number, differ, both, either_left, true_not_false, each_of-append, any-append, verdict_of-append, or_none, filter_none, unasked_closed, silent_lines, settled_all, verdicts_part, verdicts_job, verdicts_one, none_unasked}
+use Rattle.journal_model.proofs.Looks.{entry, is_asked, each_of-append, any-append, verdict_of-append, or_none, filter_none, unasked_closed, silent_lines, settled_all, verdicts_part, verdicts_job, verdicts_one, none_unasked}
+use Rattle.annex_model.proofs.Awaiting.{nothing_goes_on as waits_first}
+use Rattle.std.proofs.lemmas.Bool.{and_right as and_false, eqb-true as same_number, ne_eqb as differ, and_parts as both}
+use Rattle.ann_key.proofs.Booleans.{and_last as and_right, left_false as either_left, true_and_false as true_not_false}
 
 -- Replies are said of the journal that may come of this one, so that nothing has to be said again of an old part.
 pub record Inv (o : Opening) (past : List Entry) : Type 0 where
@@ -220,11 +223,6 @@ asks_fit replies p v is true f new =
     let unsettled : v ≡ None = subst (λ (x : List Item). Fits replies x v) facts.0 f in
     let a = subst (λ (x : List Item). Fits replies (x ++ is) None) (sym facts.0) facts.1 in
     subst (λ (x : Option Verdict). Fits replies (p ++ is) (option_or x None)) (sym unsettled) a
-
-waits_first : (s : Shape) → may_go_on s [] ≡ true
-waits_first OneLine = refl
-waits_first Configs = refl
-waits_first Infos = refl
 
 -- a request alone talks, with such a lead as it has
 first_fits : (replies : ℕ → List (List ℕ)) (is : List Item) (q : HostMessage) (lead : List (List ℕ)) → IsAskable q → request_in is ≡ Some q → IsLead q lead

@@ -9,7 +9,8 @@ use Rattle.journal_model.specs.declared.entry.What.{What}
 use Rattle.journal_model.specs.declared.entry.What.TheVariants.{End}
 use Rattle.journal_model.specs.declared.entry.Entry.{Entry}
 use Rattle.journal_model.specs.Journal.{each_of, writes, sends, mutes, ends, end_why, line_from, why_of, is_ended, is_mute, got_lines}
-use Rattle.journal_model.proofs.Looks.{each_of-append, any-append, either_left, either_right}
+use Rattle.journal_model.proofs.Looks.{each_of-append, any-append}
+use Rattle.ann_key.proofs.Booleans.{left_false as either_left, right_false as either_right}
 
 abbrev pub sent_count : List Entry → ℕ → ℕ
 sent_count past c = length (filter (λ e. sends c e.what) past)
@@ -71,7 +72,7 @@ pub record Adds (c : ℕ) (more : List Entry) (gots : List (List ℕ)) (ws : Wri
 pub got_more : (past more : List Entry) (c : ℕ) (gots : List (List ℕ)) → got_lines more c ≡ gots → got_lines (past ++ more) c ≡ got_lines past c ++ gots
 got_more past more c gots g = each_of-append (line_from c) past more ∙ ap (λ (x : List (List ℕ)). got_lines past c ++ x) g
 
-mute_more : (past more : List Entry) (c : ℕ) → is_mute more c ≡ false → is_mute (past ++ more) c ≡ is_mute past c
+pub mute_more : (past more : List Entry) (c : ℕ) → is_mute more c ≡ false → is_mute (past ++ more) c ≡ is_mute past c
 mute_more past more c m = any-append (mutes c) past more ∙ ap (λ (b : Bool). is_mute past c || b) m ∙ or_false (is_mute past c)
   where
     or_false : (b : Bool) → (b || false) ≡ b

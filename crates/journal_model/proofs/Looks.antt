@@ -1,11 +1,10 @@
 -- What a longer journal says of a child and a job.
-use Rattle.std.proofs.Common.{◌≡◌, ◌≢◌, ℕ, List, [], ◌∷◌, ◌++◌, refl, sym, ap, subst, ◌∙◌, Bool, true, false, not, ◌==◌, cond, Some, None, Option, arith, ◌⊎◌, inl, inr}
+use Rattle.std.proofs.Common.{◌≡◌, ℕ, List, [], ◌∷◌, ◌++◌, refl, sym, ap, subst, ◌∙◌, Bool, true, false, not, ◌==◌, cond, Some, None, Option, ◌⊎◌, inl, inr}
 use Rattle.std.specs.Prelude.{◌&&◌, ◌||◌, map, filter}
 use Rattle.std.specs.List.{list_any, cons_option}
 use Rattle.std.specs.Option.{option_or}
 use Rattle.std.proofs.lemmas.List.Folds.{list_any-append}
 use Rattle.std.proofs.lemmas.List.Elements.{filter_map-append}
-use Rattle.std.proofs.lemmas.Bool.Decides.{nat_tests}
 use Rattle.journal_model.specs.declared.verdict.Verdict.{Verdict}
 use Rattle.journal_model.specs.declared.entry.What.{What}
 use Rattle.journal_model.specs.declared.entry.What.TheVariants.{Verdict as Settled, Got}
@@ -13,6 +12,8 @@ use Rattle.journal_model.specs.declared.entry.Entry.{Entry}
 use Rattle.journal_model.specs.Journal.{any, each_of, first_of, asked_jobs, settles, verdict_in, verdict_of, is_settled, is_open, has_spoken, got_lines, line_from, got_from}
 use Rattle.journal_model.specs.Parts.{part_from}
 use Rattle.journal_model.specs.Due.{made_by}
+use Rattle.std.proofs.lemmas.Bool.{eqb-true as same_number}
+use Rattle.ann_key.proofs.Booleans.{left_false as either_left, right_false as either_right}
 
 abbrev pub entry : ℕ → What → Entry
 entry by w = record { by = by; what = w }
@@ -21,31 +22,6 @@ abbrev pub is_asked : List Entry → ℕ → ℕ → Bool
 is_asked past c j = list_any (λ k. k == j) (asked_jobs past c)
 
 -- ---- tests
-
-pub same : (n : ℕ) → (n == n) ≡ true
-same n = grind (arith, nat_tests)
-
-pub same_number : (m n : ℕ) → (m == n) ≡ true → m ≡ n
-same_number m n h = grind (arith, nat_tests)
-
-pub differ : (m n : ℕ) → m ≢ n → (m == n) ≡ false
-differ m n h = grind (arith, nat_tests)
-
-pub both : (a b : Bool) → (a && b) ≡ true → (a ≡ true) × (b ≡ true)
-both true true h = (refl, refl)
-both true false h = absurd cc
-both false b h = absurd cc
-
-pub either_left : (a b : Bool) → (a || b) ≡ false → a ≡ false
-either_left false b h = refl
-either_left true b h = h
-
-pub either_right : (a b : Bool) → (a || b) ≡ false → b ≡ false
-either_right false b h = h
-either_right true b h = absurd cc
-
-pub true_not_false : {A : Type 0} (b : Bool) → b ≡ true → b ≡ false → A
-true_not_false b t f = absurd cc
 
 -- ---- one stretch behind another
 

@@ -2,7 +2,7 @@
 use Rattle.std.proofs.Common.{zero, suc, ◌≡◌, ℕ, ◌+◌, ◌<◌, ◌≤◌, List, [], ◌∷◌, ◌++◌, refl, sym, ap, subst, ◌∙◌, Bool, true, false, not, cond, None, Option, append_assoc, append-nil, length, take, drop, arith, length-append, length-drop}
 use Rattle.std.specs.Prelude.{IfSome, ◌||◌, map, filter}
 use Rattle.std.specs.Io.KnownBytes.{Appends}
-use Rattle.std.proofs.lemmas.List.{take-append-le}
+use Rattle.std.proofs.lemmas.List.{take-append-le, map-append}
 use Rattle.std.proofs.lemmas.List.Elements.{filter-append}
 use Rattle.std.proofs.Math.Seq.{take-add}
 use Rattle.annex_model.specs.Lines.{text}
@@ -13,10 +13,12 @@ use Rattle.journal_model.specs.Journal.{any, each_of, writes, sends, mutes, ends
 use Rattle.journal_model.specs.Wires.{Took, sent_lines, next_text}
 use Rattle.journal_model.specs.Shares.{is_said}
 use Rattle.journal_model.specs.Halves.{MouthValue, MouthWired}
-use Rattle.journal_model.proofs.Looks.{same, either_left, either_right, each_of-append, any-append, true_not_false}
+use Rattle.journal_model.proofs.Looks.{each_of-append, any-append}
 use Rattle.journal_model.proofs.Soft.{IsSoft}
-use Rattle.journal_model.proofs.Linking.{sent_count, sent_count-append, text-append}
+use Rattle.journal_model.proofs.Linking.{sent_count, sent_count-append, text-append, mute_more as mute_same}
 use Rattle.journal_model.proofs.Ears.{told_maps, told_grows}
+use Rattle.ann_key.proofs.Numbers.{same_number as same}
+use Rattle.ann_key.proofs.Booleans.{left_false as either_left, right_false as either_right, true_and_false as true_not_false}
 
 abbrev pub Written : Type 0
 Written = List (Option ℕ × List ℕ)
@@ -26,10 +28,6 @@ written past c = each_of (writes c) past
 
 abbrev texts : Written → List (List ℕ)
 texts ws = map (λ w. w.1) ws
-
-map-append : {X Y : Type 0} (f : X → Y) (xs ys : List X) → map f (xs ++ ys) ≡ map f xs ++ map f ys
-map-append f [] ys = refl
-map-append f (x ∷ xs) ys = ap (λ zs. f x ∷ zs) (map-append f xs ys)
 
 -- ---- what others leave
 
@@ -42,13 +40,6 @@ none_sent c (e ∷ more) h = step e.what (either_left (is_said c e.what) (any (i
     step (Sent child) h r = (rw h r.0, r.1)
     step (Mute child) h r = (r.0, rw h r.1)
     step w h r = r
-
-mute_same : (past more : List Entry) (c : ℕ) → is_mute more c ≡ false → is_mute (past ++ more) c ≡ is_mute past c
-mute_same past more c m = any-append (mutes c) past more ∙ ap (λ (b : Bool). is_mute past c || b) m ∙ or_false (is_mute past c)
-  where
-    or_false : (b : Bool) → (b || false) ≡ b
-    or_false true = refl
-    or_false false = refl
 
 -- what a stretch that covers nothing leaves of the lines
 module _ (past more : List Entry) (c : ℕ) (none : sent_count more c ≡ 0) (covered : sent_count past c ≤ length (written past c)) where

@@ -15,16 +15,11 @@ use Rattle.journal_model.specs.declared.entry.What.TheVariants.{Claim, Start, No
 use Rattle.journal_model.specs.declared.entry.Entry.{Entry}
 use Rattle.journal_model.specs.Journal.{any, each_of, first_of, offers, got_line, line_at, accepts_async, is_tagged, starts, ends, mutes, settles, asks, verdict_in, line_from, asked_jobs, open_jobs, is_open, is_settled, is_started, is_ended, is_mute, is_live, got_lines, verdict_of, addressed, by_tag, on_wire}
 use Rattle.journal_model.specs.Legality.{may_come, may_ask, may_work, is_greeted, is_prepared, said_version, prepares, is_claimed_by, is_held_by, is_held_for, is_busy_with, has_open_job, job_for, holder, turned, turned_by, claimed_for, is_empty, asks_in_turn, is_in_turn, suits_child, is_done}
-use Rattle.journal_model.proofs.Looks.{entry, same_number, any-append, each_of-append}
+use Rattle.journal_model.proofs.Looks.{entry, any-append, each_of-append}
 use Rattle.journal_model.proofs.Working.{holder_apart}
-
-or_false : (b : Bool) → (b || false) ≡ b
-or_false true = refl
-or_false false = refl
-
-or_right : (b c : Bool) → c ≡ true → (b || c) ≡ true
-or_right true c h = refl
-or_right false c h = h
+use Rattle.ann_key.proofs.Booleans.{or_right, or_false}
+use Rattle.ann_key.proofs.Lists.{any_same as any_alike, filter_alike}
+use Rattle.std.proofs.lemmas.Bool.{eqb-true as same_number}
 
 -- tests of equal parts are equal
 and_three : (a a' b b' c c' : Bool) → a ≡ a' → b ≡ b' → c ≡ c' → (a && b && c) ≡ (a' && b' && c')
@@ -35,14 +30,6 @@ and_five a a' b b' c c' d d' e e' p q r s t = rw (p, q, r, s, t) refl
 
 choice_of_three : (a b x x' y y' z z' : Bool) → x ≡ x' → y ≡ y' → z ≡ z' → cond a x (cond b y z) ≡ cond a x' (cond b y' z')
 choice_of_three a b x x' y y' z z' p q r = rw (p, q, r) refl
-
-pub filter_alike : (p q : ℕ → Bool) → ((j : ℕ) → p j ≡ q j) → (xs : List ℕ) → filter p xs ≡ filter q xs
-filter_alike p q e [] = refl
-filter_alike p q e (x ∷ xs) = rw (e x, filter_alike p q e xs) refl
-
-pub any_alike : {X : Type 0} (p q : X → Bool) → ((x : X) → p x ≡ q x) → (xs : List X) → list_any p xs ≡ list_any q xs
-any_alike p q e [] = refl
-any_alike p q e (x ∷ xs) = rw (e x, any_alike p q e xs) refl
 
 -- a task that is held for the child was claimed for it
 pub claimed_in : (past : List Entry) (c t : ℕ) (o : Option Holder) → is_held_for c (fold (turned t) o past) ≡ true

@@ -15,20 +15,19 @@ use Rattle.annex_model.specs.Hearings.{asked_by, request_in}
 use Rattle.journal_model.specs.Due.{replies_at}
 use Rattle.journal_model.specs.Legality.{Legal, MayStand, may_come, asks_in_turn, is_led}
 use Rattle.journal_model.specs.Projection.{Fits, PartFits, FitsFinal, final_in, IsNamed}
-use Rattle.journal_model.proofs.Looks.{is_asked, same, both}
-use Rattle.journal_model.proofs.Holding.{not_true}
+use Rattle.journal_model.proofs.Looks.{is_asked}
 use Rattle.journal_model.proofs.Growing.{StandsFrom-split}
 use Rattle.journal_model.proofs.Keeping.{plain_lead, in_turn_of}
 use Rattle.journal_model.proofs.PartsGrow.{part_from-append}
 use Rattle.journal_model.proofs.Projecting.{parts_fit, asked_parts}
+use Rattle.std.proofs.lemmas.Option.{same_Some as same_some}
+use Rattle.ann_key.proofs.Numbers.{same_number as same}
+use Rattle.std.proofs.lemmas.Bool.{and_parts as both, not-true as not_true}
 
 by_fit : (replies : ℕ → List (List ℕ)) (q : HostMessage) (p : List Item) (f : Option (Final × ℕ)) → FitsFinal replies q p f
     → IfSome f (λ x. (ms : List (Option RemoteMessage)) × (final_of q ms ≡ Some x.0))
 by_fit replies q p None h = tt
 by_fit replies q p (Some f) h = (said p, h.final)
-
-same_some : {A : Type 0} (x y : A) → Some x ≡ Some y → x ≡ y
-same_some x y e = cc
 
 by_part : (replies : ℕ → List (List ℕ)) (q : HostMessage) (p : List Item) (v : Verdict) → request_in p ≡ Some q → Fits replies p (Some v) → IsNamed q v
 by_part replies q [] v first f = absurd cc

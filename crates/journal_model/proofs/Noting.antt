@@ -23,8 +23,11 @@ use Rattle.journal_model.specs.Due.{due_after}
 use Rattle.journal_model.specs.Legality.{Follows}
 use Rattle.journal_model.specs.Notes.{note_of, noted, notes_at, with_notes, AreCurrentAt}
 use Rattle.journal_model.proofs.Growing.{one_ask}
-use Rattle.journal_model.proofs.Looks.{entry, each_of-append, both, same}
+use Rattle.journal_model.proofs.Looks.{entry, each_of-append}
 use Rattle.journal_model.proofs.Holding.{due_names}
+use Rattle.ann_key.proofs.Orderings.{less}
+use Rattle.std.proofs.lemmas.Bool.{and_parts as both}
+use Rattle.ann_key.proofs.Numbers.{same_number as same}
 
 pub notes_grow : (o : Opening) (past more : List Entry) → notes_at o (past ++ more) ≡ notes_at o past ++ each_of (noted o) more
 notes_grow o past more =
@@ -86,7 +89,7 @@ writable o task chunk count uuid size = record { uuid = uuid; chunk = size; nano
 
 -- ---- one book
 
-own_place : (x : Note) → is_of x.key x.line.uuid x.line.chunk x ≡ true
+pub own_place : (x : Note) → is_of x.key x.line.uuid x.line.chunk x ≡ true
 own_place x =
     let key : bytes_eq x.key x.key ≡ true = (bytes_eq-Decides x.key x.key).1 refl in
     let uuid : bytes_eq x.line.uuid x.line.uuid ≡ true = (bytes_eq-Decides x.line.uuid x.line.uuid).1 refl in
@@ -122,12 +125,7 @@ first_counts x xs all key uuid chunk own = rw own (from_line xs all)
             absurd (let bad : true ≡ false = sym before ∙ tie in cc)
         go false e before rest = rest
 
-less : (o : Ordering) → is_lt o ≡ true → o ≡ Less
-less Less h = refl
-less Equal h = absurd cc
-less Greater h = absurd cc
-
-farther : (x y : Note) (ys : List Note) → place_cmp x y ≡ Less → list_all (is_before y) ys ≡ true → list_all (is_before x) ys ≡ true
+pub farther : (x y : Note) (ys : List Note) → place_cmp x y ≡ Less → list_all (is_before y) ys ≡ true → list_all (is_before x) ys ≡ true
 farther x y [] e all = refl
 farther x y (z ∷ zs) e all =
     let parts = both (is_before y z) (list_all (is_before y) zs) all in

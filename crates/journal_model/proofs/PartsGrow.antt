@@ -13,6 +13,9 @@ use Rattle.annex_model.specs.Talks.{Item, Remote}
 use Rattle.journal_model.specs.Journal.{is_live, is_open, addressed}
 use Rattle.journal_model.specs.Parts.{part, part_from, item_of, ends_at, is_place, is_for}
 use Rattle.journal_model.specs.Legality.{may_come, may_stop}
+use Rattle.std.proofs.lemmas.Bool.{and_right as and_false}
+use Rattle.ann_key.proofs.Booleans.{and_last as and_right}
+use Rattle.ann_key.proofs.Lists.{cons_option-append}
 
 -- no entry stands first that ends c at an earlier line
 abbrev pub NamesNoLine : ℕ → List Entry → Type 0
@@ -29,10 +32,6 @@ item_of-append c j past (Got child line) xs ys h =
     (Some (record { side = Remote; at = length past; text = (addressed past c line).1 })) None)
     (ends_at-append c (length past) xs ys h)
 item_of-append c j past w xs ys h = refl
-
-cons_option-append : {X : Type 0} (o : Option X) (xs ys : List X) → cons_option o xs ++ ys ≡ cons_option o (xs ++ ys)
-cons_option-append None xs ys = refl
-cons_option-append (Some x) xs ys = refl
 
 pub part_from-append : (c j : ℕ) (past xs ys : List Entry) → NamesNoLine c ys
     → part_from c j past (xs ++ ys) ≡ part_from c j past xs ++ part_from c j (past ++ xs) ys
@@ -57,14 +56,6 @@ stop_names_none past child p Closed h = refl
 stop_names_none past child p (Foul at) h = absurd cc
 stop_names_none past child p (Error at) h = absurd cc
 stop_names_none past child p (Version at) h = absurd cc
-
-pub and_right : (a b : Bool) → (a && b) ≡ true → b ≡ true
-and_right true b h = h
-and_right false b h = absurd cc
-
-pub and_false : (a b : Bool) → b ≡ false → (a && b) ≡ false
-and_false true b h = h
-and_false false b h = refl
 
 pub come_names_none : (o : Opening) (past : List Entry) (c by : ℕ) (w : What) (rest : List Entry) → may_come o past by w ≡ true
     → NamesNoLine c (record { by = by; what = w } ∷ rest)

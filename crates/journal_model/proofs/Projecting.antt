@@ -1,7 +1,7 @@
 -- In a legal journal each job's part fits its request and its verdict.
 use Rattle.std.proofs.Common.{◌≡◌, ℕ, ◌<◌, List, [], ◌∷◌, ◌++◌, ◌≤◌, refl, sym, ap, subst, ◌∙◌, Bool, true, false, length, not, ◌==◌, cond, Some, None, Option, arith, length-append}
 use Rattle.std.specs.Prelude.{◌&&◌, ◌↔◌, map}
-use Rattle.std.specs.List.{list_any, cons_option, last_or}
+use Rattle.std.specs.List.{list_any, cons_option}
 use Rattle.std.specs.Option.{option_or}
 use Rattle.std.proofs.lemmas.List.{append-nil}
 use Rattle.journal_model.specs.declared.verdict.Why.TheVariants.{Foul, Error as ErrorAt, Version as VersionFault}
@@ -25,11 +25,14 @@ use Rattle.journal_model.specs.Due.{due_after, made_by, verdict_at, ending, due_
 use Rattle.journal_model.specs.Legality.{Legal, MayStand, may_come, is_led}
 use Rattle.journal_model.specs.Projection.{Fits, PartFits, FitsFinal, JobFits, PartIsAsked, Ends, final_in, last_place}
 use Rattle.journal_model.proofs.Growing.{groups_from, is_lead}
-use Rattle.journal_model.proofs.Holding.{not_true}
 use Rattle.journal_model.proofs.PartsGrow.{part-group}
-use Rattle.journal_model.proofs.Looks.{entry, is_asked, same, same_number, both, either_left, true_not_false, each_of-append, any-append, verdict_of-append, or_none, settled_none, unasked_closed, open_unsettled}
+use Rattle.journal_model.proofs.Looks.{entry, is_asked, each_of-append, any-append, verdict_of-append, or_none, settled_none, unasked_closed, open_unsettled}
 use Rattle.journal_model.proofs.Replying.{IsPlaced, longer, placed_kept, tag_kept, said_small, reply_places, reply_texts, reply_part, replies_here}
 use Rattle.journal_model.proofs.Keeping.{Inv, earlier, end_inv, mute_inv, plain_inv, ask_inv, led_inv, foul_inv, passed_inv, greet_inv}
+use Rattle.ann_key.proofs.Lists.{last_or-push as last_push, nil_front as no_append}
+use Rattle.std.proofs.lemmas.Bool.{not-true as not_true, eqb-true as same_number, and_parts as both}
+use Rattle.ann_key.proofs.Numbers.{same_number as same}
+use Rattle.ann_key.proofs.Booleans.{left_false as either_left, true_and_false as true_not_false}
 
 -- ---- what one more item makes of a part
 
@@ -50,10 +53,6 @@ final_place Failed at place h = absurd cc
 final_place Absent at place h = absurd cc
 final_place Unknown at place h = absurd cc
 final_place Unsupported at place h = absurd cc
-
-last_push : {X : Type 0} (o : Option X) (xs : List X) (x : X) → last_or o (xs ++ x ∷ []) ≡ Some x
-last_push o [] x = refl
-last_push o (y ∷ xs) x = last_push (Some y) xs x
 
 is_plain : (m : RemoteMessage) (at : ℕ) (text : List ℕ) (b : Bool) → remote_reading text ≡ Some m → is_aside m ≡ b → item_is_aside (from_remote at text) ≡ b
 is_plain m at text b spelled e = ap (λ (r : Option RemoteMessage). spells_aside r) spelled ∙ e
@@ -236,10 +235,6 @@ join_fits f p v is w false h new =
 join_fits f p v is w true h new =
     let facts = new refl in
     subst (λ (x : Option Verdict). Fits f (p ++ is) (option_or x w)) (sym facts.0) facts.1
-
-no_append : {X : Type 0} (xs ys : List X) → xs ++ ys ≡ [] → xs ≡ []
-no_append [] ys h = refl
-no_append (x ∷ xs) ys h = absurd cc
 
 join_asked : (p : List Item) (asked : Bool) (is : List Item) (b : Bool) → ((p ≡ []) ↔ (asked ≡ false)) → (b ≡ true → p ≡ [] → ⊥)
     → ((p ++ cond b is [] ≡ []) ↔ (asked ≡ false))

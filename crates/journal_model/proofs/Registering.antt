@@ -9,7 +9,6 @@ use Rattle.reg_file.specs.Links.{is_link, LinksRise}
 use Rattle.reg_file.specs.Registers.{RegisterFile, config_of, creds_of, state_of, has_url}
 use Rattle.reg_file.proofs.Orders.{sorted-insert_key, sorted-filter_keys}
 use Rattle.reg_file.specs.Links.{by_link}
-use Rattle.reg_file.proofs.LinkLists.{both}
 use Rattle.reg_file.proofs.Readings.{text_at-put, pair_at-put, state_of-with_state, has_url-with_url}
 use Rattle.reg_file.proofs.Settings.{links_total}
 use Rattle.journal_model.specs.declared.entry.What.{What}
@@ -19,6 +18,8 @@ use Rattle.journal_model.specs.Journal.{addressed}
 use Rattle.journal_model.specs.Parts.{ends_at}
 use Rattle.journal_model.specs.Replies.{Values, SameValues, replies_by, creds_line, url_lines, value_line, set_by, set_by_all}
 use Rattle.journal_model.specs.Registers.{settings, settings_from, setting_of, is_open_job, if_setting, last_given, gives_config, gives_creds, gives_wanted, gives_state, gives_url, NamesNoLine, HasNoLine, is_got}
+use Rattle.ann_key.proofs.Lists.{cons_option-append}
+use Rattle.std.proofs.lemmas.Bool.{and_parts as both}
 
 -- ---- the last of some values
 last_or-some : {X : Type 0} (d v : X) (xs : List X) → unwrap_or (last_or (Some v) xs) d ≡ unwrap_or (last_or None xs) v
@@ -98,10 +99,6 @@ setting_of-append past (Got child line) xs ys h =
     ap (λ (b : Bool). cond (is_open_job past child (addressed past child line).0 && not b) (if_setting (remote_reading (addressed past child line).1)) None)
     (ends_at-append child (length past) xs ys h)
 setting_of-append past w xs ys h = refl
-
-cons_option-append : {X : Type 0} (o : Option X) (xs ys : List X) → cons_option o xs ++ ys ≡ cons_option o (xs ++ ys)
-cons_option-append None xs ys = refl
-cons_option-append (Some x) xs ys = refl
 
 settings_from-append : (past xs ys : List Entry) → NamesNoLine ys → settings_from past (xs ++ ys) ≡ settings_from past xs ++ settings_from (past ++ xs) ys
 settings_from-append past [] ys h = ap (λ (p : List Entry). settings_from p ys) (sym (append-nil past))

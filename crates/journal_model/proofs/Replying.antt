@@ -16,8 +16,11 @@ use Rattle.journal_model.specs.declared.entry.Entry.{Entry}
 use Rattle.journal_model.specs.Journal.{any, offers, first_of, verdict_of, accepts_async, got_line, is_tagged, on_wire, by_tag, addressed, open_jobs}
 use Rattle.journal_model.specs.Parts.{part_from, item_of}
 use Rattle.journal_model.specs.Due.{made_by, replying, replies_at, replies_to, replies_said}
-use Rattle.journal_model.proofs.Looks.{entry, same_number, any-append, verdict_of-append, or_none}
+use Rattle.journal_model.proofs.Looks.{entry, any-append, verdict_of-append, or_none}
 use Rattle.journal_model.proofs.Asking.{number_below}
+use Rattle.ann_key.proofs.Booleans.{or_false}
+use Rattle.ann_key.proofs.Lists.{get_after as slice_get-here}
+use Rattle.std.proofs.lemmas.Bool.{eqb-true as same_number}
 
 -- ---- places
 
@@ -33,17 +36,9 @@ slice_get-left [] ys at h = absurd (let bad : ⊥ = omega (arith, h) in bad)
 slice_get-left (x ∷ xs) ys zero h = refl
 slice_get-left (x ∷ xs) ys (suc at) h = slice_get-left xs ys at (omega (arith, h))
 
-pub slice_get-here : {X : Type 0} (xs : List X) (y : X) (ys : List X) → slice_get (xs ++ y ∷ ys) (length xs) ≡ Some y
-slice_get-here [] y ys = refl
-slice_get-here (x ∷ xs) y ys = slice_get-here xs y ys
-
 -- ---- what is added gives no tags
 
-or_false : (b : Bool) → (b || false) ≡ b
-or_false true = refl
-or_false false = refl
-
-accepted : (past more : List Entry) (v : Option Verdict) → ((at : ℕ) → v ≡ Some (DoneAt at) → at < length past) → accepts_async (past ++ more) v ≡ accepts_async past v
+pub accepted : (past more : List Entry) (v : Option Verdict) → ((at : ℕ) → v ≡ Some (DoneAt at) → at < length past) → accepts_async (past ++ more) v ≡ accepts_async past v
 accepted past more None h = refl
 accepted past more (Some (DoneAt at)) h = ap (λ (e : Option Entry). names_async (remote_reading (got_line e))) (slice_get-left past more at (h at refl))
 accepted past more (Some v) h = refl

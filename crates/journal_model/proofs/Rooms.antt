@@ -17,11 +17,13 @@ use Rattle.journal_model.specs.Legality.{Legal, may_come, may_stop, is_number, i
 use Rattle.journal_model.specs.Registers.{is_got}
 use Rattle.journal_model.specs.Room.{room_for, room_for_all, room_of, is_put, is_ask}
 use Rattle.journal_model.proofs.Growing.{Near, Legal-induction, none_asks, due_none_asks, one_ask}
-use Rattle.journal_model.proofs.Looks.{entry, same_number, both, either_left, either_right, each_of-append, settled_all}
+use Rattle.journal_model.proofs.Looks.{entry, each_of-append, settled_all}
 use Rattle.journal_model.proofs.Working.{claims_counted, count-append, count_one, due_untasked, one_if, unrenewed_in}
 use Rattle.std.proofs.lemmas.Bool.Decides.{nat_tests}
-use Rattle.journal_model.proofs.Holding.{claimed, closed, closing_claims, GotDue, got_due, verdicts_name, replies_name, due_names, not_true, held_busy, held_near}
+use Rattle.journal_model.proofs.Holding.{claimed, closed, closing_claims, GotDue, got_due, verdicts_name, replies_name, due_names, held_busy, held_near}
 use Rattle.journal_model.proofs.Counting.{IsSame, same_nat, nat_is_same, same_pair, pair_is_same, Pair, one, many, many-cons, many-append, AtMost, AtMost-length, more_none, more_one, holds, named_none, named_some, named_count, named_length, is_there, filter_at_most, filter_drops}
+use Rattle.std.proofs.lemmas.Bool.{eqb-true as same_number, and_parts as both, not-true as not_true}
+use Rattle.ann_key.proofs.Booleans.{left_false as either_left, right_false as either_right}
 
 -- ---- whom an entry names
 
@@ -559,7 +561,7 @@ room_suffices o journal legal =
 
 -- ---- what a group adds to the room
 
-rooms-cons : (e : Entry) (past : List Entry) → room_for_all (e ∷ past) ≡ room_for e.what + room_for_all past
+pub rooms-cons : (e : Entry) (past : List Entry) → room_for_all (e ∷ past) ≡ room_for e.what + room_for_all past
 rooms-cons e past = sum_by-cons (λ (d : Entry). room_for d.what) e past
 
 -- entries add to the room what they take

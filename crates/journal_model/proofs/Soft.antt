@@ -16,7 +16,7 @@ use Rattle.journal_model.specs.Journal.{any, sends, mutes, ends, end_why, why_of
 use Rattle.journal_model.specs.Parts.{part}
 use Rattle.journal_model.specs.Due.{verdict_at, ending, foul, replies, replies_said, replying, due_by, due_by_got, after_hearing, after_late, after_message, after_line, is_passed, is_error, is_version_one, made_by}
 use Rattle.annex_model.specs.Hearings.{Hearing, Aside, Part, Settles, Strange, hearing}
-use Rattle.journal_model.proofs.Looks.{both}
+use Rattle.std.proofs.lemmas.Bool.{and_parts as both}
 
 -- a line was due to end the child
 abbrev pub is_soft_why : Why → Bool

@@ -12,11 +12,13 @@ use Rattle.journal_model.specs.Due.{due_after}
 use Rattle.journal_model.specs.Legality.{Legal, StandsFrom, owed_from, may_come, needs_lead, holder, is_claimed, is_busy}
 use Rattle.journal_model.specs.declared.entry.What.TheVariants.{Lead, Ask}
 use Rattle.journal_model.proofs.Growing.{groups_from, StandsFrom-split, owed_from-append}
-use Rattle.journal_model.proofs.Looks.{entry, both, any-append, true_not_false, either_left, either_right}
+use Rattle.journal_model.proofs.Looks.{entry, any-append}
 use Rattle.journal_model.specs.Makers.{is_of_task}
-use Rattle.journal_model.proofs.Testing.{or_left, by_either, neither}
+use Rattle.journal_model.proofs.Testing.{by_either}
 use Rattle.journal_model.proofs.Working.{takes, Takes, claimed_apart, due_untasked, holder_apart}
 use Rattle.journal_model.proofs.Holding.{held_busy}
+use Rattle.std.proofs.lemmas.Bool.{and_parts as both}
+use Rattle.ann_key.proofs.Booleans.{true_and_false as true_not_false, left_false as either_left, right_false as either_right, or_neither as neither}
 
 -- what holds of a legal journal, and is kept by each group, holds of each legal one that begins with it
 pub Legal-from : (o : Opening) (P : List Entry → Type 0) (start rest : List Entry) → Legal o start → Legal o (start ++ rest) → P start

@@ -7,29 +7,12 @@ use Rattle.journal_model.specs.declared.entry.What.{What}
 use Rattle.journal_model.specs.declared.entry.Entry.{Entry}
 use Rattle.journal_model.specs.Journal.{any}
 use Rattle.journal_model.specs.Due.{made_by}
-use Rattle.journal_model.proofs.Looks.{both, same, same_number, differ, either_left, either_right}
 use Rattle.journal_model.specs.Shares.{are_own, makes_only, are_others}
+use Rattle.ann_key.proofs.Booleans.{or_right, or_left, left_false as either_left, right_false as either_right}
+use Rattle.std.proofs.lemmas.Bool.{and_parts as both, eqb-true as same_number, ne_eqb as differ}
+use Rattle.ann_key.proofs.Numbers.{same_number as same}
 
 -- ---- tests
-
-pub or_true : (b : Bool) → (b || true) ≡ true
-or_true true = refl
-or_true false = refl
-
-pub or_false : (b : Bool) → (b || false) ≡ b
-or_false true = refl
-or_false false = refl
-
-pub or_left : (a b : Bool) → a ≡ true → (a || b) ≡ true
-or_left true b h = refl
-or_left false b h = absurd cc
-
-pub or_right : (a b : Bool) → b ≡ true → (a || b) ≡ true
-or_right true b h = refl
-or_right false b h = h
-
-pub neither : (a b : Bool) → a ≡ false → b ≡ false → (a || b) ≡ false
-neither a b x y = rw (x, y) refl
 
 -- ---- along a list
 

@@ -1,5 +1,5 @@
 -- What stays of a child's tags and of its turns, as a journal goes on.
-use Rattle.std.proofs.Common.{zero, suc, ◌≡◌, ℕ, List, [], ◌∷◌, ◌++◌, refl, sym, ap, ◌∙◌, Bool, true, false, not, None, Some, Option, append-nil, append_assoc}
+use Rattle.std.proofs.Common.{zero, suc, ◌≡◌, ℕ, List, [], ◌∷◌, ◌++◌, refl, ap, ◌∙◌, Bool, true, false, not, None, Some, Option, append-nil}
 use Rattle.std.specs.Prelude.{◌&&◌, ◌||◌, filter, slice_get}
 use Rattle.std.specs.Option.{option_or}
 use Rattle.journal_model.specs.declared.verdict.Verdict.{Verdict}
@@ -13,12 +13,11 @@ use Rattle.journal_model.specs.Journal.{any, asks, got_lines, got_from, has_spok
 use Rattle.journal_model.specs.Legality.{is_empty}
 use Rattle.journal_model.specs.Wires.{may_hear, heard_from, is_heard_in_turn}
 use Rattle.journal_model.specs.Shares.{is_of_child}
-use Rattle.journal_model.proofs.Looks.{both, either_left, either_right, each_of-append, any-append, verdict_of-append}
-use Rattle.journal_model.proofs.Heard.{heard_on}
-
-or_true : (b : Bool) → (b || true) ≡ true
-or_true true = refl
-or_true false = refl
+use Rattle.journal_model.proofs.Looks.{each_of-append, any-append, verdict_of-append}
+use Rattle.journal_model.proofs.Heard.{heard_on, heard-append}
+use Rattle.ann_key.proofs.Booleans.{or_false, or_true, left_false as either_left, right_false as either_right}
+use Rattle.ann_key.proofs.Lists.{filter_alike as filter_same}
+use Rattle.std.proofs.lemmas.Bool.{and_parts as both}
 
 -- ---- a tagged child stays so
 
@@ -65,14 +64,6 @@ without c (e ∷ more) h = step e.what (either_left (is_of_child c e.what) (any 
     step (Settled child job verdict) h r = record { gots = r.gots; spoken = r.spoken; asked = r.asked; settled = λ j. (rw h (r.settled j)) }
     step w h r = record { gots = r.gots; spoken = r.spoken; asked = r.asked; settled = r.settled }
 
-filter_same : (p q : ℕ → Bool) → ((j : ℕ) → p j ≡ q j) → (xs : List ℕ) → filter p xs ≡ filter q xs
-filter_same p q e [] = refl
-filter_same p q e (x ∷ xs) = rw (e x, filter_same p q e xs) refl
-
-or_false : (b : Bool) → (b || false) ≡ b
-or_false true = refl
-or_false false = refl
-
 open_same : (past more : List Entry) (c : ℕ) → Without c more → open_jobs (past ++ more) c ≡ open_jobs past c
 open_same past more c w =
     ap (filter (λ j. not (is_settled (past ++ more) c j))) (each_of-append (asks c) past more ∙ ap (λ (x : List ℕ). asked_jobs past c ++ x) w.asked ∙ append-nil (asked_jobs past c))
@@ -100,18 +91,6 @@ pub turn_apart : (past more : List Entry) (c : ℕ) → any (is_of_child c) more
 turn_apart past more c none h = heard_on c past more (without c more none).gots h
 
 -- ---- lines of a tagged child are always in turn
-
-and_assoc : (a b c : Bool) → ((a && b) && c) ≡ (a && (b && c))
-and_assoc true b c = refl
-and_assoc false b c = refl
-
-heard-append : (c : ℕ) (past xs ys : List Entry) → heard_from c past (xs ++ ys) ≡ (heard_from c past xs && heard_from c (past ++ xs) ys)
-heard-append c past [] ys = ap (λ (p : List Entry). heard_from c p ys) (sym (append-nil past))
-heard-append c past (e ∷ xs) ys =
-    let first : Bool = not (got_from c e.what) || may_hear past c in
-    ap (λ (b : Bool). first && b) (heard-append c (past ++ e ∷ []) xs ys)
-    ∙ sym (and_assoc first (heard_from c (past ++ e ∷ []) xs) (heard_from c ((past ++ e ∷ []) ++ xs) ys))
-    ∙ ap (λ (p : List Entry). (first && heard_from c (past ++ e ∷ []) xs) && heard_from c p ys) (append_assoc past (e ∷ []) xs)
 
 tagged_hears : (past : List Entry) (c : ℕ) → is_tagged past c ≡ true → may_hear past c ≡ true
 tagged_hears past c t = rw t (or_true (not (has_spoken past c)))

@@ -11,21 +11,19 @@ use Rattle.journal_model.specs.Journal.{any, is_live, is_mute}
 use Rattle.journal_model.specs.Legality.{Legal, claims, closes, holder, is_claimed_by, is_held_by, is_number, is_prepared, least_free, may_come, turned, turned_by}
 use Rattle.journal_model.specs.Makers.{are_by_holder, is_by_holder, is_of_task}
 use Rattle.journal_model.specs.Shares.{makes_only}
-use Rattle.journal_model.proofs.Holding.{not_true}
-use Rattle.journal_model.proofs.Looks.{any-append, true_not_false, both, either_left, entry, same, same_number}
-use Rattle.journal_model.proofs.Testing.{by_either, neither}
-use Rattle.journal_model.proofs.Working.{are_by_holder-append, due_untasked, held_taken, taken_some, tasks_kept, unclaimed_in}
+use Rattle.journal_model.proofs.Looks.{any-append, entry}
+use Rattle.journal_model.proofs.Testing.{by_either}
+use Rattle.journal_model.proofs.Working.{are_by_holder-append, due_untasked, held_taken, taken_some, tasks_kept, unclaimed_in, claims_of}
 use Rattle.journal_model.proofs.Growing.{Legal-induction}
 use Rattle.journal_model.proofs.Idling.{free_positive}
 use Rattle.journal_model.specs.Due.{due_after}
+use Rattle.std.proofs.lemmas.Bool.{not-true as not_true, and_parts as both, eqb-true as same_number}
+use Rattle.ann_key.proofs.Booleans.{true_and_false as true_not_false, left_false as either_left, or_neither as neither}
+use Rattle.ann_key.proofs.Numbers.{same_number as same}
 
 -- the entry claims the task, or closes a run of it
 abbrev pub bounds : ℕ → What → Bool
 bounds t w = claims t w || closes t w
-
-claims_of : (t : ℕ) (w : What) → claims t w ≡ true → is_of_task t w ≡ true
-claims_of t (Claim task child) h = h
-claims_of t w h = absurd cc
 
 closes_of : (t : ℕ) (w : What) → closes t w ≡ true → is_of_task t w ≡ true
 closes_of t (Answered task answer) h = h

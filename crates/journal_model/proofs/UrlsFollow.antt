@@ -15,13 +15,15 @@ use Rattle.reg_file.specs.Tables.{by_bytes}
 use Rattle.reg_file.specs.Links.{LinksRise}
 use Rattle.reg_file.specs.Registers.{RegisterFile, IsKept, has_url, urls_of, config_of, creds_of, state_of}
 use Rattle.reg_file.proofs.Orders.{sorted-insert_key}
-use Rattle.reg_file.proofs.Tables.{is_eq-by_bytes, alike, same_bytes, itself}
+use Rattle.reg_file.proofs.Tables.{is_eq-by_bytes, alike}
 use Rattle.reg_file.proofs.Readings.{any_url, urls_rise}
 use Rattle.journal_model.specs.declared.entry.Entry.{Entry}
 use Rattle.journal_model.specs.declared.opening.Identity.{Identity}
 use Rattle.journal_model.specs.Replies.{SameValues, values_of, set_by_all}
 use Rattle.journal_model.specs.Registers.{settings, last_given, gives_config, gives_creds, gives_wanted, gives_state, gives_url, names_url, is_present, named_urls, in_rising_order, urls_at, values_at}
 use Rattle.journal_model.proofs.Registering.{last_given-cons, follows, config_step, creds_step, wanted_step, state_step, url_step, still_rise}
+use Rattle.ann_key.proofs.Booleans.{and_true, or_left, and_false, or_true}
+use Rattle.ann_key.proofs.Lists.{equal_bytes as same_bytes, same_name as itself}
 
 -- the text is one of the list
 abbrev has : List ℕ → List (List ℕ) → Bool
@@ -57,10 +59,6 @@ rising [] = tt
 rising (x ∷ xs) = sorted-insert_key nat_list_cmp_total x (in_rising_order xs) (rising xs)
 
 -- ---- what a filter leaves
-and_false : (a : Bool) → (a && false) ≡ false
-and_false true = refl
-and_false false = refl
-
 filtered : (e b rest any s : Bool) → (e ≡ true → b ≡ s) → rest ≡ (any && s) → cond b (e || rest) rest ≡ ((e || any) && s)
 filtered true true rest any s same h = same refl
 filtered true false rest any s same h = h ∙ ap (λ x. any && x) (sym (same refl)) ∙ and_false any ∙ same refl
@@ -120,14 +118,6 @@ same_lists (x ∷ xs) (y ∷ ys) s t h =
         ] refl
 
 -- ---- what is present was named
-or_true : (a : Bool) → (a || true) ≡ true
-or_true true = refl
-or_true false = refl
-
-or_left : (a b : Bool) → a ≡ true → (a || b) ≡ true
-or_left true b h = refl
-or_left false b h = absurd (false≢true h)
-
 module _ (key url : List ℕ) where
   one_url : (k u : List ℕ) (given d : Bool) (us : List (List ℕ))
       → (unwrap_or (cond (bytes_eq key k && bytes_eq url u) (Some given) None) d || has url us) ≡ true
@@ -157,10 +147,6 @@ absorbed : (k b s : Bool) → (b ≡ true → k ≡ true) → (k && (b && s)) �
 absorbed k true s h = ap (λ x. x && s) (h refl)
 absorbed true false s h = refl
 absorbed false false s h = refl
-
-and_true : (a : Bool) → (a && true) ≡ a
-and_true true = refl
-and_true false = refl
 
 module _ (r : RegisterFile) (past : List Entry) (key : List ℕ) where
   named_before : (u : List ℕ) → is_present r past key u ≡ true → has u (named_urls r past key) ≡ true

@@ -22,6 +22,7 @@ use Rattle.journal_model.proofs.Growing.{Legal-induction}
 use Rattle.journal_model.proofs.Looks.{entry, is_asked, any-append, verdict_of-append, settled_all, verdicts_one, verdicts_none}
 use Rattle.journal_model.proofs.Soft.{got_cases}
 use Rattle.journal_model.proofs.Projecting.{parts_fit, asked_parts}
+use Rattle.ann_key.proofs.Booleans.{or_true}
 
 -- what stands in the journal where the verdict does
 abbrev pub is_caused : Verdict → List Entry → ℕ → Bool
@@ -32,10 +33,6 @@ is_caused v past c = true
 -- each verdict of the stretch has its cause there
 abbrev AreCaused : List Entry → Type 0
 AreCaused more = (c k : ℕ) (v : Verdict) → verdict_of more c k ≡ Some v → is_caused v more c ≡ true
-
-or_true : (b : Bool) → (b || true) ≡ true
-or_true true = refl
-or_true false = refl
 
 caused_before : (v : Verdict) (past more : List Entry) (c : ℕ) → is_caused v past c ≡ true → is_caused v (past ++ more) c ≡ true
 caused_before (Ended why) past more c h = any-append (ends c) past more ∙ ap (λ (b : Bool). b || is_ended more c) h

@@ -14,8 +14,11 @@ use Rattle.journal_model.specs.Journal.{first_of, line_from, ends, got_from, has
 use Rattle.journal_model.specs.Due.{after_line, due_by, due_by_got, due_after, ending, made_by, is_error, is_version_one}
 use Rattle.journal_model.specs.Legality.{Legal, said_version}
 use Rattle.journal_model.proofs.Growing.{Legal-induction}
-use Rattle.journal_model.proofs.Looks.{both, same, same_number, each_of-append, any-append, silent_lines, true_not_false, either_left, either_right}
+use Rattle.journal_model.proofs.Looks.{each_of-append, any-append, silent_lines}
 use Rattle.journal_model.proofs.Soft.{is_soft, soft_got, soft_mute, soft_verdicts}
+use Rattle.std.proofs.lemmas.Bool.{and_parts as both, eqb-true as same_number}
+use Rattle.ann_key.proofs.Numbers.{same_number as same}
+use Rattle.ann_key.proofs.Booleans.{true_and_false as true_not_false, left_false as either_left, right_false as either_right}
 
 -- an entry with what it makes due
 abbrev group_of : Opening → List Entry → ℕ → What → List Entry
@@ -77,7 +80,7 @@ due_silent o past by c (End child why) = soft_silent by c (due_by o past (End ch
 due_silent o past by c (Mute child) = soft_silent by c (due_by o past (Mute child)) (soft_mute o past child)
 due_silent o past by c w = refl
 
-none_spoke : (past : List Entry) (c : ℕ) → got_lines past c ≡ [] → has_spoken past c ≡ false
+pub none_spoke : (past : List Entry) (c : ℕ) → got_lines past c ≡ [] → has_spoken past c ≡ false
 none_spoke [] c h = refl
 none_spoke (e ∷ past) c h = step e.what h (none_spoke past c)
   where

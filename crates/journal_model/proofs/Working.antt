@@ -1,13 +1,12 @@
 -- In a legal journal a task is claimed once, its entries are its claimer's, and it has no open job where it isn't busy.
 use Rattle.std.proofs.Common.{◌≡◌, ℕ, ◌+◌, ◌≤◌, ◌<◌, List, [], ◌∷◌, ◌++◌, refl, sym, ap, subst, ◌∙◌, Bool, true, false, not, ◌==◌, cond, Some, None, Option, ◌⊎◌, inl, inr, length, append-nil, arith, length-append}
-use Rattle.std.specs.Prelude.{◌&&◌, ◌||◌, if◌then◌else◌, nat_lt, map, filter, find, fold, is_none, is_some}
+use Rattle.std.specs.Prelude.{◌&&◌, ◌||◌, if◌then◌else◌, nat_lt, map, filter, fold, is_none, is_some}
 use Rattle.std.specs.List.{list_any, list_all, cons_option}
 use Rattle.std.specs.Option.{option_or}
 use Rattle.std.proofs.lemmas.List.Elements.{filter-append}
 use Rattle.std.proofs.lemmas.List.Folds.{list_any-append}
 use Rattle.annex_model.specs.Messages.{host_reading}
 use Rattle.journal_model.specs.declared.verdict.Verdict.{Verdict}
-use Rattle.journal_model.specs.declared.verdict.Verdict.TheVariants.{Ended}
 use Rattle.journal_model.specs.declared.holder.Holder.{Holder}
 use Rattle.journal_model.specs.declared.entry.What.{What}
 use Rattle.journal_model.specs.declared.entry.What.TheVariants.{Claim, Start, NoStart, Lead, Ask, Put, Sent, Mute, Got, End, Verdict as Settled, Lost, Answer as Answered, Note as Noted, Again}
@@ -19,18 +18,18 @@ use Rattle.journal_model.specs.Legality.{Legal, may_come, count, claims, claimed
 use Rattle.journal_model.specs.Makers.{is_of_task, is_taken_by, is_by_holder, are_by_holder, task_part}
 use Rattle.journal_model.specs.Shares.{are_own}
 use Rattle.journal_model.proofs.Growing.{Near, Near-induction, Legal-induction}
-use Rattle.journal_model.proofs.Holding.{holder_append, held_busy, held_claimed, claimed_append, claimed_group, closing_claims, closing_shut, not_true}
-use Rattle.journal_model.proofs.Looks.{entry, is_asked, both, same, same_number, differ, either_left, either_right, true_not_false, any-append, each_of-append, verdict_of-append, open_unsettled, unsettled}
-use Rattle.journal_model.proofs.Soft.{is_soft, soft_got, soft_mute, soft_verdicts}
-use Rattle.journal_model.proofs.Testing.{or_left, or_right, or_true, or_false, neither, by_either, all-join, any-fewer, any-more, own_if_none, out}
+use Rattle.journal_model.proofs.Holding.{holder_append, held_busy, held_claimed, claimed_append, claimed_group, closing_claims, closing_shut}
+use Rattle.journal_model.proofs.Looks.{entry, is_asked, any-append, each_of-append, verdict_of-append, open_unsettled, unsettled}
+use Rattle.journal_model.proofs.Soft.{is_soft}
+use Rattle.journal_model.proofs.Testing.{by_either, all-join, any-fewer, any-more, own_if_none, out}
+use Rattle.ann_key.proofs.Lists.{found_so as find_holds}
+use Rattle.journal_model.proofs.Bounds.{due_soft as soft_due}
+use Rattle.journal_model.proofs.Closing.{asked_open}
+use Rattle.std.proofs.lemmas.Bool.{not-true as not_true, and_parts as both, eqb-true as same_number, ne_eqb as differ}
+use Rattle.ann_key.proofs.Numbers.{same_number as same}
+use Rattle.ann_key.proofs.Booleans.{left_false as either_left, right_false as either_right, true_and_false as true_not_false, or_left, or_right, or_false, or_neither as neither}
 
 -- ---- what is due is of no task
-
-pub soft_due : (o : Opening) (past : List Entry) (w : What) → list_all is_soft (due_by o past w) ≡ true
-soft_due o past (Got c line) = soft_got o past c line
-soft_due o past (End c why) = soft_verdicts c (Ended why) (open_jobs past c)
-soft_due o past (Mute c) = soft_mute o past c
-soft_due o past w = refl
 
 soft_untasked : (t by : ℕ) (ws : List What) → list_all is_soft ws ≡ true → any (is_of_task t) (made_by by ws) ≡ false
 soft_untasked t by [] h = refl
@@ -44,7 +43,7 @@ due_untasked o past by t w = soft_untasked t by (due_by o past w) (soft_due o pa
 
 -- ---- entries of no task
 
-claims_of : (t : ℕ) (w : What) → claims t w ≡ true → is_of_task t w ≡ true
+pub claims_of : (t : ℕ) (w : What) → claims t w ≡ true → is_of_task t w ≡ true
 claims_of t (Claim task child) h = h
 claims_of t w h = absurd cc
 
@@ -199,14 +198,6 @@ claim_busy past by t w due k n =
     ap is_some (holder_append past (entry by w ∷ due) t) ∙ still_held t (turned_by t (holder past t) by w) due n (claim_holds t by (holder past t) w k)
 
 -- ---- an entry of a task claims it first, or is its claimer's
-
-pub find_holds : {X : Type 0} (p : X → Bool) (xs : List X) (x : X) → find p xs ≡ Some x → p x ≡ true
-find_holds p [] x h = absurd cc
-find_holds p (y ∷ ys) x h = go (p y) refl h (find_holds p ys x)
-  where
-    go : (b : Bool) → p y ≡ b → cond b (Some y) (find p ys) ≡ Some x → (find p ys ≡ Some x → p x ≡ true) → p x ≡ true
-    go true e h r = (let eq : y ≡ x = cc in subst (λ z. p z ≡ true) eq e)
-    go false e h r = r h
 
 pub claimed_free : (o : Opening) (past : List Entry) (t : ℕ) (f : Option ℕ) → least_free o past ≡ f → is_number t f ≡ true → is_claimed past t ≡ false
 claimed_free o past t None e h = absurd cc
@@ -456,25 +447,6 @@ claimed_once o journal l t = (let eq = claims_counted o journal (inl l) t in ome
 
 -- ---- open jobs
 
-asked_open : (past : List Entry) (c j : ℕ) (ks : List ℕ) → is_settled past c j ≡ false → list_any (λ k. k == j) ks ≡ true
-    → list_any (λ k. k == j) (filter (λ k. not (is_settled past c k)) ks) ≡ true
-asked_open past c j [] u h = absurd cc
-asked_open past c j (k ∷ ks) u h = go (k == j) refl h (asked_open past c j ks u)
-  where
-    rest : List ℕ
-    rest = filter (λ x. not (is_settled past c x)) ks
-
-    keep : (s : Bool) → list_any (λ x. x == j) rest ≡ true → list_any (λ x. x == j) (cond (not s) (k ∷ rest) rest) ≡ true
-    keep true r = r
-    keep false r = or_right (k == j) (list_any (λ x. x == j) rest) r
-
-    go : (b : Bool) → (k == j) ≡ b → (b || list_any (λ x. x == j) ks) ≡ true → (list_any (λ x. x == j) ks ≡ true → list_any (λ x. x == j) rest ≡ true)
-        → list_any (λ x. x == j) (cond (not (is_settled past c k)) (k ∷ rest) rest) ≡ true
-    go true e h r =
-        let here : is_settled past c k ≡ false = subst (λ (x : ℕ). is_settled past c x ≡ false) (sym (same_number k j e)) u in
-        rw here (or_left (k == j) (list_any (λ x. x == j) rest) e)
-    go false e h r = keep (is_settled past c k) (r h)
-
 -- a job that was asked and isn't open is settled, and stays so
 pub asked_settled : (past : List Entry) (c j : ℕ) → is_asked past c j ≡ true → is_open past c j ≡ false → is_settled past c j ≡ true
 asked_settled past c j a h = by_either (is_settled past c j) (λ t. t) (λ f. true_not_false (is_open past c j) (asked_open past c j (asked_jobs past c) f a) h)
@@ -490,7 +462,7 @@ abbrev pub AllAsked : List Entry → List (ℕ × ℕ) → Type 0
 AllAsked past [] = Unit {0}
 AllAsked past (q ∷ qs) = (is_asked past q.0 q.1 ≡ true) × AllAsked past qs
 
-asked_behind : (o : Option ℕ) (ks : List ℕ) (j : ℕ) → list_any (λ k. k == j) ks ≡ true → list_any (λ k. k == j) (cons_option o ks) ≡ true
+pub asked_behind : (o : Option ℕ) (ks : List ℕ) (j : ℕ) → list_any (λ k. k == j) ks ≡ true → list_any (λ k. k == j) (cons_option o ks) ≡ true
 asked_behind None ks j h = h
 asked_behind (Some k) ks j h = or_right (k == j) (list_any (λ k. k == j) ks) h
 
@@ -498,7 +470,7 @@ all_behind : (by : ℕ) (w : What) (xs : List Entry) (qs : List (ℕ × ℕ)) �
 all_behind by w xs [] h = tt
 all_behind by w xs (q ∷ qs) h = (asked_behind (asks q.0 w) (asked_jobs xs q.0) q.1 h.0, all_behind by w xs qs h.1)
 
-asked_first : (by child job task : ℕ) (line : List ℕ) (xs : List Entry) → is_asked (entry by (Ask child job task line) ∷ xs) child job ≡ true
+pub asked_first : (by child job task : ℕ) (line : List ℕ) (xs : List Entry) → is_asked (entry by (Ask child job task line) ∷ xs) child job ≡ true
 asked_first by child job task line xs =
     rw (same child) (or_left (job == job) (list_any (λ k. k == job) (asked_jobs xs child)) (same job))
 

@@ -13,8 +13,9 @@ use Rattle.journal_reader.specs.Runs.{Reads}
 use Rattle.journal_reader.specs.declared.place.Place.{Place}
 use Rattle.journal_reader.specs.declared.place.Place.TheVariants.{Head, Uuid, Name, Gitdir, Stamp, Again, Given, Entries, Over, Refused}
 use Rattle.journal_reader.proofs.Going.{task_begin, keep_begin, task_keep}
-use Rattle.journal_reader.proofs.LineFields.{worded_same, number_read}
+use Rattle.journal_reader.proofs.LineFields.{worded_same}
 use Rattle.chunk_log.specs.ChunkLines.{number_in}
+use Rattle.chunk_log.proofs.ReadBack.{number_back as number_read}
 
 abbrev Same : Place → Place → Told → Told → Type 0
 Same p q u v = (p ≡ q) × (u ≡ v)

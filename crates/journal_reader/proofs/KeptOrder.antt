@@ -7,21 +7,21 @@ use Rattle.std.specs.List.Sorted.{IsStrictlySortedBy}
 use Rattle.std.specs.Ordering.{nat_cmp, ordering_then, is_lt}
 use Rattle.std.specs.declared.cmp.Ordering.{Ordering}
 use Rattle.std.specs.declared.cmp.Ordering.TheVariants.{Less, Equal, Greater}
-use Rattle.std.proofs.lemmas.Bool.{and_parts}
+use Rattle.std.proofs.lemmas.Bool.{and_parts, and_from as both_true}
 use Rattle.std.proofs.lemmas.Bool.Decides.{nat_tests}
 use Rattle.reg_file.specs.Links.{by_link}
 use Rattle.reg_file.specs.Registers.{RegisterFile, IsKept}
 use Rattle.reg_file.specs.RegLines.{Line, ConfigLine, StateLine, UrlLine, lines_of, later_lines_of, keyed_lines_of, wanted_lines}
 use Rattle.reg_file.specs.Tables.{Texts, by_bytes}
-use Rattle.reg_file.proofs.Settings.{both_true}
 use Rattle.chunk_log.specs.ChunkLines.{line_text}
 use Rattle.chunk_log.specs.NoteBooks.{place_cmp, is_before, in_order}
 use Rattle.chunk_log.specs.declared.note.Note.{Note}
-use Rattle.chunk_log.proofs.ReadBack.{reads_back}
 use Rattle.keep_text.specs.KeptFiles.{kept_of, kept_note, cut_note, IsKeepable}
 use Rattle.keep_text.specs.KeptLines.{KeptLine, Setting, Expression, State, Url, chunk_in}
 use Rattle.keep_text.specs.Orders.{rank, kept_cmp, fields_cmp, logs_cmp}
-use Rattle.keep_text.proofs.Chunked.{chunk_read}
+use Rattle.std.proofs.lemmas.List.{append_assoc as joined, map-append as mapped-append}
+use Rattle.ann_key.proofs.Lists.{mapped}
+use Rattle.keep_text.proofs.WrittenLines.{note_chunk}
 
 -- ---- lines in order, one after the other
 
@@ -65,9 +65,6 @@ then_twice Less b d = refl
 then_twice Equal b d = refl
 then_twice Greater b d = refl
 
-note_chunk : (note : Note) → IsKeepable note → chunk_in (line_text note.line) ≡ Some (cut_note note).line
-note_chunk note n = chunk_read (line_text note.line) (cut_note note).line (reads_back note.line n.line n.seconds n.chunk n.count)
-
 notes_cmp : (a b : Note) → IsKeepable a → IsKeepable b → kept_cmp (kept_note a) (kept_note b) ≡ place_cmp a b
 notes_cmp a b p q =
     ap (λ o. ordering_then (by_bytes a.key b.key) (logs_cmp o (chunk_in (line_text b.line)))) (note_chunk a p)
@@ -94,18 +91,6 @@ notes_chain before (a ∷ notes) h order low =
 
 abbrev pub kept_all : List Line → List Note → List KeptLine
 kept_all lines notes = map kept_of lines ++ map kept_note notes
-
-mapped : {X Y Z : Type 0} (f : Y → Z) (g : X → Y) (xs : List X) → map f (map g xs) ≡ map (λ x. f (g x)) xs
-mapped f g [] = refl
-mapped f g (x ∷ xs) = ap (λ zs. f (g x) ∷ zs) (mapped f g xs)
-
-mapped-append : {X Y : Type 0} (f : X → Y) (xs ys : List X) → map f (xs ++ ys) ≡ map f xs ++ map f ys
-mapped-append f [] ys = refl
-mapped-append f (x ∷ xs) ys = ap (λ zs. f x ∷ zs) (mapped-append f xs ys)
-
-joined : {X : Type 0} (xs ys zs : List X) → (xs ++ ys) ++ zs ≡ xs ++ (ys ++ zs)
-joined [] ys zs = refl
-joined (x ∷ xs) ys zs = ap (λ l. x ∷ l) (joined xs ys zs)
 
 -- the keys of a table in order
 keys_sorted : (es : Texts) → IsStrictlySortedBy by_bytes (map (λ e. e.0) es) → IsStrictlySortedBy (λ x y. by_bytes x.0 y.0) es

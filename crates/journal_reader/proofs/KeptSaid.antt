@@ -2,10 +2,9 @@
 use Rattle.std.proofs.Common.{◌≡◌, ℕ, true, not, List, [], ◌∷◌, ◌++◌, Option, Some, None, refl, ap, ◌∙◌}
 use Rattle.std.specs.Prelude.{is_some, bytes_eq}
 use Rattle.std.specs.List.{list_all}
-use Rattle.std.proofs.lemmas.Bool.{and_parts}
+use Rattle.std.proofs.lemmas.Bool.{and_parts, and_from as both_true}
 use Rattle.annex_model.specs.Lines.{text, has_newline}
 use Rattle.chunk_log.specs.declared.line.ChunkLine.{ChunkLine}
-use Rattle.reg_file.proofs.Settings.{both_true}
 use Rattle.keep_text.specs.KeptLines.{KeptLine, Setting, Expression, State, Url, Chunks, kept_reading, chunk_in, is_kept_line, is_right, line_of}
 use Rattle.keep_text.specs.KeptFiles.{head, lines_in, bad_line, bad_among}
 use Rattle.keep_text.specs.Orders.{is_log_of, is_written_as, is_written_line}

@@ -1,11 +1,10 @@
 -- Each line that is written of registers and notes is one that may be kept.
-use Rattle.std.proofs.Common.{◌≡◌, ℕ, suc, ◌+◌, ◌-◌, ◌/◌, ◌%◌, Bool, true, false, not, ◌&&◌, ◌||◌, ◌==◌, List, [], ◌∷◌, ◌++◌, map, length, nat_lt, Option, Some, None, refl, sym, ap, subst, ◌∙◌, arith, length-append}
-use mathlib.Core.Bool.{false≢true}
+use Rattle.std.proofs.Common.{◌≡◌, ℕ, suc, ◌+◌, ◌-◌, ◌/◌, ◌%◌, Bool, true, false, not, ◌&&◌, ◌==◌, List, [], ◌∷◌, ◌++◌, map, length, nat_lt, Option, Some, None, refl, sym, ap, subst, ◌∙◌, arith, length-append}
 use Rattle.std.specs.Prelude.{All, bytes_eq}
 use Rattle.std.specs.List.{list_all, list_any, cons_option, slice_get}
-use Rattle.std.proofs.lemmas.Bool.{and_parts}
+use Rattle.std.proofs.lemmas.Bool.{and_parts, and_from as both_true}
 use Rattle.std.proofs.lemmas.Bool.Decides.{nat_tests}
-use Rattle.std.proofs.lemmas.List.{append-nil}
+use Rattle.std.proofs.lemmas.List.{append-nil, append_assoc as joined, map-append as mapped-append}
 use Rattle.std.proofs.lemmas.List.Elements.{All-nil, All-push}
 use Rattle.ann_key.specs.Keys.{is_key}
 use Rattle.annex_model.specs.Lines.{has_newline}
@@ -16,8 +15,6 @@ use Rattle.reg_file.specs.Registers.{RegisterFile, IsKept, is_word, is_line, is_
 use Rattle.reg_file.specs.RegLines.{Line, ConfigLine, WantedLine, StateLine, UrlLine, is_fit, lines_of, later_lines_of, keyed_lines_of, wanted_lines}
 use Rattle.reg_file.specs.Tables.{Texts}
 use Rattle.reg_file.proofs.Readings.{lines_fit}
-use Rattle.reg_file.proofs.Settings.{both_true}
-use Rattle.reg_file.proofs.Tables.{itself}
 use Rattle.chunk_log.specs.ChunkLines.{line_text}
 use Rattle.chunk_log.specs.LogLaws.{cut}
 use Rattle.chunk_log.specs.NoteBooks.{in_order}
@@ -29,9 +26,10 @@ use Rattle.keep_text.specs.KeptLines.{KeptLine, Setting, Expression, State, Url,
 use Rattle.keep_text.specs.Orders.{is_log_of, is_written, is_written_as, is_written_line, come_in_order, comes_before}
 use Rattle.keep_text.proofs.Chunked.{chunk_read}
 use Rattle.keep_text.proofs.Spelled.{read_of_spelled}
-use Rattle.keep_text.proofs.WrittenLines.{Written, lines_written, notes_written}
+use Rattle.keep_text.proofs.WrittenLines.{Written, lines_written, notes_written, no_space}
 use Rattle.journal_reader.specs.RunTexts.{is_kept, is_behind, may_be_kept, AreInOrder, NoneKept, OneMore}
 use Rattle.journal_reader.proofs.KeptOrder.{follows, chain, kept_all, kept_chain}
+use Rattle.ann_key.proofs.Lists.{mapped, same_name as itself}
 
 -- the line of it is read as it, is one that is written, and holds no byte 10
 pub record IsSaid (k : KeptLine) : Type 0 where
@@ -75,20 +73,6 @@ register_said line h t =
     }
 
 -- ---- notes
-
-neither : (a b : Bool) → not a ≡ true → not b ≡ true → not (a || b) ≡ true
-neither true b h k = absurd (false≢true h)
-neither false b h k = k
-
-byte_of_word : (a b : Bool) → not (a || b) ≡ true → not b ≡ true
-byte_of_word true b h = absurd (false≢true h)
-byte_of_word false b h = h
-
-no_space : (bytes : List ℕ) → is_word bytes ≡ true → annex.is_word bytes ≡ true
-no_space [] h = refl
-no_space (b ∷ bytes) h =
-    let parts = and_parts (not (b == 10 || b == 32)) (is_word bytes) h in
-    neither (b == 32) (list_any annex.is_space bytes) (byte_of_word (b == 10) (b == 32) parts.0) (no_space bytes parts.1)
 
 sent_key : (key : List ℕ) → is_key_word key ≡ true → annex.is_sent_key key ≡ true
 unfolding is_key_word
@@ -181,14 +165,6 @@ last_is xs x =
     let last : length (xs ++ x ∷ []) - 1 ≡ length xs = omega arith in
     ap (λ (n : ℕ). slice_get (xs ++ x ∷ []) n) last ∙ at_end xs x
 
-mapped-append : {X Y : Type 0} (f : X → Y) (xs ys : List X) → map f (xs ++ ys) ≡ map f xs ++ map f ys
-mapped-append f [] ys = refl
-mapped-append f (x ∷ xs) ys = ap (λ zs. f x ∷ zs) (mapped-append f xs ys)
-
-joined : {X : Type 0} (xs ys zs : List X) → (xs ++ ys) ++ zs ≡ xs ++ (ys ++ zs)
-joined [] ys zs = refl
-joined (x ∷ xs) ys zs = ap (λ l. x ∷ l) (joined xs ys zs)
-
 -- one more after the last
 one_behind : (before : List KeptLine) (a k : KeptLine) → AreInOrder (map line_of (before ++ a ∷ [])) → IsSaid a → IsSaid k → follows (Some a) k ≡ true → AreInOrder (map line_of ((before ++ a ∷ []) ++ k ∷ []))
 one_behind before a k h s t f =
@@ -213,10 +189,6 @@ in_written_order : (ks : List KeptLine) → AreSaid ks → chain None ks ≡ tru
 in_written_order [] said c = NoneKept
 in_written_order (k ∷ ks) said c =
     go_on [] k ks (OneMore [] (line_of k) NoneKept (both_true (is_kept (line_of k)) true (may_stand k said.0) refl)) said.0 said.1 c
-
-mapped : {X Y Z : Type 0} (f : Y → Z) (g : X → Y) (xs : List X) → map f (map g xs) ≡ map (λ x. f (g x)) xs
-mapped f g [] = refl
-mapped f g (x ∷ xs) = ap (λ zs. f (g x) ∷ zs) (mapped f g xs)
 
 -- what is kept, as it is written, may stand in a text
 module _ (r : RegisterFile) (kept : IsKept r) (notes : List Note) (keepable : All IsKeepable notes) (order : in_order notes ≡ true) where

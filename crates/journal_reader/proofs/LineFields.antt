@@ -1,11 +1,11 @@
 -- What stands after the word of a line.
-use Rattle.std.proofs.Common.{◌≡◌, ℕ, ◌<◌, ◌≤◌, ◌^◌, Bool, true, false, List, [], ◌∷◌, ◌++◌, Option, Some, None, Result, Ok, Err, IfOk, refl, sym, ap, ◌∙◌, arith}
+use Rattle.std.proofs.Common.{◌≡◌, ℕ, ◌<◌, ◌≤◌, ◌^◌, Bool, true, false, List, [], ◌∷◌, ◌++◌, Option, Some, None, Result, Ok, Err, IfOk, sym, ap, ◌∙◌, arith}
 use mathlib.Core.Bool.{true≢false}
 use Rattle.std.specs.Prelude.{MatchOption, IsTrue, codes, decimal, bytes_eq}
-use Rattle.reg_file.proofs.Tables.{itself}
 use Rattle.chunk_log.specs.ChunkLines.{number_in}
-use Rattle.chunk_log.proofs.StampBack.{decimal_reads, Decimal}
 use Rattle.journal_lines.specs.JournalTexts.{worded, stamp_line, again_line}
+use Rattle.chunk_log.proofs.ReadBack.{number_back as number_read}
+use Rattle.ann_key.proofs.Lists.{same_name as itself}
 
 abbrev behind_one : List ℕ → List ℕ
 behind_one [] = []
@@ -46,9 +46,6 @@ pub few_numbered : {E : Type 0} (line text : List ℕ) → line ≡ worded (code
 few_numbered line text is (Err e) h = tt
 few_numbered line text is (Ok None) h = λ n few e. h n few (worded_same (codes "again") text (decimal n) (sym is ∙ e))
 few_numbered line text is (Ok (Some n)) h = (is ∙ ap (worded (codes "again")) h.0, h.1)
-
-pub number_read : (n : ℕ) → n < 2 ^ 64 → number_in (decimal n) ≡ Some n
-number_read n h = let d : Decimal n = decimal_reads n h in rw (d.number, d.value) refl
 
 -- the number that was read is written otherwise
 pub other_number : (m : ℕ) (text : List ℕ) → number_in text ≡ Some m → bytes_eq (decimal m) text ≡ false → (n : ℕ) → n < 2 ^ 64 → text ≡ decimal n → ⊥

@@ -14,7 +14,8 @@ use Rattle.journal_reader.specs.RunTexts.{may_stand}
 use Rattle.journal_reader.specs.Readings.{Goes, CannotGo, nothing_told}
 use Rattle.journal_reader.specs.declared.place.Place.TheVariants.{Head, Uuid, Again, Given, Entries}
 use Rattle.journal_reader.proofs.Going.{no_entry, none_given}
-use Rattle.journal_reader.proofs.LineFields.{number_read, worded_same}
+use Rattle.journal_reader.proofs.LineFields.{worded_same}
+use Rattle.chunk_log.proofs.ReadBack.{number_back as number_read}
 
 -- the byte at a place
 abbrev byte_at : ℕ → List ℕ → ℕ

@@ -1,23 +1,17 @@
 -- Notes in order, of which the same count, are the same.
-use Rattle.std.proofs.Common.{◌≡◌, ℕ, Bool, true, false, cond, ◌&&◌, ◌==◌, List, [], ◌∷◌, filter, fold, map, Some, None, refl, sym, ap, ◌∙◌, eq-eqb}
-use Rattle.std.specs.Prelude.{bytes_eq}
+use Rattle.std.proofs.Common.{◌≡◌, ℕ, Bool, true, false, cond, ◌&&◌, List, [], ◌∷◌, filter, fold, map, Some, None, refl, sym, ap, ◌∙◌}
 use Rattle.std.specs.List.{list_all}
 use Rattle.std.specs.Ordering.{is_lt, ordering_reverse}
 use Rattle.std.specs.declared.cmp.Ordering.{Ordering}
 use Rattle.std.specs.declared.cmp.Ordering.TheVariants.{Less, Equal, Greater}
-use Rattle.std.proofs.lemmas.Bool.{and_parts}
-use Rattle.reg_file.proofs.Settings.{both_true}
-use Rattle.reg_file.proofs.Tables.{itself}
+use Rattle.std.proofs.lemmas.Bool.{and_parts, and_from as both_true}
 use Rattle.chunk_log.specs.NoteBooks.{counting, in_order, is_before, is_of, newer, place_cmp}
 use Rattle.chunk_log.specs.declared.line.ChunkLine.{ChunkLine}
 use Rattle.chunk_log.specs.declared.note.Note.{Note}
 use Rattle.chunk_log.proofs.Places.{is_of-same, place_total, same-is_of, same_place}
 use Rattle.keep_text.specs.KeptFiles.{cut_note, CountsAs}
-
-less : (o : Ordering) → is_lt o ≡ true → o ≡ Less
-less Less h = refl
-less Equal h = absurd cc
-less Greater h = absurd cc
+use Rattle.ann_key.proofs.Orderings.{less}
+use Rattle.journal_model.proofs.Noting.{own_place, farther as before_all}
 
 -- none of the notes after one has its place
 absent : (key uuid : List ℕ) (chunk : ℕ) (x : Note) (xs : List Note) → list_all (is_before x) xs ≡ true → is_of key uuid chunk x ≡ true → filter (is_of key uuid chunk) xs ≡ []
@@ -44,18 +38,6 @@ own_counts key uuid chunk x xs all own =
 
 other_counts : (key uuid : List ℕ) (chunk : ℕ) (x : Note) (xs : List Note) → is_of key uuid chunk x ≡ false → counting (x ∷ xs) key uuid chunk ≡ counting xs key uuid chunk
 other_counts key uuid chunk x xs other = ap (λ (b : Bool). fold newer None (cond b (x ∷ filter (is_of key uuid chunk) xs) (filter (is_of key uuid chunk) xs))) other
-
-own_place : (x : Note) → is_of x.key x.line.uuid x.line.chunk x ≡ true
-own_place x =
-    both_true (bytes_eq x.key x.key && bytes_eq x.line.uuid x.line.uuid) (x.line.chunk == x.line.chunk)
-    (both_true (bytes_eq x.key x.key) (bytes_eq x.line.uuid x.line.uuid) (itself x.key) (itself x.line.uuid)) (eq-eqb x.line.chunk x.line.chunk refl)
-
--- what stands before a note stands before those after it
-before_all : (x y : Note) (ys : List Note) → place_cmp x y ≡ Less → list_all (is_before y) ys ≡ true → list_all (is_before x) ys ≡ true
-before_all x y [] e all = refl
-before_all x y (z ∷ zs) e all =
-    let parts = and_parts (is_before y z) (list_all (is_before y) zs) all in
-    both_true (is_before x z) (list_all (is_before x) zs) (ap is_lt (place_total.trans x y z e (less (place_cmp y z) parts.0))) (before_all x y zs e parts.1)
 
 -- the first of some is not missing among others
 missing : {A : Type 0} (x y : Note) (xs ys : List Note) → list_all (is_before x) xs ≡ true → list_all (is_before y) ys ≡ true → place_cmp x y ≡ Less

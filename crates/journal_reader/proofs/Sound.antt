@@ -2,13 +2,12 @@
 use Rattle.std.proofs.Common.{◌≡◌, ℕ, zero, suc, ◌+◌, ◌<◌, Bool, true, false, inl, inr, List, [], ◌∷◌, ◌++◌, map, length, Some, refl, sym, ap, subst, ◌∙◌, arith, append_assoc, length-append}
 use Rattle.std.specs.Prelude.{codes, IsTrue}
 use Rattle.std.specs.List.{slice_get}
-use Rattle.std.proofs.lemmas.List.{append-nil}
+use Rattle.std.proofs.lemmas.List.{append-nil, map-append}
 use Rattle.task_text.specs.TaskLines.{IsTask}
 use Rattle.task_text.specs.declared.task.Task.{Task}
 use Rattle.journal_model.specs.declared.entry.Entry.{Entry}
 use Rattle.entry_lines.specs.Entries.{entry_line, IsEntry}
 use Rattle.journal_lines.specs.JournalTexts.{Told, worded, head, begin, stamp_line, task_line, keep_line, end_line, first_lines, told_lines}
-use Rattle.journal_lines.proofs.Sections.{map-append}
 use Rattle.journal_reader.specs.RunTexts.{is_uuid, is_text, may_stand, IsTold, NoneKept, OneMore}
 use Rattle.journal_reader.specs.Readings.{Reading, Goes, start, nothing_told, after_stamp, TakesTask, TakesKept}
 use Rattle.journal_reader.specs.Runs.{Reads, lines_told, IsSoFar}

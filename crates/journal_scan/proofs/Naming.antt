@@ -1,13 +1,10 @@
 -- The names of a task, one by one.
-use Rattle.std.proofs.Common.{◌≡◌, ◌∙◌, sym, refl, List, [], ◌∷◌, Bool, true, false}
+use Rattle.std.proofs.Common.{◌≡◌, ◌∙◌, sym, refl, List, [], ◌∷◌, Bool, false}
 use Rattle.std.specs.Prelude.{ℕ, ◌&&◌, ◌||◌, not, bytes_eq}
 use Rattle.std.specs.List.{list_any, filter}
 use Rattle.task_text.specs.declared.task.Task.{Task}
 use Rattle.journal_model.specs.Legality.{is_empty, share_name, task_names}
-
-or_nothing : (b : Bool) → (b || false) ≡ b
-or_nothing true = refl
-or_nothing false = refl
+use Rattle.ann_key.proofs.Booleans.{or_false as or_nothing}
 
 -- of two names, those that aren't empty
 two : (p : List ℕ → Bool) (a b : List ℕ)

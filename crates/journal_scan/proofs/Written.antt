@@ -14,6 +14,7 @@ use Rattle.journal_model.specs.Legality.{is_empty, said_version}
 use Rattle.journal_scan.specs.Looks.{written_to, got_line}
 use Rattle.journal_scan.specs.Looks.{is_written, hosts_line}
 use Rattle.journal_scan.proofs.Firsts.{first_given}
+use Rattle.ann_key.proofs.Lists.{length-map as length_map}
 
 abbrev Line : Type 0
 Line = Option ℕ × List ℕ
@@ -64,10 +65,6 @@ empty_drop (suc n) (x ∷ xs) =
     less : (b : Bool) → nat_lt n (length xs) ≡ b → nat_lt (suc n) (suc (length xs)) ≡ b
     less true h = grind (arith, nat_tests)
     less false h = grind (arith, nat_tests)
-
-length_map : {X Y : Type 0} (f : X → Y) (xs : List X) → length (map f xs) ≡ length xs
-length_map f [] = refl
-length_map f (x ∷ xs) = ap suc (length_map f xs)
 
 pub all_sent : (past : List Entry) (c : ℕ)
     → not (nat_lt (length (filter (λ e. sends c e.what) past)) (length (each_of (written_to c) past))) ≡ is_empty (unsent past c)

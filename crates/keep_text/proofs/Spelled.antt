@@ -1,6 +1,5 @@
 -- A line is read as what it spells, and as nothing else; its fields are of the classes that are asked for.
-use Rattle.std.proofs.Common.{◌≡◌, ℕ, ◌==◌, Bool, true, false, not, ◌&&◌, ◌||◌, inl, inr, List, [], ◌∷◌, ◌++◌, Option, Some, refl, sym, ap, ◌∙◌}
-use mathlib.Core.Bool.{false≢true}
+use Rattle.std.proofs.Common.{◌≡◌, ℕ, ◌==◌, true, not, inl, inr, List, [], ◌∷◌, ◌++◌, Option, Some, refl, sym, ap, ◌∙◌}
 use Rattle.std.specs.Prelude.{codes}
 use Rattle.std.specs.List.{list_any}
 use Rattle.std.proofs.lemmas.List.Folds.{list_any-append}
@@ -12,6 +11,8 @@ use Rattle.annex_model.proofs.Shapes.{Reads, rest_reads, word_rest_reads, key_re
 use Rattle.annex_model.proofs.Rows.{Fills, AllOwn, rest_own, word_rest_own, key_rest_own, rows_fill}
 use Rattle.reg_file.specs.Registers.{is_word, is_line}
 use Rattle.keep_text.specs.KeptLines.{KeptLine, Setting, Expression, State, Url, Chunks, KeptSpells, KeptFits, kept_row, kept_rows, kept_reading}
+use Rattle.ann_key.proofs.Booleans.{neither_is as apart, one_of_two as neither}
+use Rattle.std.proofs.lemmas.Bool.{and_from as both_true}
 
 -- ---- what is spelled is read
 line_read : (word : List ℕ) → annex.is_word word ≡ true → {line tail : List ℕ} {k : KeptLine} {P : Option (List ℕ) → Type 0} → line ≡ word ++ tail → Reads tail P
@@ -47,22 +48,9 @@ spelled_of_read k line h =
     (behind (field_of line), word_and_field line ∙ ap (λ (w : List ℕ). w ++ behind (field_of line)) (sym r.0), r.1)
 
 -- ---- classes
-apart : (a b : Bool) → not (a || b) ≡ true → (not a ≡ true) × (not b ≡ true)
-apart true b h = absurd (false≢true h)
-apart false b h = (refl, h)
-
-both_true : (a b : Bool) → a ≡ true → b ≡ true → (a && b) ≡ true
-both_true true b h k = k
-both_true false b h k = absurd (false≢true h)
-
 line_fits : (bytes : List ℕ) → not (has_newline bytes) ≡ true → is_line bytes ≡ true
 line_fits [] h = refl
 line_fits (b ∷ bytes) h = let parts = apart (b == 10) (has_newline bytes) h in both_true (not (b == 10)) (is_line bytes) parts.0 (line_fits bytes parts.1)
-
-neither : (a b rest : Bool) → not a ≡ true → not b ≡ true → rest ≡ true → (not (a || b) && rest) ≡ true
-neither true b rest h k l = absurd (false≢true h)
-neither false true rest h k l = absurd (false≢true k)
-neither false false rest h k l = l
 
 word_fits : (bytes : List ℕ) → annex.is_word bytes ≡ true → not (has_newline bytes) ≡ true → is_word bytes ≡ true
 word_fits [] h k = refl

@@ -1,6 +1,5 @@
 -- Lines that are written are read as what they were written of.
 use Rattle.std.proofs.Common.{◌≡◌, ℕ, suc, ◌+◌, ◌==◌, Bool, true, false, cond, not, ◌&&◌, ◌||◌, List, [], ◌∷◌, ◌++◌, map, length, nat_lt, Some, None, refl, ap, ◌∙◌, arith, append_assoc}
-use mathlib.Core.Bool.{false≢true}
 use Rattle.std.specs.Prelude.{All, is_some, option_map}
 use Rattle.std.specs.List.{cons_option, list_all, list_any}
 use Rattle.std.proofs.lemmas.List.Folds.{list_any-append}
@@ -11,8 +10,6 @@ use Rattle.annex_model.specs.Messages.{AreOfClass, fields_text}
 use Rattle.annex_model.proofs.Classes.{text_follows}
 use Rattle.reg_file.specs.Registers.{is_word, is_line, is_key_word}
 use Rattle.reg_file.specs.RegLines.{Line, ConfigLine, WantedLine, StateLine, UrlLine, is_fit}
-use Rattle.reg_file.proofs.LinkLists.{both}
-use Rattle.reg_file.proofs.Settings.{both_true}
 use Rattle.chunk_log.specs.ChunkLines.{line_text}
 use Rattle.chunk_log.specs.declared.note.Note.{Note}
 use Rattle.chunk_log.proofs.ReadBack.{reads_back}
@@ -21,12 +18,10 @@ use Rattle.keep_text.specs.KeptFiles.{lines_in, with_byte, first_bad, settings_i
 use Rattle.keep_text.proofs.Chunked.{chunk_read}
 use Rattle.keep_text.proofs.LogText.{log_fits}
 use Rattle.keep_text.proofs.Spelled.{read_of_spelled}
+use Rattle.ann_key.proofs.Booleans.{neither_is as byte_of_word, left_false_not_right as apart, not_either as neither}
+use Rattle.std.proofs.lemmas.Bool.{and_parts as both, and_from as both_true}
 
 -- ---- the lines of a text of lines
-apart : (a b : Bool) → not (a || b) ≡ true → (a ≡ false) × (not b ≡ true)
-apart true b h = absurd (false≢true h)
-apart false b h = (refl, h)
-
 line_back : (x t : List ℕ) → not (has_newline x) ≡ true → lines_in (x ++ 10 ∷ t) ≡ x ∷ lines_in t
 line_back [] t h = refl
 line_back (b ∷ bs) t h =
@@ -43,19 +38,11 @@ lines_back (l ∷ ls) h =
     line_back l (text ls) parts.0 ∙ ap (λ (rest : List (List ℕ)). l ∷ rest) (lines_back ls parts.1)
 
 -- ---- classes of fields
-neither : (a b : Bool) → not a ≡ true → not b ≡ true → not (a || b) ≡ true
-neither true b h k = absurd (false≢true h)
-neither false b h k = k
-
 no_end : (bytes : List ℕ) → is_line bytes ≡ true → not (has_newline bytes) ≡ true
 no_end [] h = refl
 no_end (b ∷ bytes) h = let parts = both (not (b == 10)) (is_line bytes) h in neither (b == 10) (has_newline bytes) parts.0 (no_end bytes parts.1)
 
-byte_of_word : (a b : Bool) → not (a || b) ≡ true → (not a ≡ true) × (not b ≡ true)
-byte_of_word true b h = absurd (false≢true h)
-byte_of_word false b h = (refl, h)
-
-no_space : (bytes : List ℕ) → is_word bytes ≡ true → annex.is_word bytes ≡ true
+pub no_space : (bytes : List ℕ) → is_word bytes ≡ true → annex.is_word bytes ≡ true
 no_space [] h = refl
 no_space (b ∷ bytes) h =
     let parts = both (not (b == 10 || b == 32)) (is_word bytes) h in
@@ -132,7 +119,7 @@ pub record Written (ls : List (List ℕ)) (lines : List Line) (notes : List Note
   pub set : settings_in ls ≡ lines
   pub noted : notes_in ls ≡ notes
 
-note_chunk : (note : Note) → IsKeepable note → chunk_in (line_text note.line) ≡ Some (cut_note note).line
+pub note_chunk : (note : Note) → IsKeepable note → chunk_in (line_text note.line) ≡ Some (cut_note note).line
 note_chunk note n = chunk_read (line_text note.line) (cut_note note).line (reads_back note.line n.line n.seconds n.chunk n.count)
 
 pub notes_written : (notes : List Note) → All IsKeepable notes → Written (map written_note notes) [] (map cut_note notes)

@@ -1,7 +1,7 @@
 -- A kept file that is written is read as what it was written of.
 use Rattle.std.proofs.Common.{◌≡◌, ℕ, Bool, true, false, not, List, [], ◌∷◌, ◌++◌, map, filter, None, refl, sym, ap, ◌∙◌}
 use Rattle.std.specs.Prelude.{All}
-use Rattle.std.proofs.lemmas.List.{append-nil}
+use Rattle.std.proofs.lemmas.List.{append-nil, map-append as mapped-append}
 use Rattle.annex_model.specs.Lines.{text}
 use Rattle.reg_file.specs.Registers.{RegisterFile, IsKept, nothing_set}
 use Rattle.reg_file.specs.RegLines.{Line, ConfigLine, StateLine, UrlLine, lines_of, later_lines_of, keyed_lines_of, wanted_lines, set_by_lines}
@@ -9,7 +9,7 @@ use Rattle.reg_file.proofs.Fed.{lines_again}
 use Rattle.reg_file.proofs.Readings.{lines_fit}
 use Rattle.chunk_log.specs.declared.note.Note.{Note}
 use Rattle.keep_text.specs.KeptFiles.{head, lines_in, bad_line, bad_among, behind_head, settings_in, notes_in, registers_of, notes_of, is_config, lines_of_kind, written_line, written_note, kept_text, cut_note, IsKeepable}
-use Rattle.keep_text.proofs.Texts.{mapped-append, filtered-append}
+use Rattle.keep_text.proofs.Texts.{filtered-append}
 use Rattle.keep_text.proofs.WrittenLines.{Written, lines_back, notes_written, lines_written, none_bad}
 
 -- ---- the two kinds of lines

@@ -2,15 +2,16 @@
 use Rattle.std.proofs.Common.{◌≡◌, ℕ, ◌+◌, ◌-◌, suc, zero, List, [], ◌∷◌, ◌++◌, length, take, drop, refl, sym, ap, ◌∙◌, Bool, true, false, not, cond, Some, None, Option, append_assoc, arith}
 use Rattle.std.specs.Prelude.{◌==◌, ◌&&◌, ◌||◌, nat_lt, is_some}
 use Rattle.std.specs.List.{list_all, prefix_len}
-use Rattle.std.proofs.lemmas.Bool.{eqb-true}
+use Rattle.std.proofs.lemmas.Bool.{eqb-true, and_parts as both}
 use Rattle.std.proofs.Math.Seq.{drop-append_seam}
 use Rattle.ann_key.specs.Numbers.{is_digit, value_of, is_numeral, IsNumeral}
 use Rattle.ann_key.specs.Keys.{Parts, is_backend_byte, is_backend, is_name, IsField, IsChunkField}
 use Rattle.ann_key.specs.KeyErrors.{first_is, Begun, Fields, ChunkSize, IsFront, IsSizedFront, is_number_of}
 use Rattle.ann_key.specs.declared.error.KeyError.{KeyError}
 use Rattle.ann_key.specs.declared.error.KeyError.TheVariants.{Backend, Field, Number, Name}
-use Rattle.ann_key.proofs.Spelling.{both, prefix_len_front, number_read}
+use Rattle.ann_key.proofs.Spelling.{prefix_len_front, number_read}
 use Rattle.ann_key.proofs.Chunks.{front_is}
+use Rattle.ann_key.proofs.Errors.{digits_stop as no_digit_field, digits_stop_chunk as no_digit_chunk}
 
 -- ---- the scan
 
@@ -142,14 +143,6 @@ dash_field letter (Some n) text rest h d = rw h.1 refl
 dash_chunk : (o : Option (ℕ × ℕ)) (text rest : List ℕ) → IsChunkField o text → (is_some o ≡ false → dash rest ≡ true) → dash (text ++ rest) ≡ true
 dash_chunk None text rest h d = rw h (d refl)
 dash_chunk (Some c) text rest h d = rw h.2 refl
-
-no_digit_field : (letter : ℕ) (o : Option ℕ) (text rest : List ℕ) → IsField letter o text → prefix_len is_digit rest ≡ 0 → prefix_len is_digit (text ++ rest) ≡ 0
-no_digit_field letter None text rest h d = rw (h, d) refl
-no_digit_field letter (Some n) text rest h d = rw h.1 refl
-
-no_digit_chunk : (o : Option (ℕ × ℕ)) (text rest : List ℕ) → IsChunkField o text → prefix_len is_digit rest ≡ 0 → prefix_len is_digit (text ++ rest) ≡ 0
-no_digit_chunk None text rest h d = rw (h, d) refl
-no_digit_chunk (Some c) text rest h d = rw h.2 refl
 
 no_backend : (rest : List ℕ) → dash rest ≡ true → prefix_len is_backend_byte rest ≡ 0
 no_backend [] d = absurd cc

@@ -9,12 +9,13 @@ use Rattle.ann_key.specs.Keys.{Parts, is_backend_byte, is_name}
 use Rattle.ann_key.specs.KeyErrors.{first_is, Begun, Fields, ChunkSize, IsBegun, may_follow, ends_in_number, is_number_of, IsBadBackend, IsBadField, IsBadNumber, IsBadName, IsError}
 use Rattle.ann_key.specs.declared.error.KeyError.{KeyError}
 use Rattle.ann_key.specs.declared.error.KeyError.TheVariants.{Backend, Field, Number, Name}
-use Rattle.ann_key.proofs.Spelling.{both}
 use Rattle.ann_key.proofs.KeyLaws.{errors_exclude}
 use Rattle.ann_key.proofs.Unique.{reading_unique}
-use Rattle.ann_key.proofs.Errors.{not_true, or_false, no_first}
+use Rattle.ann_key.proofs.Errors.{no_first}
 use Rattle.key_laws.specs.OneAnswer.{OneError, OneKeyAnswer}
 use Rattle.key_laws.proofs.KeyScan.{Seen, Whole, follows, scan, dash, key_scan, seen_of, Comes, fields_come, sized_comes}
+use Rattle.std.proofs.lemmas.Bool.{and_parts as both, not-true as not_true}
+use Rattle.ann_key.proofs.Booleans.{both_false as or_false}
 
 -- ---- what the scan answers where it stops
 

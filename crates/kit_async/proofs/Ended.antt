@@ -17,13 +17,13 @@ use Rattle.kit_async_model.specs.Jobs.{is_awaiting, job_of, without_job}
 use Rattle.kit_async_model.specs.Legality.{IsFinished, is_lack}
 use Rattle.kit_async_model.specs.Lines.{count_wrotes, said_lines}
 use Rattle.kit_async_model.specs.Standings.{Standing, after, called_in, heard_as, is_some_due, opening, said_in, said_line, standing}
-use Rattle.kit_async_model.proofs.Places.{neither}
 use Rattle.kit_async_model.proofs.Unwritten.{unwritten_are}
 use Rattle.kit_async_roles.specs.Writing.{written_lines}
 use Rattle.kit_async.specs.declared.why.Why.{Why}
 use Rattle.kit_async.specs.declared.why.Why.TheVariants.{Eof, ReadFault, WriteFault, Bad, Memory}
 use Rattle.kit_async.specs.Laws.{EndsAsHeard, ending_heard, heard_from, is_ending, is_heard_so, is_whole}
 use Rattle.kit_async.specs.Served.{IsEnd, JournalValue, Serves, Tells}
+use Rattle.ann_key.proofs.Booleans.{both_false as neither}
 
 -- ---- tests
 

@@ -15,7 +15,6 @@ use Rattle.kit_async_model.specs.Legality.{Legal, is_done, is_finished, is_lack,
 use Rattle.kit_async_model.specs.Jobs.{is_awaiting}
 use Rattle.kit_async_model.specs.Lines.{heard_lines}
 use Rattle.kit_async_model.specs.Standings.{Standing, standing}
-use Rattle.kit_async_model.proofs.Fronts.{both}
 use Rattle.kit_async_model.specs.Events.{IsMadeBy, MayStep}
 use Rattle.kit_async_core.specs.Halls.{KitHall, KitPass}
 use Rattle.kit_async_core.proofs.KitHalls.{halls_stay_legal}
@@ -29,6 +28,7 @@ use Rattle.kit_async.specs.declared.why.Why.{Why}
 use Rattle.kit_async.specs.declared.why.Why.TheVariants.{Eof, ReadFault, WriteFault, Bad, Memory}
 use Rattle.kit_async.specs.Endings.{AllWorked, ReaderDid, WriterDid, calls_told, tells_of, why_by, why_stopped, why_read, why_rest}
 use Rattle.kit_async.specs.Served.{Gained, IsEnd, IsWrittenBy, Serves}
+use Rattle.std.proofs.lemmas.Bool.{and_parts as both}
 
 -- ---- the begin
 

@@ -1,13 +1,11 @@
 -- What a kit that was served, or wasn't, keeps of its contract.
-use Rattle.std.proofs.Common.{◌≡◌, ℕ, ◌+◌, ◌<◌, List, [], ◌∷◌, ◌++◌, map, refl, sym, ap, subst, ◌∙◌, append-nil, Bool, true, false, codes, length, Some, None, Option, get_or, arith}
-use Rattle.std.specs.Prelude.{option_map}
+use Rattle.std.proofs.Common.{◌≡◌, ℕ, ◌+◌, ◌<◌, List, [], ◌∷◌, map, refl, sym, ap, subst, ◌∙◌, Bool, true, false, codes, length, Some, None, Option, get_or, arith}
 use Rattle.std.specs.List.{list_any}
 use Rattle.ann_outside.specs.Causes.{Rose}
 use Rattle.hall.specs.Passes.{HasClosed}
 use Rattle.crew_round.proofs.Dealing.{map_map}
 use Rattle.kit_core.specs.declared.call.Call.{Call}
 use Rattle.kit_serve.specs.Turns.{Half}
-use Rattle.kit_serve.proofs.Talks.{appends_nothing}
 use Rattle.kit_async_model.specs.declared.entry.Entry.{Entry}
 use Rattle.kit_async_model.specs.declared.entry.Entry.TheVariants.{Say}
 use Rattle.kit_async_model.specs.declared.setup.Setup.{Setup}
@@ -25,6 +23,8 @@ use Rattle.kit_async.specs.declared.why.Why.TheVariants.{Eof, ReadFault, WriteFa
 use Rattle.kit_async.specs.Endings.{AllWorked, ReaderDid, WriterDid, calls_told, why_by, why_read, why_rest, why_stopped}
 use Rattle.kit_async.specs.Served.{Gained, HasCauses, JournalValue, Serves, Tells, setup_of}
 use Rattle.kit_async.proofs.Gathered.{roles_serve}
+use Rattle.kit_async_roles.proofs.Ends.{as_it_was as no_calls}
+use Rattle.ann_key.proofs.Lists.{appends_nothing}
 
 -- ---- why it stopped, by why its roles ended
 
@@ -130,10 +130,6 @@ module _ {K S W : Type 0} (settings : K → List (List ℕ)) (calls : K → Opti
       sym (map_map hand (λ (a : HandValue). a.settings) news) ∙ settings_from h passes 0 (map hand olds) (map hand news) all ∙ map_map hand (λ (a : HandValue). a.settings) olds
 
 -- ---- where it wasn't
-
-no_calls : (o : Option (List Call)) → o ≡ option_map (λ (told : List Call). told ++ []) o
-no_calls None = refl
-no_calls (Some xs) = ap Some (sym (append-nil xs))
 
 gained_none : (setup : Setup) (n : ℕ) (calls : List (Option (List Call))) → Gained setup [] n calls calls
 gained_none setup n [] = tt

@@ -1,5 +1,5 @@
 -- The workers of a kit, from the passes that they are dealt to those that come back.
-use Rattle.std.proofs.Common.{◌≡◌, ℕ, ◌+◌, List, [], ◌∷◌, ◌++◌, map, refl, sym, ap, subst, ◌∙◌, append-nil, length, Some, slice_get, arith}
+use Rattle.std.proofs.Common.{◌≡◌, ℕ, ◌+◌, List, [], ◌∷◌, ◌++◌, map, refl, sym, ap, subst, ◌∙◌, append-nil, length, slice_get, arith}
 use Rattle.std.specs.Prelude.{All, reverse}
 use Rattle.std.proofs.Math.Seq.{append_snoc}
 use Rattle.std.proofs.lemmas.List.{reverse-append, reverse-reverse}
@@ -16,12 +16,9 @@ use Rattle.kit_async_roles.specs.Passes.{Stands}
 use Rattle.kit_async.specs.Dealt.{AreFresh, AreNumbered}
 use Rattle.kit_async.specs.Endings.{AllWorked}
 use Rattle.kit_async.specs.Turns.{WorkerWent}
+use Rattle.ann_key.proofs.Lists.{get_after}
 
 -- ---- places
-
-pub get_after : {A : Type 0} (front : List A) (x : A) (rest : List A) → slice_get (front ++ x ∷ rest) (length front) ≡ Some x
-get_after [] x rest = refl
-get_after (y ∷ front) x rest = get_after front x rest
 
 pub fresh_seen : (h : KitHall) (p : KitPass) → IsPassOf h p → p.links ≡ [] → seen_of p ≡ h.start
 fresh_seen h p own none = ap (λ (ks : List (Link Entry)). p.start ++ flat ks) none ∙ append-nil p.start ∙ own.2

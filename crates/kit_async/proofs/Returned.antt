@@ -19,7 +19,8 @@ use Rattle.kit_async_roles.proofs.Workers.{ran_none as worked_none}
 use Rattle.kit_async_roles.proofs.Writers.{wrote_none}
 use Rattle.kit_async.specs.Dealt.{AreFresh, AreNumbered}
 use Rattle.kit_async.specs.Endings.{AllWorked, ReaderDid, WriterDid}
-use Rattle.kit_async.proofs.Playing.{At, Goes, fresh_seen, get_after, own_from, worked_from}
+use Rattle.kit_async.proofs.Playing.{At, Goes, fresh_seen, own_from, worked_from}
+use Rattle.ann_key.proofs.Lists.{get_after}
 
 -- ---- fresh passes
 

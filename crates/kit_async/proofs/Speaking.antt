@@ -31,12 +31,13 @@ use Rattle.kit_async_model.specs.Laws.{is_spoken}
 use Rattle.kit_async_model.specs.Legality.{comes_where, follows, is_lack, is_legal, is_said, legal_from, may_come}
 use Rattle.kit_async_model.specs.Lines.{said_lines}
 use Rattle.kit_async_model.specs.Standings.{Standing, after, answer_due, called_in, due_of, heard_as, is_some_due, new_job, opening, said_in, said_line, standing, unexpected_line, with_value}
-use Rattle.kit_async_model.proofs.Fronts.{both, standing_append}
+use Rattle.kit_async_model.proofs.Fronts.{standing_append}
 use Rattle.kit_async_model.proofs.Overs.{over_is_last}
-use Rattle.kit_async_model.proofs.Places.{neither}
 use Rattle.kit_async.specs.Laws.{AreSaidTo, TellsNoWord, about_lines, heard_from, is_own_word, is_unexpected, is_whole, unexpected_heard}
 use Rattle.kit_async.specs.Served.{JournalValue, Serves, Tells}
 use Rattle.kit_async.proofs.Ended.{called_over, not_memory, said_over, whole_had}
+use Rattle.std.proofs.lemmas.Bool.{and_parts as both}
+use Rattle.ann_key.proofs.Booleans.{both_false as neither}
 
 -- ---- the messages that answer
 

@@ -26,10 +26,13 @@ use Rattle.kit_async_core.specs.Halls.{KitHall, KitPass}
 use Rattle.kit_async_model.specs.Books.{AreApart}
 use Rattle.kit_async_model.specs.Callings.{call_of, calls_from, calls_of, IsAsked}
 use Rattle.kit_async_model.proofs.Apart.{standing_apart}
-use Rattle.kit_async_model.proofs.Fronts.{both, standing_append}
-use Rattle.kit_async_model.proofs.Places.{neither, passes_of}
-use Rattle.kit_async_model.proofs.Askings.{Busy, FirstReady, at_work, standing_first, busy_called, work_called, found_same, found_any, only_job, apart_head, same_number, never}
+use Rattle.kit_async_model.proofs.Fronts.{standing_append}
+use Rattle.kit_async_model.proofs.Places.{passes_of}
+use Rattle.kit_async_model.proofs.Askings.{Busy, FirstReady, at_work, standing_first, busy_called, work_called, found_same, found_any, only_job, apart_head, never}
 use Rattle.kit_async_core.proofs.Lasting.{log_lasts, uncalled_log, calls_of-append}
+use Rattle.std.proofs.lemmas.Bool.{and_parts as both}
+use Rattle.ann_key.proofs.Booleans.{both_false as neither}
+use Rattle.ann_key.proofs.Numbers.{same_number}
 
 -- ---- what a remote is to be called for
 

@@ -18,14 +18,10 @@ use Rattle.kit_async_model.specs.Standings.{Standing, with_taken, with_call, ans
 use Rattle.kit_async_model.specs.Legality.{is_idle, is_free, is_turn_of, is_called, is_done}
 use Rattle.kit_async_model.specs.Events.{Stepped, waiting, due_said, work_in, first_free, free_step, turn_step, take_step, called_then, called_step, call_step}
 use Rattle.kit_async_model.specs.Books.{BookIsAsBefore, AnswerKept, AnswerBegun, BookValue, AreApart, most_calls, calls_owed, room_owed, Took, Lacked, IsCalledAt, CallNoted}
-use Rattle.kit_async_model.proofs.Fronts.{both}
 use Rattle.kit_async_model.proofs.Places.{Found, found_place, found_none, read_is, job_there, job_changed, change_there, removal_there, removal_changed, calls_set, calls_remove, passes_of}
+use Rattle.std.proofs.lemmas.Bool.{not-true as not_false, and_parts as both}
 
 -- ---- who may be called
-
-pub not_false : (b : Bool) → not b ≡ true → b ≡ false
-not_false true h = absurd cc
-not_false false h = refl
 
 below : (calls remote remotes : ℕ) → (calls == remote) ≡ true → nat_lt remote remotes ≡ true → calls < remotes
 below calls remote remotes e l = grind (arith, nat_tests)

@@ -21,15 +21,11 @@ use Rattle.kit_async_model.specs.Standings.{Standing, unexpected_line, starts_ta
 use Rattle.kit_async_model.specs.Legality.{may_hear, holds_back, is_some_line}
 use Rattle.kit_async_model.specs.Events.{Stepped, due_said, heard_reply, heard_step, hear_step}
 use Rattle.kit_async_model.specs.Books.{BookValue, AreApart, most_calls, calls_owed, room_owed, Took, IsRequest, IsValue}
-use Rattle.kit_async_model.proofs.Fronts.{both}
-use Rattle.kit_async_model.proofs.Places.{found_none, found_place, read_is, equal, job_last, removal_last, job_there, job_changed, change_there, calls_append, calls_set}
+use Rattle.kit_async_model.proofs.Places.{found_none, found_place, read_is, job_last, removal_last, job_there, job_changed, change_there, calls_append, calls_set}
 use Rattle.kit_async_model.proofs.Apart.{asks_new, replies_awaited}
 use Rattle.kit_async_model.proofs.Askings.{never}
 use Rattle.kit_async_model.proofs.FactLines.{not_zero}
-
-not_true : (b : Bool) → not b ≡ true → b ≡ false
-not_true true h = absurd cc
-not_true false h = refl
+use Rattle.std.proofs.lemmas.Bool.{not-true as not_true, and_parts as both, eqb-true as equal}
 
 -- while a line may be heard, the kit isn't over
 live : (setup : Setup) (s : Standing) → may_hear setup s ≡ true → s.over ≡ false

@@ -25,9 +25,11 @@ use Rattle.kit_async_model.specs.Events.{IsMadeBy, MayStep}
 use Rattle.kit_async_model.specs.Books.{AreApart}
 use Rattle.kit_async_model.specs.Callings.{call_of, calls_from, calls_of}
 use Rattle.kit_async_model.proofs.Apart.{Awaits, asks_new, replies_awaited, after_apart, standing_apart}
-use Rattle.kit_async_model.proofs.Fronts.{both, parts, standing_append}
+use Rattle.kit_async_model.proofs.Fronts.{parts, standing_append}
 use Rattle.kit_async_model.proofs.Places.{passes_of}
-use Rattle.kit_async_model.proofs.Askings.{Busy, InTurn, at_work, decided, never, equal_is, unequal_by, no_more, found_not, found_changed, found_kept, found_more, none_changed, none_kept, none_last, only_job, only_passes}
+use Rattle.kit_async_model.proofs.Askings.{Busy, InTurn, at_work, never, unequal_by, no_more, found_not, found_changed, found_kept, found_more, none_changed, none_kept, none_last, only_job, only_passes}
+use Rattle.std.proofs.lemmas.Bool.{and_parts as both, eqb-true as equal_is}
+use Rattle.ann_key.proofs.Booleans.{never_true as decided}
 
 -- ---- what is done to the jobs
 

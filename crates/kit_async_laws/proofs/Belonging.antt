@@ -16,14 +16,14 @@ use Rattle.kit_async_model.specs.Hearings.{text_in, value_told, hearing_of, is_o
 use Rattle.kit_async_model.specs.Legality.{some_job, is_called, may_come, comes_where, is_said, follows, legal_from, is_legal}
 use Rattle.kit_async_model.specs.Standings.{Standing, opening, unexpected_line, new_job, with_call, due_of, with_request, with_told, told_by, is_some_due, called_in, said_line, said_in, heard_as, after, standing}
 use Rattle.kit_async_model.proofs.Apart.{asks_new}
-use Rattle.kit_async_model.proofs.Askings.{equal_is, never}
-use Rattle.kit_async_model.proofs.Fronts.{both, parts_from}
+use Rattle.kit_async_model.proofs.Askings.{never}
+use Rattle.kit_async_model.proofs.Fronts.{parts_from}
 use Rattle.kit_async_model.proofs.Places.{job_last, job_changed}
 use Rattle.kit_async_laws.specs.Belonging.{IsOfOpen, Belongs}
 use Rattle.kit_async_laws.proofs.Numbers.{number_of, none_passes}
 use Rattle.kit_async_laws.proofs.Meant.{live}
-use Rattle.kit_async_laws.proofs.Sayings.{equal_bytes}
-use Rattle.kit_async_laws.proofs.Workings.{not_true}
+use Rattle.std.proofs.lemmas.Bool.{eqb-true as equal_is, and_parts as both, not-true as not_true}
+use Rattle.ann_key.proofs.Lists.{equal_bytes}
 
 -- ---- what is due
 

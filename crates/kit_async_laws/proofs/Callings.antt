@@ -16,8 +16,7 @@ use Rattle.kit_async_model.specs.Jobs.{due_in, is_making_ready, is_awaiting, is_
 use Rattle.kit_async_model.specs.Legality.{some_job, is_turn_of, is_called, may_call}
 use Rattle.kit_async_model.specs.Standings.{Standing, with_call, answer_due, called_in, after}
 use Rattle.kit_async_model.specs.Meanings.{asked_in, Item, Calls, item_of, of_job}
-use Rattle.kit_async_model.proofs.Askings.{same_number, equal_is, never, only_passes}
-use Rattle.kit_async_model.proofs.Fronts.{both}
+use Rattle.kit_async_model.proofs.Askings.{never, only_passes}
 use Rattle.kit_async_model.proofs.Places.{job_changed, passes_of}
 use Rattle.kit_async_laws.proofs.Numbers.{number_of}
 use Rattle.kit_async_laws.proofs.Phases.{Phase, Working, Asking, Awaiting, Calling, IsLeft, worked_left, called_left, agreed_left, Saying}
@@ -25,6 +24,8 @@ use Rattle.kit_async_laws.proofs.Stands.{IsReadying, IsLast, IsWork, IsIn, At}
 use Rattle.kit_async_laws.proofs.Readying.{readying_awaits, readying_asked}
 use Rattle.kit_async_laws.proofs.Steps.{Steps, Moves, of_other, of_own, none_due}
 use Rattle.kit_async_laws.proofs.Workings.{called_other, answer_owed, answer_none, work_last, ready_last, IsTurn, turn_of, among_of}
+use Rattle.ann_key.proofs.Numbers.{same_number}
+use Rattle.std.proofs.lemmas.Bool.{eqb-true as equal_is, and_parts as both}
 
 -- ---- what follows the call
 

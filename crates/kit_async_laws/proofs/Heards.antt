@@ -13,7 +13,7 @@ use Rattle.kit_async_model.specs.Hearings.{text_in, value_told, hearing_of}
 use Rattle.kit_async_model.specs.Standings.{Standing, unexpected_line, new_job, with_value, due_of_job, due_of, with_request, with_told, heard_as, after}
 use Rattle.kit_async_model.specs.Meanings.{Told, told_item, item_of, of_job}
 use Rattle.kit_async_model.proofs.Apart.{Awaits, asks_new, replies_awaited}
-use Rattle.kit_async_model.proofs.Askings.{same_number, equal_is, never}
+use Rattle.kit_async_model.proofs.Askings.{never}
 use Rattle.kit_async_model.proofs.Places.{job_changed}
 use Rattle.kit_async_laws.proofs.Requests.{Tells, tells}
 use Rattle.kit_async_laws.proofs.Numbers.{number_of, new_other, still_changed, still_last}
@@ -21,6 +21,8 @@ use Rattle.kit_async_laws.proofs.Phases.{Phase, Working, Asking, Awaiting, Calli
 use Rattle.kit_async_laws.proofs.Stands.{IsReadying, IsIn, At, is_in_over, is_in_still}
 use Rattle.kit_async_laws.proofs.Readying.{readying_told, readying_value, readying_lines}
 use Rattle.kit_async_laws.proofs.Steps.{Steps, Moves, job_other, due_other, of_other, of_own, none_due}
+use Rattle.ann_key.proofs.Numbers.{same_number}
+use Rattle.std.proofs.lemmas.Bool.{eqb-true as equal_is}
 
 -- ---- a value for the job
 

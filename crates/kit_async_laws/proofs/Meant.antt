@@ -18,18 +18,19 @@ use Rattle.kit_async_model.specs.Legality.{holds_back, may_hear, may_come, comes
 use Rattle.kit_async_model.specs.Standings.{Standing, new_job, due_of_job, with_request, heard_as, after, standing}
 use Rattle.kit_async_model.specs.Meanings.{Item, Told, item_of, of_job, asks_for, begins_job, items_until, stays_open, job_items, IsSaid, IsByDue, IsSettledBy, IsMeant}
 use Rattle.kit_async_model.proofs.Apart.{asks_new, after_apart, standing_apart}
-use Rattle.kit_async_model.proofs.Fronts.{both, parts}
+use Rattle.kit_async_model.proofs.Fronts.{parts}
 use Rattle.kit_async_model.proofs.Places.{job_last}
 use Rattle.kit_async_laws.proofs.Requests.{Begins, SomeLines, begins, others_due, answers}
 use Rattle.kit_async_laws.proofs.Numbers.{new_other}
 use Rattle.kit_async_laws.proofs.Phases.{Phase, Saying, Working, asking, IsLeft, Ends, ends_by, asking_left, can_end, readied, worked}
 use Rattle.kit_async_laws.proofs.Stands.{IsReadying, IsLast, IsIn, At, within_of, is_in_over}
 use Rattle.kit_async_laws.proofs.Heards.{heard_step, told_in}
-use Rattle.kit_async_laws.proofs.Workings.{not_true, take_step}
+use Rattle.kit_async_laws.proofs.Workings.{take_step}
 use Rattle.kit_async_laws.proofs.Callings.{call_step}
 use Rattle.kit_async_laws.proofs.Sayings.{say_step}
 use Rattle.kit_async_laws.proofs.Settled.{settled_from}
 use Rattle.kit_async_laws.proofs.Steps.{Steps, none_due}
+use Rattle.std.proofs.lemmas.Bool.{and_parts as both, not-true as not_true}
 
 -- ---- any entry
 

@@ -5,16 +5,15 @@ use Rattle.std.proofs.lemmas.Bool.Decides.{nat_tests}
 use Rattle.kit_async_model.specs.declared.job.Job.{Job}
 use Rattle.kit_async_model.specs.Jobs.{has_number, job_of, with_job, without_job}
 use Rattle.kit_async_model.specs.Legality.{some_job}
-use Rattle.kit_async_model.proofs.Places.{passes_of, neither, none_open}
-use Rattle.kit_async_model.proofs.Askings.{equal_is, found_changed, found_kept, found_more, found_not, none_changed, none_kept, none_last}
+use Rattle.kit_async_model.proofs.Places.{passes_of, none_open}
+use Rattle.kit_async_model.proofs.Askings.{found_changed, found_kept, found_more, found_not, none_changed, none_kept, none_last}
+use Rattle.std.proofs.lemmas.Bool.{eq-eqb as is_same, eqb-true as equal_is}
+use Rattle.ann_key.proofs.Booleans.{both_false as neither}
 
 -- ---- numbers
 
 pub other_than : (j n m : ℕ) → (j == n) ≡ true → (m == n) ≡ false → (j == m) ≡ false
 other_than j n m h k = grind (arith, nat_tests)
-
-pub is_same : (m n : ℕ) → m ≡ n → (m == n) ≡ true
-is_same m n h = grind (arith, nat_tests)
 
 pub number_of : (jobs : List Job) (n : ℕ) (job : Job) → job_of jobs n ≡ Some job → job.number ≡ n
 number_of jobs n job f = equal_is job.number n (passes_of (has_number n) jobs job f)

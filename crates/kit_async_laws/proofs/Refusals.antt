@@ -10,8 +10,8 @@ use Rattle.kit_core.specs.Kits.{is_yes, final_line}
 use Rattle.kit_async_model.specs.Meanings.{Item, Told, Says, Calls, asked_values, calls_from, IsReadied}
 use Rattle.kit_async_model.specs.Rows.{two}
 use Rattle.kit_async_model.proofs.Askings.{never}
-use Rattle.kit_async_model.proofs.Fronts.{both}
 use Rattle.kit_async_laws.specs.Rows.{told, success, prepares}
+use Rattle.std.proofs.lemmas.Bool.{and_parts as both}
 
 -- the calls, and the line for the last of them
 abbrev answered : List Said → Said → List Item

@@ -9,14 +9,14 @@ use Rattle.kit_core.specs.declared.call.Asked.{Asked}
 use Rattle.kit_core.specs.declared.call.Asked.TheVariants.{Prepare as AskPrepare}
 use Rattle.kit_core.specs.Kits.{Due, Silence, Line, Asks, is_value, is_creds, is_error, is_unexpected, is_readying, refusal, transfer_asked, asked_by}
 use Rattle.kit_async_model.specs.declared.about.About.{About}
-use Rattle.kit_async_model.specs.declared.hearing.Hearing.{Hearing}
 use Rattle.kit_async_model.specs.declared.hearing.Hearing.TheVariants.{Foul, Unexpected, Aside, Asks as AsksJob, Replies}
 use Rattle.kit_async_model.specs.declared.setup.Setup.{Setup}
 use Rattle.kit_async_model.specs.declared.job.Job.{Job}
 use Rattle.kit_async_model.specs.Abouts.{told_of, or_unsupported, lines_or, lines_about}
 use Rattle.kit_async_model.specs.Jobs.{request_due, job_of}
 use Rattle.kit_async_model.specs.Hearings.{parted, text_by, text_in, is_export, message_heard, reading_heard, text_heard, answers_strange, part_heard, hearing_of, awaits_in, is_open, has_some}
-use Rattle.kit_async_model.proofs.Places.{neither}
+use Rattle.kit_async_model.proofs.Apart.{skip}
+use Rattle.ann_key.proofs.Booleans.{both_false as neither}
 
 -- ---- what is due
 
@@ -149,11 +149,6 @@ export_read text name h =
     ends tail (inr e) = rw e.0 refl
 
 -- ---- what a line is
-
--- where a choice gives what its first part doesn't, the test failed
-skip : (c : Bool) (x y h : Hearing) → (x ≡ h → ⊥) → cond c x y ≡ h → (c ≡ false) × (y ≡ h)
-skip true x y h n e = absurd (n e)
-skip false x y h n e = (refl, e)
 
 begins_message : (a o b : Bool) (number n : ℕ) (m : HostMessage) → ((name : List ℕ) → m ≡ Export name → ⊥) → message_heard a o b number m ≡ AsksJob n → IsAsking m
 begins_message a o b number n m x e =

@@ -1,7 +1,6 @@
 -- A line that is said, and an open job.
 use Rattle.std.proofs.Common.{◌≡◌, ◌⊎◌, inl, inr, ℕ, List, [], ◌∷◌, refl, sym, ap, subst, ◌∙◌, Bool, true, false, not, ◌==◌, cond, Some, None, Option, drop}
 use Rattle.std.specs.Prelude.{◌&&◌, ◌||◌, map, bytes_eq, slice_index}
-use Rattle.std.proofs.lemmas.Slice.Eq.{bytes_eq-Decides}
 use Rattle.annex_model.specs.Messages.{HostMessage, Getconfig, remote_line}
 use Rattle.annex_model.specs.Tags.{untag, without_tag}
 use Rattle.kit_async_model.specs.declared.setup.Setup.{Setup}
@@ -12,18 +11,16 @@ use Rattle.kit_async_model.specs.Hearings.{is_open}
 use Rattle.kit_async_model.specs.Legality.{is_said}
 use Rattle.kit_async_model.specs.Standings.{Standing, told_by, is_some_due, said_line, said_in, after}
 use Rattle.kit_async_model.specs.Meanings.{Says, said_text, said_item, item_of, of_job}
-use Rattle.kit_async_model.proofs.Askings.{same_number, equal_is}
-use Rattle.kit_async_model.proofs.Fronts.{both}
 use Rattle.kit_async_laws.proofs.Numbers.{number_of, still_kept, gone}
 use Rattle.kit_async_laws.proofs.Phases.{Phase, Saying, Working, Asking, Awaiting, Calling, asked_left, said_left}
 use Rattle.kit_async_laws.proofs.Stands.{IsOwed, IsQuiet, IsIn, At, is_due_of, is_in_over, is_in_rest}
 use Rattle.kit_async_laws.proofs.Readying.{readying_awaits}
 use Rattle.kit_async_laws.proofs.Steps.{Steps, Moves, Closes, of_other}
+use Rattle.ann_key.proofs.Lists.{equal_bytes}
+use Rattle.ann_key.proofs.Numbers.{same_number}
+use Rattle.std.proofs.lemmas.Bool.{eqb-true as equal_is, and_parts as both}
 
 -- ---- the line without its tag
-
-pub equal_bytes : (xs ys : List ℕ) → bytes_eq xs ys ≡ true → xs ≡ ys
-equal_bytes xs ys h = (bytes_eq-Decides xs ys).0 h
 
 tagged_text : (number : ℕ) (text line : List ℕ) (o : Option (ℕ × List ℕ)) → is_tagged_as number text o ≡ true → without_tag line o ≡ text
 tagged_text number text line None h = absurd cc

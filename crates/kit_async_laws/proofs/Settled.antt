@@ -16,10 +16,11 @@ use Rattle.kit_async_model.specs.Legality.{some_job, is_called, may_come, comes_
 use Rattle.kit_async_model.specs.Standings.{Standing, new_job, with_value, with_taken, with_call, called_in, said_line, said_in, heard_as, after, is_some_due}
 use Rattle.kit_async_model.specs.Meanings.{asked_in, Item, Told, Says, Calls, told_item, said_item, item_of, of_job, asks_for, begins_job, items_until, stays_open, said_text}
 use Rattle.kit_async_model.proofs.Apart.{Awaits, replies_awaited}
-use Rattle.kit_async_model.proofs.Askings.{equal_is, decided, never}
-use Rattle.kit_async_model.proofs.Fronts.{both}
+use Rattle.kit_async_model.proofs.Askings.{never}
 use Rattle.kit_async_laws.proofs.Numbers.{none_after, none_without, none_more, none_passes}
 use Rattle.kit_async_laws.proofs.Steps.{of_other}
+use Rattle.std.proofs.lemmas.Bool.{eqb-true as equal_is, and_parts as both}
+use Rattle.ann_key.proofs.Booleans.{never_true as decided}
 
 -- the entry is nothing to the number, which has no job after it either
 pub record Rests (n : ℕ) (items : List Item) (t : Standing) : Type 0 where

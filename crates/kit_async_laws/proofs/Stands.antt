@@ -10,9 +10,9 @@ use Rattle.kit_async_model.specs.declared.job.Job.{Job}
 use Rattle.kit_async_model.specs.Jobs.{due_in, request_of, is_making_ready, is_awaiting, is_number, job_of}
 use Rattle.kit_async_model.specs.Legality.{is_called}
 use Rattle.kit_async_model.specs.Standings.{Standing}
-use Rattle.kit_async_model.proofs.Places.{neither}
 use Rattle.kit_async_laws.proofs.Phases.{Phase, Saying, Working, Asking, Awaiting, Calling, Within}
-use Rattle.kit_async_laws.proofs.Numbers.{is_same}
+use Rattle.ann_key.proofs.Booleans.{both_false as neither}
+use Rattle.std.proofs.lemmas.Bool.{eq-eqb as is_same}
 
 -- ---- what is due
 

@@ -12,14 +12,15 @@ use Rattle.kit_async_model.specs.Jobs.{request_of, is_making_ready, is_awaiting,
 use Rattle.kit_async_model.specs.Legality.{is_idle, is_free, some_job, may_take, is_turn_of, is_called}
 use Rattle.kit_async_model.specs.Standings.{Standing, with_taken, with_call, answer_due, called_in, after}
 use Rattle.kit_async_model.specs.Meanings.{item_of, of_job}
-use Rattle.kit_async_model.proofs.Askings.{equal_is, no_more}
-use Rattle.kit_async_model.proofs.Fronts.{both}
+use Rattle.kit_async_model.proofs.Askings.{no_more}
 use Rattle.kit_async_model.proofs.Places.{job_changed}
 use Rattle.kit_async_laws.proofs.Numbers.{number_of, still_changed}
 use Rattle.kit_async_laws.proofs.Phases.{Phase, Working, Asking, Awaiting, Calling, Saying}
 use Rattle.kit_async_laws.proofs.Stands.{IsOwed, IsReadying, IsLast, IsIn, At, is_due_of, is_in_still}
 use Rattle.kit_async_laws.proofs.Readying.{readying_told, readying_taken}
 use Rattle.kit_async_laws.proofs.Steps.{Steps}
+use Rattle.std.proofs.lemmas.Bool.{not-true as not_true, eqb-true as equal_is, and_parts as both}
+use Rattle.ann_key.proofs.Booleans.{and_false}
 
 -- ---- taking up
 
@@ -38,10 +39,6 @@ taken_in setup n request job remote due over (Working asked) h d o k =
 taken_in setup n request job remote due over (Asking values name names) h d o k = (readying_taken setup request job remote values (name ∷ names) 0 k.0, k.1)
 taken_in setup n request job remote due over (Awaiting values names) h d o k = ((k.0.0, readying_taken setup request job remote values (k.0.0 ∷ names) 0 k.0.1), k.1)
 taken_in setup n request job remote due over (Calling values calls) h d o k = (readying_taken setup request job remote values [] calls k.0, k.1, k.2)
-
-pub not_true : (b : Bool) → not b ≡ true → b ≡ false
-not_true true h = absurd cc
-not_true false h = refl
 
 pub take_step : (setup : Setup) (s : Standing) (n : ℕ) (request : Option HostMessage) (m remote : ℕ) (p : Phase) → At setup s n request p → s.due ≡ []
     → may_take setup s m remote ≡ true → Steps setup n request p (of_job n (item_of setup s (Take m remote))) (after setup s (Take m remote))
@@ -94,10 +91,6 @@ called_other setup s n m request said p at d other = go (job_of s.jobs m) refl
         }
 
 -- ---- a call for it
-
-and_false : (b : Bool) → (b && false) ≡ false
-and_false true = refl
-and_false false = refl
 
 shut : (a b c d : Bool) → (a && false && b && c && d) ≡ false
 shut true b c d = refl

@@ -1,8 +1,7 @@
 -- No two open jobs have one number.
-use Rattle.std.proofs.Common.{◌≡◌, ℕ, List, [], ◌∷◌, ◌++◌, refl, ap, subst, ◌∙◌, Bool, true, false, not, ◌==◌, cond, Some, None, Option, arith}
+use Rattle.std.proofs.Common.{◌≡◌, ℕ, List, [], ◌∷◌, ◌++◌, refl, ap, subst, ◌∙◌, Bool, true, false, not, ◌==◌, cond, Some, None, Option}
 use Rattle.std.specs.Prelude.{◌&&◌, ◌||◌, filter, fold}
 use Rattle.std.specs.List.{list_any}
-use Rattle.std.proofs.lemmas.Bool.Decides.{nat_tests}
 use Rattle.annex_model.specs.Messages.{HostMessage, host_reading}
 use Rattle.kit_core.specs.declared.call.Said.{Said}
 use Rattle.kit_core.specs.Kits.{is_error, is_unexpected, is_readying}
@@ -16,12 +15,14 @@ use Rattle.kit_async_model.specs.Jobs.{has_number, job_of, with_job, is_awaiting
 use Rattle.kit_async_model.specs.Hearings.{parted, is_export, message_heard, strange_heard, reading_heard, text_heard, answers_strange, part_heard, hearing_of, awaits_in, is_open, has_some, text_in, value_told}
 use Rattle.kit_async_model.specs.Standings.{Standing, opening, new_job, with_value, with_taken, with_call, called_in, is_some_due, said_in, heard_as, after, standing}
 use Rattle.kit_async_model.specs.Books.{AreApart}
-use Rattle.kit_async_model.proofs.Places.{neither, none_open}
+use Rattle.kit_async_model.proofs.Places.{none_open}
+use Rattle.ann_key.proofs.Numbers.{differ_turned as turned}
+use Rattle.ann_key.proofs.Booleans.{both_false as neither}
 
 -- ---- what a line is
 
 -- where a choice gives what its first part doesn't, the test failed
-skip : (c : Bool) (x y h : Hearing) → (x ≡ h → ⊥) → cond c x y ≡ h → (c ≡ false) × (y ≡ h)
+pub skip : (c : Bool) (x y h : Hearing) → (x ≡ h → ⊥) → cond c x y ≡ h → (c ≡ false) × (y ≡ h)
 skip true x y h n e = absurd (n e)
 skip false x y h n e = (refl, e)
 
@@ -165,9 +166,6 @@ apart_kept test (x ∷ xs) a = go (test x) refl (apart_kept test xs a.1)
     go : (b : Bool) → test x ≡ b → AreApart (filter test xs) → AreApart (filter test (x ∷ xs))
     go true e more = rw e (any_kept x.number test xs a.0, more)
     go false e more = rw e more
-
-turned : (m n : ℕ) → (m == n) ≡ false → (n == m) ≡ false
-turned m n h = grind (arith, nat_tests)
 
 any_last : (m : ℕ) (jobs : List Job) (job : Job) → list_any (has_number m) jobs ≡ false → has_number m job ≡ false → list_any (has_number m) (jobs ++ job ∷ []) ≡ false
 any_last m [] job h n = rw n refl

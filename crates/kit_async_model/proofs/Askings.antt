@@ -17,19 +17,13 @@ use Rattle.kit_async_model.specs.Hearings.{parted, text_by, is_export, message_h
 use Rattle.kit_async_model.specs.Legality.{is_idle, some_job, is_turn_of, is_called}
 use Rattle.kit_async_model.specs.Standings.{Standing, opening, new_job, with_value, with_taken, with_call, called_in, is_some_due, said_in, heard_as, after, standing}
 use Rattle.kit_async_model.specs.Books.{AreApart}
-use Rattle.kit_async_model.proofs.Fronts.{both}
-use Rattle.kit_async_model.proofs.Places.{neither, passes_of}
+use Rattle.kit_async_model.proofs.Places.{passes_of}
+use Rattle.ann_key.proofs.Booleans.{never_true as decided, and_false as and_none, both_false as neither}
+use Rattle.std.proofs.lemmas.Bool.{ne_eqb as unequal, eqb-true as equal_is, and_parts as both}
+use Rattle.ann_key.proofs.Numbers.{other_number}
+use Rattle.kit_async_model.proofs.Apart.{skip}
 
 -- ---- tests
-
-pub same_number : (n : ℕ) → (n == n) ≡ true
-same_number n = grind (arith, nat_tests)
-
-pub equal_is : (m n : ℕ) → (m == n) ≡ true → m ≡ n
-equal_is m n h = grind (arith, nat_tests)
-
-unequal : (m n : ℕ) → m ≢ n → (m == n) ≡ false
-unequal m n h = grind (arith, nat_tests)
 
 pub unequal_by : (by m n : ℕ) → by ≡ m + 3 → by ≢ n + 3 → (m == n) ≡ false
 unequal_by by m n is other = unequal m n (λ (e : m ≡ n). other (is ∙ ap (λ (k : ℕ). k + 3) e))
@@ -37,20 +31,9 @@ unequal_by by m n is other = unequal m n (λ (e : m ≡ n). other (is ∙ ap (λ
 pub no_more : (k : ℕ) → (k + 1 == 0) ≡ false
 no_more k = grind (arith, nat_tests)
 
-other_number : (a b n : ℕ) → (b == a) ≡ false → (b == n) ≡ true → (a == n) ≡ false
-other_number a b n h k = grind (arith, nat_tests)
-
 pub never : (b : Bool) → b ≡ true → b ≡ false → ⊥
 never true t f = cc
 never false t f = cc
-
-pub decided : (b : Bool) → (b ≡ true → ⊥) → b ≡ false
-decided true never_so = absurd (never_so refl)
-decided false never_so = refl
-
-and_none : (b : Bool) → (b && false) ≡ false
-and_none true = refl
-and_none false = refl
 
 -- ---- what is found in a list
 
@@ -175,10 +158,6 @@ rest_of (x ∷ xs) = xs
 
 abbrev pub FirstReady : List Job → Type 0
 FirstReady jobs = list_any is_making_ready (rest_of jobs) ≡ false
-
-skip : (c : Bool) (x y h : Hearing) → (x ≡ h → ⊥) → cond c x y ≡ h → (c ≡ false) × (y ≡ h)
-skip true x y h n e = absurd (n e)
-skip false x y h n e = (refl, e)
 
 alone_message : (a o b : Bool) (number n : ℕ) (m : HostMessage) → message_heard a o b number m ≡ Asks n → (is_readying (Some m) && b) ≡ false
 alone_message a o b number n m e =

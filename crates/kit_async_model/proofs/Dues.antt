@@ -114,10 +114,6 @@ worked_due m prepared file k p f u =
 
 -- ---- what is due in a job
 
-pub is_false : (b : Bool) → (b ≡ true → ⊥) → b ≡ false
-is_false true h = absurd (h refl)
-is_false false h = refl
-
 pub not_asked : (d : CodeDue) (due : Due) → DueOf d due → (d ≡ CallDue → ⊥) → asked_by due ≡ None
 not_asked NoDue Silence h n = refl
 not_asked NoDue (Line line) h n = refl

@@ -1,16 +1,12 @@
 -- A legal journal, entry by entry.
-use Rattle.std.proofs.Common.{◌≡◌, List, [], ◌∷◌, ◌++◌, refl, Bool, true, false}
-use Rattle.std.specs.Prelude.{◌&&◌, fold}
+use Rattle.std.proofs.Common.{◌≡◌, List, [], ◌∷◌, ◌++◌, refl, true}
+use Rattle.std.specs.Prelude.{fold}
 use Rattle.std.proofs.lemmas.List.Sums.{fold-append}
 use Rattle.kit_async_model.specs.declared.setup.Setup.{Setup}
 use Rattle.kit_async_model.specs.declared.entry.Entry.{Entry}
 use Rattle.kit_async_model.specs.Standings.{Standing, opening, after, standing}
 use Rattle.kit_async_model.specs.Legality.{follows, legal_from, is_legal}
-
-pub both : (a b : Bool) → (a && b) ≡ true → (a ≡ true) × (b ≡ true)
-both true true h = (refl, refl)
-both true false h = absurd cc
-both false b h = absurd cc
+use Rattle.std.proofs.lemmas.Bool.{and_parts as both}
 
 pub standing_append : (setup : Setup) (past rest : List Entry) → standing setup (past ++ rest) ≡ fold (after setup) (standing setup past) rest
 standing_append setup past rest = fold-append (after setup) opening past rest

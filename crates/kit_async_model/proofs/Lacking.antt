@@ -13,8 +13,9 @@ use Rattle.kit_async_model.specs.declared.event.Reply.TheVariants.{Odd}
 use Rattle.kit_async_model.specs.Standings.{Standing, after, standing}
 use Rattle.kit_async_model.specs.Legality.{is_called, comes_where, follows, legal_from, is_legal, Legal}
 use Rattle.kit_async_model.specs.Events.{only, remote_of, is_of_remote, due_said, called_step, call_step, if_it_is, event_step, step_of, IsUnsaid}
-use Rattle.kit_async_model.proofs.Fronts.{both, parts, standing_append}
+use Rattle.kit_async_model.proofs.Fronts.{parts, standing_append}
 use Rattle.kit_async_model.proofs.Stepping.{join_from, steps_are_legal}
+use Rattle.std.proofs.lemmas.Bool.{and_parts as both}
 
 abbrev SomeDue : Setup → Standing → Entry → Type 0
 SomeDue setup s call = (d : ℕ × List ℕ) × (rest : List (ℕ × List ℕ)) × ((after setup s call).due ≡ d ∷ rest)

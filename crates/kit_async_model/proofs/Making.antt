@@ -16,7 +16,7 @@ use Rattle.kit_async_model.specs.Jobs.{job_line}
 use Rattle.kit_async_model.specs.Standings.{Standing, after, standing}
 use Rattle.kit_async_model.specs.Legality.{may_hear, is_turn_of, is_called, is_done}
 use Rattle.kit_async_model.specs.Events.{IsMadeBy, Stepped, only, reader, writer, remote_of, is_of_remote, due_said, hear_step, free_step, first_free, turn_step, take_step, called_step, call_step, next_reply, wrote_step, close_step, if_it_is, event_step, step_of, IsUnsaid}
-use Rattle.kit_async_model.proofs.Fronts.{both}
+use Rattle.std.proofs.lemmas.Bool.{eqb-true as equal, and_parts as both}
 
 one_of : (by : ℕ) (e : Entry) → IsMadeBy by e → All (IsMadeBy by) (e ∷ [])
 one_of by e h = All-cons (IsMadeBy by) e [] h (All-nil (IsMadeBy by))
@@ -28,9 +28,6 @@ due_made by h (d ∷ rest) = All-cons (IsMadeBy by) (Say d.0 (job_line d.0 d.1))
 if_made : (by : ℕ) (step : Stepped) (b : Bool) → (b ≡ true → All (IsMadeBy by) step.group) → All (IsMadeBy by) (if_it_is b step).group
 if_made by step true f = f refl
 if_made by step false f = All-nil (IsMadeBy by)
-
-equal : (by n : ℕ) → (by == n) ≡ true → by ≡ n
-equal by n h = grind (arith, nat_tests)
 
 remote_is : (by : ℕ) → nat_le 3 by ≡ true → by ≡ remote_of by + 3
 remote_is by h = let l : 3 ≤ by = grind (arith, nat_tests) in omega (arith, l)

@@ -12,13 +12,11 @@ use Rattle.kit_async_model.specs.Jobs.{is_making_ready, is_awaiting, next_name, 
 use Rattle.kit_async_model.specs.Laws.{is_spoken}
 use Rattle.kit_async_model.specs.Legality.{holds_back, may_hear, is_idle, is_free, some_job, may_take, is_called, is_some_line, may_come, comes_where, follows, legal_from, is_legal, is_done, IsFinished}
 use Rattle.kit_async_model.specs.Standings.{Standing, after, called_in, standing}
-use Rattle.kit_async_model.proofs.Fronts.{both, parts, standing_append}
+use Rattle.kit_async_model.proofs.Fronts.{parts, standing_append}
+use Rattle.std.proofs.lemmas.Bool.{and_right as and_false, and_parts as both}
+use Rattle.ann_key.proofs.Booleans.{not_and_so as untrue}
 
 -- ---- tests
-
-untrue : (b : Bool) → b ≡ true → not b ≡ true → ⊥
-untrue true e h = absurd cc
-untrue false e h = absurd cc
 
 either : (a b : Bool) → (a || b) ≡ true → (a ≡ true) ⊎ ((a ≡ false) × (b ≡ true))
 either true b h = inl refl
@@ -74,10 +72,6 @@ not_free setup jobs job a = rw (making setup job a) refl
 not_called : (setup : Setup) (jobs : List Job) (remote : ℕ) (job : Job) → is_awaiting setup job ≡ true → is_called setup jobs remote job ≡ false
 not_called setup jobs remote job a = rw (making setup job a, (both (is_making_ready job) (is_some (next_name setup job)) a).1) refl
 
-and_false : (b c : Bool) → c ≡ false → (b && c) ≡ false
-and_false true c h = h
-and_false false c h = refl
-
 no_job : (setup : Setup) (test : Job → Bool) → ((job : Job) → is_awaiting setup job ≡ true → test job ≡ false) → (n : ℕ) (jobs : List Job)
     → list_all (is_awaiting setup) jobs ≡ true → some_job test n jobs ≡ false
 no_job setup test f n [] h = refl
@@ -113,7 +107,7 @@ nothing setup s Wrote c a w m = let never : is_some_line s.unwritten ≡ false =
 nothing setup s Close c a w m = untrue s.closed c (both (not s.over) (not s.closed) m).1
 nothing setup s Lack c a w m = absurd cc
 
-called_written : (setup : Setup) (s : Standing) (said : Said) (o : Option Job) → (called_in setup s said o).unwritten ≡ s.unwritten
+pub called_written : (setup : Setup) (s : Standing) (said : Said) (o : Option Job) → (called_in setup s said o).unwritten ≡ s.unwritten
 called_written setup s said None = refl
 called_written setup s said (Some job) = refl
 

@@ -1,6 +1,6 @@
 -- The places of open jobs, no two of which have one number.
 use Rattle.std.proofs.Common.{zero, suc, ◌≡◌, ◌⊎◌, inl, inr, ℕ, ◌+◌, ◌-◌, ◌≤◌, ◌<◌, List, [], ◌∷◌, ◌++◌, refl, sym, ap, subst, ◌∙◌, Bool, true, false, ◌==◌, cond, Some, None, Option, length, get_or, arith}
-use Rattle.std.specs.Prelude.{◌||◌, find, position, slice_get, set, remove, nat_lt}
+use Rattle.std.specs.Prelude.{find, position, slice_get, set, remove, nat_lt}
 use Rattle.std.specs.List.{list_any, position_or_len}
 use Rattle.std.proofs.lemmas.Bool.Decides.{nat_tests}
 use Rattle.std.proofs.lemmas.Option.{slice_get_past, slice_get_cases, slice_get_within, slice_get_read}
@@ -9,6 +9,8 @@ use Rattle.kit_async_model.specs.declared.setup.Setup.{Setup}
 use Rattle.kit_async_model.specs.declared.job.Job.{Job}
 use Rattle.kit_async_model.specs.Jobs.{has_number, job_of, with_job, without_job}
 use Rattle.kit_async_model.specs.Books.{AreApart, most_calls, calls_owed}
+use Rattle.ann_key.proofs.Booleans.{both_false as neither}
+use Rattle.ann_key.proofs.Numbers.{other_number as apart_number}
 
 -- ---- what a search finds
 
@@ -67,21 +69,8 @@ read_is jobs place job x t r =
 
 -- ---- numbers
 
-pub neither : (a b : Bool) → (a || b) ≡ false → (a ≡ false) × (b ≡ false)
-neither true b h = absurd cc
-neither false b h = (refl, h)
-
 same_number : (job : Job) → has_number job.number job ≡ true
 same_number job = grind (arith, nat_tests)
-
-pub equal : (m n : ℕ) → (m == n) ≡ true → m ≡ n
-equal m n h = grind (arith, nat_tests)
-
-turned : (m n : ℕ) → (m == n) ≡ false → (n == m) ≡ false
-turned m n h = grind (arith, nat_tests)
-
-apart_number : (a b n : ℕ) → (b == a) ≡ false → (b == n) ≡ true → (a == n) ≡ false
-apart_number a b n h k = grind (arith, nat_tests)
 
 -- a job that stands there hasn't the number that none of them has
 not_there : (n : ℕ) (jobs : List Job) (place : ℕ) (job : Job) → list_any (has_number n) jobs ≡ false → slice_get jobs place ≡ Some job → has_number n job ≡ false

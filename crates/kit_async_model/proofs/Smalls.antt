@@ -18,7 +18,7 @@ use Rattle.kit_async_model.specs.declared.hearing.Hearing.TheVariants.{Foul, Une
 use Rattle.kit_async_model.specs.Jobs.{has_number, job_of, with_job, is_awaiting, lines_in, settles}
 use Rattle.kit_async_model.specs.Hearings.{nonzero, parted, is_export, message_heard, strange_heard, reading_heard, text_heard, answers_strange, part_heard, hearing_of, awaits_in, is_open, has_some, text_in, value_told}
 use Rattle.kit_async_model.specs.Standings.{Standing, opening, new_job, with_value, with_taken, with_call, due_of, answer_due, called_in, is_some_due, said_in, heard_as, after, standing}
-use Rattle.kit_async_model.proofs.Fronts.{both}
+use Rattle.std.proofs.lemmas.Bool.{eqb-true as equal_number, and_parts as both}
 
 pub zero_small : 0 < 2 ^ 64
 zero_small = omega arith
@@ -28,9 +28,6 @@ small_of n h = grind (arith, nat_tests)
 
 pub is_small_of : (n : ℕ) → n < 2 ^ 64 → nat_lt n (2 ^ 64) ≡ true
 is_small_of n h = grind (arith, nat_tests)
-
-pub equal_number : (m n : ℕ) → (m == n) ≡ true → m ≡ n
-equal_number m n h = grind (arith, nat_tests)
 
 -- ---- of a line
 

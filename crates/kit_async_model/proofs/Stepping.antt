@@ -1,9 +1,8 @@
 -- Each step of a core leaves its journal legal.
 use Rattle.std.proofs.Common.{◌≡◌, ℕ, ◌<◌, ◌^◌, List, [], ◌∷◌, ◌++◌, refl, sym, ap, subst, Bool, true, false, not, ◌==◌, cond, Some, None, Option, arith}
-use Rattle.std.specs.Prelude.{◌&&◌, ◌||◌, drop, fold, find, nat_lt, nat_le, slice_index, bytes_eq, decimal, length, get_or}
+use Rattle.std.specs.Prelude.{◌&&◌, ◌||◌, drop, fold, find, nat_lt, nat_le, slice_index, decimal, length, get_or}
 use Rattle.std.proofs.lemmas.Bool.Decides.{nat_tests}
 use Rattle.std.proofs.lemmas.Fmt.{first_decimal, decimal_nonempty}
-use Rattle.std.proofs.lemmas.Slice.Eq.{bytes_eq-Decides}
 use Rattle.annex_model.specs.Tags.{tagged_line}
 use Rattle.annex_model.proofs.TagReadings.{untag_of_tagged}
 use Rattle.kit_core.specs.declared.call.Said.{Said}
@@ -19,20 +18,14 @@ use Rattle.kit_async_model.specs.Hearings.{text_in, hearing_of}
 use Rattle.kit_async_model.specs.Standings.{Standing, after, is_some_due, said_line, said_in, standing}
 use Rattle.kit_async_model.specs.Legality.{may_hear, is_idle, is_free, some_job, may_take, is_turn_of, is_called, may_come, comes_where, follows, legal_from, Legal, is_done}
 use Rattle.kit_async_model.specs.Events.{Stepped, only, reader, writer, remote_of, is_of_remote, due_said, hear_step, free_step, first_free, turn_step, take_step, called_step, call_step, next_reply, wrote_step, close_step, if_it_is, event_step, step_of}
-use Rattle.kit_async_model.proofs.Fronts.{both, standing_append}
+use Rattle.kit_async_model.proofs.Fronts.{standing_append}
 use Rattle.kit_async_model.proofs.Smalls.{AllSmall, SmallDue, standing_small, hearing_small, heard_due, called_due}
+use Rattle.ann_key.proofs.Booleans.{or_right}
+use Rattle.ann_key.proofs.Lists.{same_name as same_bytes}
+use Rattle.ann_key.proofs.Numbers.{same_number as same}
+use Rattle.std.proofs.lemmas.Bool.{and_parts as both}
 
 -- ---- tests
-
-same : (n : ℕ) → (n == n) ≡ true
-same n = grind (arith, nat_tests)
-
-same_bytes : (xs : List ℕ) → bytes_eq xs xs ≡ true
-same_bytes xs = (bytes_eq-Decides xs xs).1 refl
-
-or_right : (a b : Bool) → b ≡ true → (a || b) ≡ true
-or_right true b h = refl
-or_right false b h = h
 
 neither : (a b : Bool) → (a || b) ≡ false → (not a ≡ true) × (not b ≡ true)
 neither true b h = absurd cc

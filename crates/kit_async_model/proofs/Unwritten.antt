@@ -2,7 +2,6 @@
 use Rattle.std.proofs.Common.{◌≡◌, ℕ, zero, suc, ◌+◌, ◌≤◌, List, [], ◌∷◌, ◌++◌, refl, sym, ap, subst, ◌∙◌, append_assoc, append-nil, length, length-append, drop, drop-drop, Bool, true, false, Some, None, Option, arith}
 use Rattle.std.specs.Prelude.{◌||◌, fold}
 use Rattle.std.proofs.lemmas.List.{drop-append-le}
-use Rattle.kit_core.specs.declared.call.Said.{Said}
 use Rattle.kit_async_model.specs.declared.setup.Setup.{Setup}
 use Rattle.kit_async_model.specs.declared.job.Job.{Job}
 use Rattle.kit_async_model.specs.declared.entry.Entry.{Entry}
@@ -13,8 +12,9 @@ use Rattle.kit_async_model.specs.Hearings.{text_in, hearing_of}
 use Rattle.kit_async_model.specs.Jobs.{is_awaiting, job_of}
 use Rattle.kit_async_model.specs.Legality.{is_some_line, comes_where, follows, legal_from, is_legal}
 use Rattle.kit_async_model.specs.Lines.{count_wrotes, said_lines}
-use Rattle.kit_async_model.specs.Standings.{Standing, opening, heard_as, is_some_due, said_line, said_in, called_in, after, standing}
-use Rattle.kit_async_model.proofs.Fronts.{both}
+use Rattle.kit_async_model.specs.Standings.{Standing, opening, heard_as, is_some_due, said_line, said_in, after, standing}
+use Rattle.kit_async_model.proofs.Overs.{called_written as called_unwritten}
+use Rattle.std.proofs.lemmas.Bool.{and_parts as both}
 
 heard_unwritten : (setup : Setup) (s : Standing) (text : List ℕ) (h : Hearing) → (heard_as setup s text h).unwritten ≡ s.unwritten
 heard_unwritten setup s text Foul = refl
@@ -22,10 +22,6 @@ heard_unwritten setup s text Unexpected = refl
 heard_unwritten setup s text Aside = refl
 heard_unwritten setup s text (Asks number) = refl
 heard_unwritten setup s text (Replies number) = refl
-
-called_unwritten : (setup : Setup) (s : Standing) (said : Said) (o : Option Job) → (called_in setup s said o).unwritten ≡ s.unwritten
-called_unwritten setup s said None = refl
-called_unwritten setup s said (Some job) = refl
 
 said_unwritten : (setup : Setup) (s : Standing) (o : Option Job) → (said_in setup s o).unwritten ≡ s.unwritten
 said_unwritten setup s None = refl

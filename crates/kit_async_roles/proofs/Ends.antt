@@ -7,7 +7,6 @@ use Rattle.hall.specs.Log.{flat, NotBy}
 use Rattle.hall.specs.Passes.{HasClosed, seen_of}
 use Rattle.kit_core.specs.declared.call.Call.{Call}
 use Rattle.kit_serve.specs.Limits.{is_short}
-use Rattle.kit_serve.proofs.Talks.{appends_nothing}
 use Rattle.kit_async_model.specs.declared.entry.Entry.{Entry}
 use Rattle.kit_async_model.specs.declared.setup.Setup.{Setup}
 use Rattle.kit_async_model.specs.Callings.{calls_of}
@@ -23,6 +22,7 @@ use Rattle.kit_async_roles.specs.Ends.{IsAmong}
 use Rattle.kit_async_roles.specs.Reading.{EarValue, Reads, ReaderRan}
 use Rattle.kit_async_roles.specs.Writing.{MouthValue, IsFaltered, IsNextLine, IsWritten, Writes, WriterRan, written_lines}
 use Rattle.kit_async_roles.proofs.Writers.{next_stays, none_log, written_stays}
+use Rattle.ann_key.proofs.Lists.{appends_nothing}
 
 -- ---- the reader
 
@@ -88,7 +88,7 @@ writers_end h passes final fixed begun p m w why closed k ran none =
 
 -- ---- who calls a remote
 
-as_it_was : (calls : Option (List Call)) → calls ≡ option_map (λ (told : List Call). told ++ []) calls
+pub as_it_was : (calls : Option (List Call)) → calls ≡ option_map (λ (told : List Call). told ++ []) calls
 as_it_was None = refl
 as_it_was (Some told) = ap (λ (cs : List Call). Some cs) (sym (append-nil told))
 

@@ -98,7 +98,7 @@ told h p q reply line held held' false s t e has first is takes keeps =
 
 -- ---- what was read
 
-still : (x : Half) (fault : Type 0) → x.is_open ≡ true → (fault → ⊥) → Leaves x x fault
+pub still : (x : Half) (fault : Type 0) → x.is_open ≡ true → (fault → ⊥) → Leaves x x fault
 still x fault o none = record { later = omega arith; cause = λ f. absurd (none f); quiet = λ _. refl; opened = o; number = refl }
 
 no_fault : (why : Option Why) → IsQuiet why → why ≡ Some ReadFault → ⊥

@@ -14,13 +14,13 @@ use Rattle.kit_async_model.specs.declared.event.Event.TheVariants.{Take as TakeU
 use Rattle.kit_async_model.specs.declared.event.Reply.{Reply}
 use Rattle.kit_async_model.specs.declared.event.Reply.TheVariants.{Work}
 use Rattle.kit_async_model.specs.Callings.{calls_of, IsAsked}
-use Rattle.kit_async_model.proofs.Fronts.{both}
 use Rattle.kit_async_core.specs.Halls.{KitHall, KitPass}
 use Rattle.kit_async_model.specs.Standings.{standing}
 use Rattle.kit_async_core.proofs.Callers.{takes_asked, calls_noted, takes_no_call, breaks_no_call}
 use Rattle.kit_async_roles.specs.Passes.{Stands, Enters}
 use Rattle.kit_async_roles.specs.Calling.{HandValue, Works, WorkerRan, can_be_asked}
 use Rattle.kit_async_roles.proofs.Groups.{stands_on, stands_still}
+use Rattle.std.proofs.lemmas.Bool.{and_parts as both}
 
 -- ---- the parts
 

@@ -33,6 +33,8 @@ use Rattle.kit_async_roles.specs.declared.turn.Turn.TheVariants.{Over as TurnOve
 use Rattle.kit_async_roles.specs.Passes.{Stands, Enters, why_of}
 use Rattle.kit_async_roles.specs.Writing.{MouthValue, written_lines, IsNextLine, IsFaltered, IsWritten, Writes, WriterRan}
 use Rattle.kit_async_roles.proofs.Groups.{before_own, stands_on, stands_still}
+use Rattle.ann_key.proofs.Numbers.{ok_no_err as not_error}
+use Rattle.kit_async_roles.proofs.Readers.{still}
 
 -- ---- counts
 
@@ -241,9 +243,6 @@ told_wrote h p q reply line s e next = go (own_step h p q Written reply s e).ste
 
 -- ---- turns
 
-still : (x : Half) (fault : Type 0) → x.is_open ≡ true → (fault → ⊥) → Leaves x x fault
-still x fault o none = record { later = omega arith; cause = λ f. absurd (none f); quiet = λ _. refl; opened = o; number = refl }
-
 -- a reason that says nothing of the sink
 abbrev pub IsCalm : Option Why → Type 0
 IsCalm (Some WriteFault) = ⊥
@@ -349,10 +348,6 @@ failed_leaves old new fault f later rose o n = record { later = later; cause = �
 -- a fault that came, by another word
 pub leaves_for : (old new : Half) (fault fault' : Type 0) → Leaves old new fault → fault → fault' → Leaves old new fault'
 leaves_for old new fault fault' l f f' = record { later = l.later; cause = λ _. l.cause f; quiet = λ no. absurd (no f'); opened = l.opened; number = l.number }
-
-not_error : {T E : Type 0} (result : Result T E) (x : T) → result ≡ Ok x → IsErr result → ⊥
-not_error (Ok y) x is f = cc
-not_error (Err e) x is f = cc
 
 -- the next line was written whole, and told so
 pub ran_put : {T E : Type 0} (h : KitHall) (p q : KitPass) (m w : MouthValue) (line : List ℕ) (result : Result T E) (x : T) → Stands h 2 p → Stands h p.number q

@@ -10,10 +10,7 @@ use Rattle.kit_core.specs.declared.kit.Stage.{Stage}
 use Rattle.kit_core.specs.Calls.{called}
 use Rattle.kit_core.specs.Kits.{Due, Asks, Line, work_due, refusal, transfer_asked, asked_by, said_by, final_line, is_prepare, is_yes}
 use Rattle.kit_core.specs.Stages.{KitValue, Answers, Tries}
-
-is_false : (b : Bool) → (b ≡ true → ⊥) → b ≡ false
-is_false true untrue = absurd (untrue refl)
-is_false false _ = refl
+use Rattle.ann_key.proofs.Booleans.{never_true as is_false}
 
 -- a transfer of a prepared kit, by its file's name
 pub transfer_due : (p store : Bool) (key file name : List ℕ) → p ≡ true → name ≡ file → IsUtf8 file

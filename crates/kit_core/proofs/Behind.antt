@@ -6,6 +6,7 @@ use Rattle.std.proofs.Math.Bool.{or-false, or_assoc}
 use Rattle.std.proofs.lemmas.List.Elements.{filter-append, filter_map-append}
 use Rattle.annex_model.specs.Messages.{HostMessage, Value}
 use Rattle.kit_core.specs.Kits.{Heard, messages, calls_of, some_behind, is_value, value_in, request_of, values_of, IsServedBehind, IsAskedBy, due_of, lines_behind, lines_to}
+use Rattle.ann_key.proofs.Lists.{last_or-push}
 
 pub some_behind-push : {A : Type 0} (p : List A → A → Bool) (before xs : List A) (x : A)
     → some_behind p before (xs ++ x ∷ []) ≡ some_behind p before xs || p (before ++ xs) x
@@ -23,10 +24,6 @@ request_pushed request m = Some m
 abbrev pub values_pushed : List (List ℕ) → HostMessage → List (List ℕ)
 values_pushed values (Value value) = values ++ value ∷ []
 values_pushed values m = []
-
-last_or-push : {A : Type 0} (o : Option A) (xs : List A) (x : A) → last_or o (xs ++ x ∷ []) ≡ Some x
-last_or-push o [] x = refl
-last_or-push o (y ∷ ys) x = last_or-push (Some y) ys x
 
 pub request_of-push : (ms : List HostMessage) (m : HostMessage) → request_of (ms ++ m ∷ []) ≡ request_pushed (request_of ms) m
 request_of-push ms (Value value) =

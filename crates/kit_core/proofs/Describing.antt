@@ -48,7 +48,7 @@ info_free p ok =
     let lines = and_parts (not (has_newline p.name)) (not (has_newline p.text)) ok in
     (not-true (has_newline p.name) lines.0, not-true (has_newline p.text) lines.1)
 
-digit_free : (x : ℕ) → is_digit x ≡ true → (x == 10) ≡ false
+pub digit_free : (x : ℕ) → is_digit x ≡ true → (x == 10) ≡ false
 digit_free x h = grind (arith, nat_tests)
 
 digits_free : (xs : List ℕ) → list_all is_digit xs ≡ true → has_newline xs ≡ false

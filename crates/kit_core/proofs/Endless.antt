@@ -9,7 +9,7 @@ use Rattle.kit_core.specs.declared.call.Said.TheVariants.{Yes, No, Failure}
 use Rattle.kit_core.specs.Calls.{are_lines, is_line_said}
 use Rattle.kit_core.specs.Kits.{final_line, has_line_fields}
 
-free_both : (xs ys : List ℕ) → has_newline xs ≡ false → has_newline ys ≡ false → has_newline (xs ++ ys) ≡ false
+pub free_both : (xs ys : List ℕ) → has_newline xs ≡ false → has_newline ys ≡ false → has_newline (xs ++ ys) ≡ false
 free_both xs ys x y = list_any-append (λ b. b == 10) xs ys ∙ ap (λ b. b || has_newline ys) x ∙ y
 
 -- the line of an answer

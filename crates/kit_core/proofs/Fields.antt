@@ -1,14 +1,11 @@
 -- A message that a line spells holds no line end.
-use Rattle.std.proofs.Common.{◌≡◌, ℕ, ◌==◌, Bool, true, false, not, ◌||◌, ◌&&◌, List, [], ◌∷◌, ◌++◌, IsTrue, refl, sym, ap, ◌∙◌, ⊎_elim}
+use Rattle.std.proofs.Common.{◌≡◌, ℕ, ◌==◌, true, false, not, ◌&&◌, List, [], ◌∷◌, ◌++◌, IsTrue, refl, sym, ap, ◌∙◌, ⊎_elim}
 use Rattle.std.specs.List.{list_all}
 use Rattle.std.proofs.lemmas.List.Folds.{list_any-append}
 use Rattle.annex_model.specs.Lines.{has_newline}
 use Rattle.annex_model.specs.Messages.{HostMessage, HostSpells, host_row, Param, Number, Key, Word, Rest, Direction, Scope, Spelled, Followed}
 use Rattle.kit_core.specs.Kits.{is_line_param, has_line_fields}
-
-or_none : (a b : Bool) → (a || b) ≡ false → (a ≡ false) × (b ≡ false)
-or_none true b h = cc
-or_none false b h = (refl, h)
+use Rattle.ann_key.proofs.Booleans.{both_false as or_none}
 
 parts_none : (xs ys : List ℕ) → has_newline (xs ++ ys) ≡ false → (has_newline xs ≡ false) × (has_newline ys ≡ false)
 parts_none xs ys h = or_none (has_newline xs) (has_newline ys) (sym (list_any-append (λ b. b == 10) xs ys) ∙ h)

@@ -1,38 +1,27 @@
 -- No line ends in a key, nor in what a remote says of one.
-use Rattle.std.proofs.Common.{◌≡◌, ℕ, ◌==◌, ◌||◌, ◌&&◌, not, Bool, true, false, List, [], ◌∷◌, ◌++◌, length, ◌^◌, Option, Some, None, refl, ap, ◌∙◌, arith}
-use Rattle.std.specs.Prelude.{nat_le, nat_lt, slice_index}
+use Rattle.std.proofs.Common.{◌≡◌, ℕ, ◌==◌, ◌||◌, not, Bool, true, false, List, [], ◌∷◌, ◌++◌, length, Option, Some, None, refl, ap, ◌∙◌, arith}
+use Rattle.std.specs.Prelude.{nat_lt}
 use Rattle.std.specs.List.{list_all}
-use Rattle.std.proofs.lemmas.Bool.{not-true}
+use Rattle.std.proofs.lemmas.Bool.{not-true, and_parts as both}
 use Rattle.std.proofs.lemmas.Bool.Decides.{nat_tests}
-use Rattle.std.proofs.lemmas.List.Folds.{list_any-append}
-use Rattle.ann_key.specs.Numbers.{is_digit, is_numeral, value_of, IsNumeral}
+use Rattle.ann_key.specs.Numbers.{is_digit, IsNumeral}
 use Rattle.ann_key.specs.Keys.{Parts, is_backend_byte, IsField, IsChunkField, IsKey, key_reading}
-use Rattle.ann_key.proofs.Spelling.{both, spelled_of_read}
+use Rattle.ann_key.proofs.Spelling.{spelled_of_read, all_digits}
 use Rattle.annex_model.specs.Lines.{has_newline}
+use Rattle.kit_core.proofs.Describing.{digit_free as digit_apart}
+use Rattle.kit_core.proofs.Endless.{free_both}
 
 none_of : (p : ℕ → Bool) → ((b : ℕ) → p b ≡ true → (b == 10) ≡ false) → (xs : List ℕ) → list_all p xs ≡ true → has_newline xs ≡ false
 none_of p apart [] all = refl
 none_of p apart (x ∷ xs) all =
     let t = both (p x) (list_all p xs) all in ap (λ (b : Bool). b || has_newline xs) (apart x t.0) ∙ none_of p apart xs t.1
 
-free_both : (xs ys : List ℕ) → has_newline xs ≡ false → has_newline ys ≡ false → has_newline (xs ++ ys) ≡ false
-free_both xs ys first second = list_any-append (λ b. b == 10) xs ys ∙ ap (λ (b : Bool). b || has_newline ys) first ∙ second
-
 -- a field, a space and another one
 pub fields_free : (xs ys : List ℕ) → has_newline xs ≡ false → has_newline ys ≡ false → has_newline (xs ++ 32 ∷ ys) ≡ false
 fields_free xs ys first second = free_both xs (32 ∷ ys) first second
 
-digit_apart : (b : ℕ) → is_digit b ≡ true → (b == 10) ≡ false
-digit_apart b h = grind (arith, nat_tests)
-
 backend_apart : (b : ℕ) → is_backend_byte b ≡ true → (b == 10) ≡ false
 backend_apart b h = grind (arith, nat_tests)
-
-all_digits : (digits : List ℕ) → is_numeral digits ≡ true → list_all is_digit digits ≡ true
-all_digits digits h = go (nat_le 1 (length digits)) (nat_le (length digits) 20) (list_all is_digit digits) (nat_lt (value_of digits) (2 ^ 64)) (length digits == 1 || not (slice_index digits 0 == 48)) h
-  where
-    go : (a b c d e : Bool) → ((a && b && c && d) && e) ≡ true → c ≡ true
-    go a b c d e h = (both (a && b) c (both (a && b && c) d (both (a && b && c && d) e h).0).0).1
 
 numeral_free : (n : ℕ) (digits : List ℕ) → IsNumeral n digits → has_newline digits ≡ false
 numeral_free n digits s = none_of is_digit digit_apart digits (all_digits digits s.form)

@@ -1,10 +1,10 @@
 -- One turn more of a host that is talked to, and the end.
-use Rattle.std.proofs.Common.{◌≡◌, ℕ, ◌+◌, ◌-◌, ◌^◌, ◌<◌, ◌≤◌, ◌==◌, Bool, true, false, not, ◌||◌, ◌&&◌, List, [], ◌∷◌, ◌++◌, length, take, codes, Option, Some, None, Result, Ok, Err, OnOk, IfErr, IsTrue, refl, sym, ap, ◌∙◌, subst, inl, inr, ⊎_elim, arith, length-append, length-take}
+use Rattle.std.proofs.Common.{◌≡◌, ℕ, ◌+◌, ◌-◌, ◌^◌, ◌<◌, ◌≤◌, ◌==◌, Bool, true, false, not, ◌&&◌, List, [], ◌∷◌, ◌++◌, length, take, codes, Option, None, Result, Ok, Err, OnOk, IfErr, IsTrue, refl, sym, ap, ◌∙◌, subst, inl, inr, ⊎_elim, arith, length-append, length-take}
 use Rattle.std.specs.Io.KnownBytes.{Appends}
 use Rattle.std.specs.List.{list_all}
-use Rattle.std.proofs.lemmas.Bool.{cases_lt}
+use Rattle.std.proofs.lemmas.Bool.{cases_lt, not-true as not_false}
 use Rattle.std.proofs.lemmas.Bool.Decides.{nat_tests}
-use Rattle.std.proofs.lemmas.List.{append-nil, take_all}
+use Rattle.std.proofs.lemmas.List.{take_all}
 use Rattle.std.proofs.Math.Seq.{take-append-add}
 use Rattle.std.proofs.lemmas.List.Folds.{list_all-append, list_any-append}
 use Rattle.ann_outside.specs.Causes.{Rose}
@@ -18,18 +18,8 @@ use Rattle.kit_serve.specs.declared.end.End.TheVariants.{Eof, Bad, ReadFault, Wr
 use Rattle.kit_serve.specs.Turns.{ReadsOn, ReadsOnce, Streams, Turned, Half, Leaves}
 use Rattle.kit_serve.specs.Voices.{Spoken, Writes, Falters, Hears, opening_text, Bytes, Passes, Talking, IsWritten, EndsBy, Talked}
 use Rattle.kit_serve.proofs.Texts.{text-append}
-
-not_false : (b : Bool) → not b ≡ true → b ≡ false
-not_false true h = cc
-not_false false h = refl
-
-true_not : (b : Bool) → b ≡ true → not b ≡ true → ⊥
-true_not true e h = cc
-true_not false e h = cc
-
-or_true : (b : Bool) → (b || true) ≡ true
-or_true true = refl
-or_true false = refl
+use Rattle.ann_key.proofs.Booleans.{or_true, not_and_so as true_not}
+use Rattle.ann_key.proofs.Lists.{appends_nothing}
 
 -- ---- what is held
 
@@ -307,10 +297,6 @@ turns_end spoke over foul lacks begun old new voice held turns live all t =
   where
     late : (n : ℕ) → turns ≤ n → 2 ^ 64 - 1 ≤ n
     late n more = omega arith
-
-pub appends_nothing : (told : Option (List ℕ)) → Appends told told []
-appends_nothing None = tt
-appends_nothing (Some xs) = sym (append-nil xs)
 
 -- only the version was said, and nothing was read
 pub talking_begins : {V : Type 0} (spoke : Spoken V) (given taken taken' : Option (List ℕ)) (voice : V) (held : List ℕ)

@@ -1,21 +1,15 @@
 -- Texts of lines, and how much of one was written.
-use Rattle.std.proofs.Common.{◌≡◌, ℕ, ◌+◌, ◌<◌, ◌≤◌, List, [], ◌∷◌, ◌++◌, length, take, drop, get_or, Option, refl, sym, ap, ◌∙◌, subst, arith, append_assoc, ⊎_elim}
-use Rattle.std.proofs.Math.Seq.{take-append-add, take-append_seam, take-length}
-use Rattle.std.proofs.lemmas.Bool.{cases_lt}
-use Rattle.std.proofs.lemmas.List.{take-append-le, take_all, take_more, take-append-drop}
+use Rattle.std.proofs.Common.{◌≡◌, ℕ, ◌+◌, ◌<◌, ◌≤◌, List, [], ◌∷◌, ◌++◌, length, take, drop, get_or, Option, refl, sym, ap, ◌∙◌, subst, append_assoc}
+use Rattle.std.proofs.Math.Seq.{take-append-add, take-length}
+use Rattle.std.proofs.lemmas.List.{take_all, take_more, take-append-drop}
 use Rattle.std.specs.Io.KnownBytes.{Appends}
 use Rattle.ann_outside.proofs.Telling.{appends_both}
 use Rattle.annex_model.specs.Lines.{text}
+use Rattle.ann_key.proofs.Lists.{front_of_longer}
 
 pub text-append : (xs ys : List (List ℕ)) → text (xs ++ ys) ≡ text xs ++ text ys
 text-append [] ys = refl
 text-append (x ∷ xs) ys = ap (λ (zs : List ℕ). x ++ 10 ∷ zs) (text-append xs ys) ∙ sym (append_assoc x (10 ∷ text xs) (text ys))
-
--- the first bytes of a text are first bytes of a longer one
-front_of_longer : (n : ℕ) (xs ys : List ℕ) → (m : ℕ) × (take m (xs ++ ys) ≡ take n xs)
-front_of_longer n xs ys =
-    ⊎_elim (λ (past : length xs < n). (length xs, take-append_seam xs ys ∙ sym (take_all n xs (omega arith))))
-    (λ (within : n ≤ length xs). (n, take-append-le n xs ys within)) (cases_lt (length xs) n)
 
 -- A whole text, and then the first bytes of what follows it
 pub prefix_more : (a b c : Option (List ℕ)) (xs ys zs : List ℕ) → Appends a b xs

@@ -5,6 +5,7 @@ use Rattle.std.specs.List.{last_or}
 use Rattle.std.specs.Io.KnownBytes.{Appends}
 use Rattle.ann_outside.proofs.Telling.{appends_both}
 use Rattle.kit_serve.specs.LineSinks.{is_end, ends_line, TookLines}
+use Rattle.ann_key.proofs.Lists.{appends_nothing as appends_none}
 
 last_or-append : (o : Option ℕ) (xs ys : List ℕ) → last_or o (xs ++ ys) ≡ last_or (last_or o xs) ys
 last_or-append o [] ys = refl
@@ -20,14 +21,6 @@ ends_both xs ys first second = ap is_end (last_or-append None xs ys) ∙ last_en
 
 pub ends_at : (line : List ℕ) → IsTrue (ends_line (line ++ 10 ∷ []))
 ends_at line = ap is_end (last_or-append None line (10 ∷ []))
-
-appends_none : (told : Option (List ℕ)) → Appends told told []
-appends_none None = tt
-appends_none (Some xs) = sym (append_nil xs)
-  where
-    append_nil : (l : List ℕ) → l ++ [] ≡ l
-    append_nil [] = refl
-    append_nil (x ∷ l) = ap (λ (t : List ℕ). x ∷ t) (append_nil l)
 
 pub took_none : (told : Option (List ℕ)) → TookLines told told
 took_none told = ([], appends_none told, refl)

@@ -6,7 +6,6 @@ use Rattle.ann_key.specs.declared.bytes.NoMemory.{NoMemory}
 use Rattle.journal_model.specs.declared.entry.Entry.{Entry}
 use Rattle.journal_model.specs.declared.opening.Opening.{Opening}
 use Rattle.journal_model.specs.Legality.{Legal}
-use Rattle.journal_model.proofs.Looks.{differ}
 use Rattle.host_core.specs.declared.event.Event.{Event}
 use Rattle.host_core.specs.declared.event.Reply.{Reply}
 use Rattle.host_core.specs.Mays.{MayStep, IsMadeBy}
@@ -16,6 +15,7 @@ use Rattle.hall.specs.Passes.{HallValue, PassValue, HasEntered, seen_of}
 use Rattle.journal_model.specs.Shares.{are_others}
 use Rattle.link_roles.specs.Doors.{Made, Stepped}
 use Rattle.link_roles.proofs.Roles.{others_append}
+use Rattle.std.proofs.lemmas.Bool.{ne_eqb as differ}
 
 made_apart : (m n : ℕ) → m ≢ n → (es : List Entry) → All (IsMadeBy m) es → are_others n es ≡ true
 made_apart m n ne [] all = refl

@@ -10,11 +10,11 @@ use Rattle.journal_model.specs.declared.opening.Opening.{Opening}
 use Rattle.journal_model.specs.Journal.{is_started, is_ended, is_full}
 use Rattle.journal_model.specs.Due.{due_by, made_by}
 use Rattle.journal_model.specs.Shares.{by_ear}
-use Rattle.journal_model.proofs.Looks.{both}
 use Rattle.host_core.specs.Steps.{append, gone, odd, only, step_of}
 use Rattle.host_core.specs.declared.event.Event.TheVariants.{Got as GotEvent}
 use Rattle.host_core.specs.declared.event.Reply.TheVariants.{Done, Gone}
 use Rattle.link_roles.proofs.Ears.{ending_by_ear, got_by_ear}
+use Rattle.std.proofs.lemmas.Bool.{and_parts as both}
 
 are_of : (n c : ℕ) (ws : List What) → list_all (by_ear c) ws ≡ true → list_all (λ (e : Entry). by_ear c e.what) (made_by n ws) ≡ true
 are_of n c [] h = refl

@@ -14,14 +14,13 @@ use Rattle.journal_model.specs.declared.opening.Opening.{Opening}
 use Rattle.journal_model.specs.Journal.{any, addressed, asks, asked_jobs, is_started, is_ended, is_settled, verdict_of, on_wire}
 use Rattle.journal_model.specs.Due.{made_by}
 use Rattle.journal_model.specs.Legality.{Legal, may_ask, is_in_turn}
-use Rattle.journal_model.proofs.PartsGrow.{and_right}
 use Rattle.journal_model.specs.Projection.{IsNamed}
 use Rattle.journal_model.proofs.Projecting.{invariant}
 use Rattle.journal_model.proofs.Naming.{named, named_led}
 use Rattle.journal_model.proofs.Named.{same_addressed}
 use Rattle.host_core.proofs.Wiring.{wired_text}
 use Rattle.annex_model.proofs.Classes.{test_askable}
-use Rattle.journal_model.proofs.Looks.{same, each_of-append, unsettled, verdict_of-append}
+use Rattle.journal_model.proofs.Looks.{each_of-append, unsettled, verdict_of-append}
 use Rattle.journal_model.proofs.Verdicts.{unasked_none}
 use Rattle.std.specs.Option.{option_or}
 use Rattle.journal_model.proofs.Closing.{ended_settled}
@@ -35,8 +34,10 @@ use Rattle.link_roles.specs.Doors.{Passed}
 use Rattle.link_roles.specs.Events.{IsAsked, IsJob}
 use Rattle.link_roles.specs.Asks.{HasAsked, lost_as, Grows, never}
 use Rattle.journal_model.specs.Halves.{EarValue, MouthValue, LinkWired}
-use Rattle.link_roles.proofs.Roles.{or_true, asked_on, moved_by, moved_on, moved_both, moved_from, moved_wider, moved_still}
+use Rattle.link_roles.proofs.Roles.{asked_on, moved_by, moved_on, moved_both, moved_from, moved_wider, moved_still}
 use Rattle.link_roles.proofs.Linked.{link_makes, link_on}
+use Rattle.ann_key.proofs.Booleans.{and_last as and_right, or_true}
+use Rattle.ann_key.proofs.Numbers.{same_number as same}
 
 -- what was asked, under its other names
 pub asked_as : (o : Opening) (n : ℕ) (a : Bool) (old new : List Entry) {c d : ℕ} (t : ℕ) (r s : Request) (x y : Asked) → d ≡ c → s ≡ r → x ≡ y

@@ -15,13 +15,13 @@ use Rattle.journal_model.specs.Journal.{any, is_ended, open_jobs}
 use Rattle.journal_model.specs.Due.{replying, due_by, due_by_got, ending, made_by}
 use Rattle.journal_model.specs.Limits.{longest_line}
 use Rattle.journal_model.specs.Wires.{RestFits}
-use Rattle.journal_model.proofs.Looks.{same}
 use Rattle.journal_model.proofs.Soft.{is_soft_why, soft_stretch, soft_got, soft_verdicts, got_cases}
 use Rattle.journal_model.specs.Shares.{is_closed, is_heard, by_ear, Moved}
 use Rattle.link_roles.specs.Doors.{Passed, Appended, Ends}
 use Rattle.journal_model.specs.Halves.{EarValue, EarWired}
 use Rattle.link_roles.proofs.Roles.{moved_by, moved_on}
 use Rattle.journal_model.proofs.Ears.{ear_apart, ear_got, ear_stop}
+use Rattle.ann_key.proofs.Numbers.{same_number as same}
 
 -- ---- what it makes is an ear's
 

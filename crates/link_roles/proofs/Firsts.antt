@@ -1,6 +1,5 @@
 -- What stands first, over the bytes that a link is seen to hold.
-use Rattle.std.proofs.Common.{◌≡◌, ℕ, ◌+◌, ◌≤◌, List, [], ◌∷◌, refl, sym, ap, subst, ◌∙◌, Bool, true, false, not, ◌==◌, cond, suc, take, length, arith}
-use Rattle.std.specs.List.{position_or_len}
+use Rattle.std.proofs.Common.{◌≡◌, ℕ, ◌+◌, ◌≤◌, List, sym, ap, subst, ◌∙◌, true, not, length, arith}
 use Rattle.std.specs.Prelude.{IsTrue}
 use Rattle.std.proofs.lemmas.List.{length-take}
 use Rattle.std.proofs.Math.Seq.{take_all}
@@ -20,18 +19,6 @@ line_held limit bytes held l b h = rw (l, b) h
 
 pub takes_held : (bytes held after : List ℕ) → bytes ≡ held → TakesLine bytes (first_line bytes) after → TakesLine held (first_line held) after
 takes_held bytes held after b h = subst (λ (x : List ℕ). TakesLine x (first_line x) after) b h
-
--- a line holds no byte 10
-pub line_whole : (bytes : List ℕ) → has_newline (first_line bytes) ≡ false
-line_whole [] = refl
-line_whole (b ∷ bs) = go (b == 10) refl (line_whole bs)
-  where
-    n : ℕ
-    n = position_or_len (λ (x : ℕ). x == 10) bs
-
-    go : (s : Bool) → (b == 10) ≡ s → has_newline (take n bs) ≡ false → has_newline (take (cond (not s) (1 + n) 0) (b ∷ bs)) ≡ false
-    go true e r = refl
-    go false e r = let k : 1 + n ≡ suc n = omega arith in rw (k, e) r
 
 -- a line that stands first is no longer than the limit
 pub line_short : (limit : ℕ) (bytes : List ℕ) → IsTrue (has_line limit bytes) → length (first_line bytes) ≤ limit

@@ -9,7 +9,7 @@ use Rattle.journal_model.specs.declared.entry.Entry.{Entry}
 use Rattle.journal_model.specs.declared.opening.Opening.{Opening}
 use Rattle.journal_model.specs.Journal.{got_from, has_spoken, is_started, is_ended, open_jobs}
 use Rattle.journal_model.specs.Legality.{is_empty}
-use Rattle.journal_model.proofs.Looks.{same, any-append}
+use Rattle.journal_model.proofs.Looks.{any-append}
 use Rattle.host_core.specs.Steps.{group_of, is_awaited, unless_shut}
 use Rattle.link_roles.specs.declared.events.Listening.{Listening}
 use Rattle.link_roles.specs.declared.events.Listening.TheVariants.{Read as ToRead, Rest as ToRest, Over as IsOver}
@@ -35,10 +35,12 @@ use Rattle.link_roles.specs.declared.ear.Heard.TheVariants.{Fed as HeardLine, Re
 use Rattle.link_roles.specs.Hearings.{IsLong, by_long, Shorter, IsFeeding, IsHearing, IsNextFed, IsAllFed}
 use Rattle.link_roles.specs.Asks.{Grows}
 use Rattle.link_roles.proofs.Firsts.{line_short}
-use Rattle.link_roles.proofs.Roles.{moved_by, moved_on, moved_from, or_true, others_append}
+use Rattle.link_roles.proofs.Roles.{moved_by, moved_on, moved_from, others_append}
 use Rattle.link_roles.proofs.Ears.{ear_ends, ear_takes, ending_by_ear, got_by_ear}
 use Rattle.journal_model.proofs.Ears.{ear_read}
 use Rattle.link_roles.proofs.Turns.{InTurn, turn_on, turn_makes, turn_takes}
+use Rattle.ann_key.proofs.Numbers.{same_number as same}
+use Rattle.ann_key.proofs.Booleans.{or_true}
 
 -- a reason that is neither the end of the output nor a fault of reading
 abbrev is_other : Why → Bool

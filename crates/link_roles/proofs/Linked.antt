@@ -11,7 +11,6 @@ use Rattle.journal_model.specs.declared.entry.Entry.{Entry}
 use Rattle.journal_model.specs.declared.opening.Opening.{Opening}
 use Rattle.journal_model.specs.Journal.{any}
 use Rattle.journal_model.specs.Due.{made_by}
-use Rattle.journal_model.proofs.Looks.{either_left, either_right}
 use Rattle.journal_model.proofs.Heard.{heard_on}
 use Rattle.journal_model.specs.Shares.{are_own, Moved, is_by_line, is_memory, is_closed, is_heard, is_said, is_of_child, by_ear, by_mouth, by_link, by_asker}
 use Rattle.link_roles.specs.Doors.{Passed, Stands}
@@ -20,12 +19,9 @@ use Rattle.link_roles.proofs.Roles.{moved_by, moved_on, moved_wider, none_made, 
 use Rattle.journal_model.proofs.Ears.{ear_apart, no_gots}
 use Rattle.journal_model.proofs.Mouths.{mouth_apart}
 use Rattle.link_roles.proofs.Turns.{InTurn}
+use Rattle.ann_key.proofs.Booleans.{left_false as either_left, right_false as either_right}
 
 -- ---- the kinds
-
-not_true : (b : Bool) → not b ≡ true → b ≡ false
-not_true false h = refl
-not_true true h = absurd cc
 
 one : (a b : Bool) → (a && b) ≡ true → a ≡ true
 one true b h = refl

@@ -12,7 +12,6 @@ use Rattle.journal_model.specs.declared.entry.Entry.{Entry}
 use Rattle.journal_model.specs.declared.opening.Opening.{Opening}
 use Rattle.journal_model.specs.Journal.{any, is_ended, is_mute, is_live, is_unsent, open_jobs, unsent}
 use Rattle.journal_model.specs.Due.{due_by, ended_jobs, made_by}
-use Rattle.journal_model.proofs.Looks.{same, true_not_false}
 use Rattle.journal_model.proofs.Soft.{soft_stretch, soft_mute}
 use Rattle.host_core.specs.Steps.{group_of}
 use Rattle.journal_model.specs.Shares.{is_said, is_by_line, by_mouth, Moved}
@@ -20,6 +19,8 @@ use Rattle.link_roles.specs.Doors.{Passed, Ends, Sends, Mutes}
 use Rattle.journal_model.specs.Halves.{MouthValue, MouthWired}
 use Rattle.link_roles.proofs.Roles.{moved_by, moved_on}
 use Rattle.journal_model.proofs.Mouths.{Written, written, Stood, stood, mouth_sent, mouth_mute, mouth_apart}
+use Rattle.ann_key.proofs.Numbers.{same_number as same}
+use Rattle.ann_key.proofs.Booleans.{true_and_false as true_not_false}
 
 -- ---- what it makes is a mouth's
 

@@ -13,7 +13,7 @@ use Rattle.journal_model.specs.Journal.{starts, ends, is_started, is_ended, is_f
 use Rattle.journal_model.specs.Legality.{Legal, is_empty}
 use Rattle.journal_model.specs.Due.{made_by}
 use Rattle.journal_model.specs.Wires.{may_hear}
-use Rattle.journal_model.proofs.Looks.{both, same, either_left, either_right, any-append}
+use Rattle.journal_model.proofs.Looks.{any-append}
 use Rattle.journal_model.proofs.Linking.{unended}
 use Rattle.talk_serial.specs.declared.request.Request.{Request}
 use Rattle.talk_serial.specs.Requests.{message_of, name_of}
@@ -25,7 +25,10 @@ use Rattle.host_core.specs.Steps.{Step, step_of, told, shut_for, only, odd, gone
 use Rattle.link_roles.specs.Replies.{gone_why, is_done, settled_as, listening_of, fetched_of, asked_of}
 use Rattle.link_roles.specs.Events.{IsListening, IsFetched, IsAsked, Says, can_end}
 use Rattle.link_roles.specs.Doors.{Passed, Made, Stands, Appended, Ends, Sends, Mutes, Takes, Waits}
-use Rattle.link_roles.proofs.Roles.{any_on, asked_on, or_true}
+use Rattle.link_roles.proofs.Roles.{any_on, asked_on}
+use Rattle.std.proofs.lemmas.Bool.{and_parts as both}
+use Rattle.ann_key.proofs.Numbers.{same_number as same}
+use Rattle.ann_key.proofs.Booleans.{left_false as either_left, right_false as either_right, or_true}
 
 -- ---- events that append nothing
 

@@ -8,15 +8,19 @@ use Rattle.journal_model.specs.declared.opening.Opening.{Opening}
 use Rattle.journal_model.specs.Journal.{any, starts, is_started, ends, is_ended, asks, asked_jobs}
 use Rattle.journal_model.specs.Legality.{Legal}
 use Rattle.journal_model.specs.Due.{made_by}
-use Rattle.journal_model.proofs.Looks.{both, same, any-append, each_of-append}
+use Rattle.journal_model.proofs.Looks.{any-append, each_of-append}
 use Rattle.std.proofs.lemmas.List.Folds.{list_any-append}
 use Rattle.host_core.specs.Steps.{is_asked}
 use Rattle.journal_model.specs.Shares.{are_others, are_by, are_own, makes_only, Moved}
 use Rattle.link_roles.specs.Doors.{Passed, Stands, IsSameDoor}
+use Rattle.ann_key.proofs.Booleans.{or_right as right_or}
+use Rattle.journal_model.proofs.Testing.{only_others as others_make}
+use Rattle.std.proofs.lemmas.Bool.{and_parts as both}
+use Rattle.ann_key.proofs.Numbers.{same_number as same}
 
 -- ---- lists of entries
 
-all-append : (p : Entry → Bool) (xs ys : List Entry) → list_all p xs ≡ true → list_all p ys ≡ true → list_all p (xs ++ ys) ≡ true
+pub all-append : (p : Entry → Bool) (xs ys : List Entry) → list_all p xs ≡ true → list_all p ys ≡ true → list_all p (xs ++ ys) ≡ true
 all-append p [] ys h k = k
 all-append p (x ∷ xs) ys h k = let t = both (p x) (list_all p xs) h in rw (t.0, all-append p xs ys t.1 k) refl
 
@@ -31,17 +35,6 @@ all_right p (x ∷ xs) ys h = all_right p xs ys (both (p x) (list_all p (xs ++ y
 all_weaker : (p q : Entry → Bool) → ((e : Entry) → p e ≡ true → q e ≡ true) → (xs : List Entry) → list_all p xs ≡ true → list_all q xs ≡ true
 all_weaker p q w [] h = refl
 all_weaker p q w (x ∷ xs) h = let t = both (p x) (list_all p xs) h in rw (w x t.0, all_weaker p q w xs t.1) refl
-
-left_or : (a b : Bool) → a ≡ true → (a || b) ≡ true
-left_or a b h = rw h refl
-
-right_or : (a b : Bool) → b ≡ true → (a || b) ≡ true
-right_or true b h = refl
-right_or false b h = h
-
--- what others made, this role didn't
-pub others_make : (p : What → Bool) (n : ℕ) (xs : List Entry) → are_others n xs ≡ true → makes_only p n xs ≡ true
-others_make p n xs h = all_weaker (λ (e : Entry). not (e.by == n)) (λ (e : Entry). not (e.by == n) || p e.what) (λ e k. left_or (not (e.by == n)) (p e.what) k) xs h
 
 -- what others made isn't of a kind of which others made none
 pub others_none : (p : What → Bool) (n : ℕ) (xs : List Entry) → are_others n xs ≡ true → are_own p n xs ≡ true → any p xs ≡ false
@@ -70,7 +63,7 @@ none_made m p apart n (x ∷ xs) a o =
     one false e true f true h k = absurd cc
     one true e true f true h k = sym f ∙ apart x.what e
 
-by_append : (n : ℕ) (xs ys : List Entry) → are_by n xs ≡ true → are_by n ys ≡ true → are_by n (xs ++ ys) ≡ true
+pub by_append : (n : ℕ) (xs ys : List Entry) → are_by n xs ≡ true → are_by n ys ≡ true → are_by n (xs ++ ys) ≡ true
 by_append n xs ys h k = all-append (λ (e : Entry). e.by == n) xs ys h k
 
 pub others_append : (n : ℕ) (xs ys : List Entry) → are_others n xs ≡ true → are_others n ys ≡ true → are_others n (xs ++ ys) ≡ true
@@ -202,10 +195,6 @@ rested {opening_of = opening_of} {seen_of = seen_of} {y = y} {z = z} o n a l e s
 }
 
 -- ---- what stays
-
-pub or_true : (b : Bool) → (b || true) ≡ true
-or_true true = refl
-or_true false = refl
 
 pub any_on : (p : What → Bool) (old more new : List Entry) → new ≡ old ++ more → any p old ≡ true → any p new ≡ true
 any_on p old more new e h = ap (any p) e ∙ any-append p old more ∙ ap (λ (b : Bool). b || any p more) h

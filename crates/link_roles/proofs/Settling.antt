@@ -18,7 +18,7 @@ use Rattle.journal_model.specs.Legality.{Legal, is_empty}
 use Rattle.journal_model.specs.Due.{replying, due_by, made_by, verdict_at, ending}
 use Rattle.journal_model.specs.Shares.{Moved, is_of_child, is_by_line, is_said, is_closed, by_mouth, by_link, by_ear}
 use Rattle.journal_model.specs.Halves.{EarValue, MouthValue}
-use Rattle.journal_model.proofs.Looks.{both, same, same_number, either_left, either_right, each_of-append, any-append, true_not_false, verdict_of-append, unsettled}
+use Rattle.journal_model.proofs.Looks.{each_of-append, any-append, verdict_of-append, unsettled}
 use Rattle.journal_model.proofs.Soft.{got_cases}
 use Rattle.host_core.specs.declared.event.Event.TheVariants.{Listen, Fetch}
 use Rattle.host_core.specs.declared.event.Reply.{Reply}
@@ -30,10 +30,13 @@ use Rattle.link_roles.specs.Doors.{Passed, Ends}
 use Rattle.link_roles.specs.Asks.{IsHeardOut, HeardOut, IsUnheard, IsWritten, HeardMoved}
 use Rattle.link_roles.specs.Events.{Says}
 use Rattle.link_roles.specs.Hearings.{IsHearing}
-use Rattle.link_roles.proofs.Roles.{moved_by, moved_on, moved_both, moved_from, moved_still, moved_wider, none_made, all_narrower, or_true, any_on}
+use Rattle.link_roles.proofs.Roles.{moved_by, moved_on, moved_both, moved_from, moved_still, moved_wider, none_made, all_narrower, any_on}
 use Rattle.link_roles.proofs.Ears.{ending_by_ear, got_by_ear}
 use Rattle.link_roles.proofs.Linked.{any_narrower, mouth_links, ear_links, said_of}
 use Rattle.link_roles.proofs.Asking.{has_verdict}
+use Rattle.std.proofs.lemmas.Bool.{and_parts as both, eqb-true as same_number}
+use Rattle.ann_key.proofs.Numbers.{same_number as same}
+use Rattle.ann_key.proofs.Booleans.{left_false as either_left, right_false as either_right, true_and_false as true_not_false, or_true}
 
 -- ---- verdicts by lines
 
@@ -125,7 +128,7 @@ unsent_same past more c u =
     ∙ ap (drop (length (filter (λ (e : Entry). sends c e.what) past)))
     (each_of-append (writes c) past more ∙ ap (λ (l : List (Option ℕ × List ℕ)). each_of (writes c) past ++ l) u.written ∙ append-nil (each_of (writes c) past))
 
-gone_more : (past more : List Entry) (c : ℕ) → is_gone past c ≡ true → is_gone (past ++ more) c ≡ true
+pub gone_more : (past more : List Entry) (c : ℕ) → is_gone past c ≡ true → is_gone (past ++ more) c ≡ true
 gone_more past more c h = go (is_ended past c) refl h
   where
     go : (b : Bool) → is_ended past c ≡ b → (b || is_mute past c) ≡ true → is_gone (past ++ more) c ≡ true

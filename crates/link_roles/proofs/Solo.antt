@@ -17,7 +17,7 @@ use Rattle.journal_model.proofs.Ears.{ear_stop}
 use Rattle.journal_model.proofs.Mouths.{mouth_apart}
 use Rattle.journal_model.proofs.Heard.{heard_on}
 use Rattle.journal_model.proofs.Soft.{IsSoft, soft_stretch}
-use Rattle.journal_model.proofs.Looks.{both, same, any-append, each_of-append}
+use Rattle.journal_model.proofs.Looks.{any-append, each_of-append}
 use Rattle.journal_model.proofs.Linking.{why_alone}
 use Rattle.host_core.specs.declared.event.Event.TheVariants.{Stop}
 use Rattle.host_core.specs.declared.event.Reply.{Reply}
@@ -28,8 +28,11 @@ use Rattle.link_roles.specs.Asks.{HasAsked, HeardOut, IsHeardOut, lost_as}
 use Rattle.link_roles.specs.Alone.{GoesOn, Closes, AskedAlone, HearsLink, KeepsLink}
 use Rattle.link_roles.specs.Writings.{is_written_first, LoneWired}
 use Rattle.journal_model.specs.Halves.{EarValue, MouthValue, LinkWired, IsSameEar, IsSameMouth}
-use Rattle.link_roles.proofs.Roles.{by_own, or_true}
+use Rattle.link_roles.proofs.Roles.{by_own}
 use Rattle.link_roles.proofs.Writings.{written_on, written_unasked}
+use Rattle.std.proofs.lemmas.Bool.{and_parts as both}
+use Rattle.ann_key.proofs.Numbers.{same_number as same}
+use Rattle.ann_key.proofs.Booleans.{or_true}
 
 quiet : (n c : ℕ) (es : List Entry) → are_by n es ≡ true → makes_only (by_link c) n es ≡ true → list_all (λ (e : Entry). by_link c e.what) es ≡ true
 quiet n c [] h k = refl
@@ -137,7 +140,7 @@ pub keeps_alone : {n : ℕ} {a : Bool} {makes mine : What → Bool} {old new : L
     → Moved n a makes mine old new (LoneWired old e m) (LoneWired new e' m') → IsSameEar e e' × IsSameMouth m m' → KeepsLink old new e e' m m'
 keeps_alone alone s same_link = record { wired = kept_alone alone s; same_ear = same_link.0; same_mouth = same_link.1 }
 
-link_asks_none : (c : ℕ) (w : What) → by_link c w ≡ true → asks c w ≡ None
+pub link_asks_none : (c : ℕ) (w : What) → by_link c w ≡ true → asks c w ≡ None
 link_asks_none c (Ask child job task line) h = absurd cc
 link_asks_none c w h = refl
 

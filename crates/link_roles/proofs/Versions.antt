@@ -6,11 +6,11 @@ use Rattle.journal_model.specs.declared.entry.Entry.{Entry}
 use Rattle.journal_model.specs.declared.opening.Opening.{Opening}
 use Rattle.journal_model.specs.Journal.{ends, got_from, is_ended, why_of}
 use Rattle.journal_model.specs.Legality.{Legal, said_version}
-use Rattle.journal_model.proofs.Looks.{true_not_false}
 use Rattle.journal_model.proofs.Linking.{why_is_end}
 use Rattle.link_roles.specs.Asks.{HasBegun}
 use Rattle.link_roles.proofs.Roles.{any_on}
 use Rattle.journal_model.proofs.Versions.{spoke_version}
+use Rattle.ann_key.proofs.Booleans.{true_and_false as true_not_false}
 
 -- where a child that has ended or has spoken has no reason to have ended, it said its version
 pub version_where_none : (o : Opening) (past new more : List Entry) (c : ℕ) (why : Option Why) → Legal o new → new ≡ past ++ more → HasBegun past c → why ≡ why_of new c

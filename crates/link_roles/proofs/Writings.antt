@@ -17,7 +17,6 @@ use Rattle.journal_model.specs.Legality.{Legal}
 use Rattle.journal_model.specs.Due.{due_by, ending, made_by, replying, verdict_at}
 use Rattle.journal_model.specs.Shares.{Moved, are_own, by_asker, by_ear, by_link, by_mouth, is_by_line, is_closed, is_heard, is_of_child, is_said}
 use Rattle.journal_model.specs.Halves.{EarValue, MouthValue, LinkWired, MouthWired}
-use Rattle.journal_model.proofs.Looks.{both, either_left, either_right, same}
 use Rattle.journal_model.proofs.Projecting.{invariant}
 use Rattle.journal_model.proofs.Soft.{got_cases}
 use Rattle.journal_model.proofs.Verdicts.{unasked_none}
@@ -36,15 +35,14 @@ use Rattle.link_roles.proofs.Ears.{ending_by_ear, got_by_ear}
 use Rattle.link_roles.proofs.Linked.{any_narrower, ear_links, heard_of, link_apart, link_mouth, link_on, mouth_links, said_of}
 use Rattle.link_roles.proofs.Asking.{link_asked, asker_asks, none_made_of}
 use Rattle.link_roles.proofs.Settling.{all_kinds, written_more, unsent_same, Untouched}
+use Rattle.ann_key.proofs.Booleans.{and_assoc, left_false as either_left, right_false as either_right}
+use Rattle.std.proofs.lemmas.Bool.{and_parts as both}
+use Rattle.ann_key.proofs.Numbers.{same_number as same}
 
 abbrev pub Writes : ℕ → List Entry → Type 0
 Writes c journal = is_written_first journal c ≡ true
 
 -- ---- after more entries
-
-and_assoc : (a b c : Bool) → ((a && b) && c) ≡ (a && (b && c))
-and_assoc true b c = refl
-and_assoc false b c = refl
 
 written-append : (c : ℕ) (past xs ys : List Entry) → written_from c past (xs ++ ys) ≡ (written_from c past xs && written_from c (past ++ xs) ys)
 written-append c past [] ys = ap (λ (p : List Entry). written_from c p ys) (sym (append-nil past))

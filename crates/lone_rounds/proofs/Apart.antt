@@ -13,17 +13,17 @@ use Rattle.journal_model.specs.declared.opening.Opening.{Opening}
 use Rattle.journal_model.specs.Journal.{any, ends, mutes, offers, is_ended, is_mute, is_tagged, verdict_of, why_of}
 use Rattle.journal_model.specs.Legality.{Legal, is_done, is_prepared, prepares, asks_prepare}
 use Rattle.journal_model.specs.Shares.{by_link, is_closed, is_of_child}
-use Rattle.journal_model.proofs.Looks.{any-append, both, or_none, same_number, settled_none, verdict_of-append}
+use Rattle.journal_model.proofs.Looks.{any-append, or_none, settled_none, verdict_of-append}
 use Rattle.journal_model.proofs.Linking.{why_of-append}
 use Rattle.journal_model.proofs.Projecting.{invariant}
 use Rattle.journal_model.proofs.Replying.{tag_kept}
-use Rattle.journal_model.proofs.Testing.{or_left, or_right}
 use Rattle.journal_model.proofs.Turns.{without}
 use Rattle.link_roles.proofs.Linked.{any_narrower}
 use Rattle.task_run.specs.TaskRuns.{refusal_of, refused_at}
 use Rattle.lone_rounds.specs.Starting.{is_any_start, is_ready_untagged, is_spent, is_unclosed}
 use Rattle.lone_rounds.specs.Stints.{in_stint}
-use Rattle.lone_rounds.proofs.Tests.{or_false}
+use Rattle.std.proofs.lemmas.Bool.{and_parts as both, eqb-true as same_number}
+use Rattle.ann_key.proofs.Booleans.{or_left, or_right, or_false}
 
 -- ---- after a start
 
@@ -51,7 +51,7 @@ no_offer d w h = refl
 
 -- ---- a child of which nothing is made
 
-prepares_of : (d : ℕ) (w : What) → prepares d w ≡ true → is_of_child d w ≡ true
+pub prepares_of : (d : ℕ) (w : What) → prepares d w ≡ true → is_of_child d w ≡ true
 prepares_of d (Ask child job task line) h = three (child == d) (job == 1) (asks_prepare line) h
   where
     three : (a b c : Bool) → (a && b && c) ≡ true → a ≡ true

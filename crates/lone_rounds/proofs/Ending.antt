@@ -15,7 +15,7 @@ use Rattle.journal_model.specs.Legality.{Legal, count, is_busy, is_of_lost_child
 use Rattle.journal_model.specs.Shares.{are_by, is_of_child}
 use Rattle.journal_model.proofs.Ears.{halves_wire}
 use Rattle.journal_model.proofs.Looks.{any-append, each_of-append}
-use Rattle.journal_model.proofs.Testing.{all-each, all-join, neither}
+use Rattle.journal_model.proofs.Testing.{all-each, all-join}
 use Rattle.host_core.specs.CoreValue.{CoreValue}
 use Rattle.host_core.specs.Steps.{are_all_claimed, unclaimed}
 use Rattle.child_start.specs.Cores.{IsSameCore}
@@ -35,10 +35,12 @@ use Rattle.lone_rounds.proofs.Losing.{lost_both, lost_tasks, loses_task}
 use Rattle.lone_rounds.proofs.Nexts.{is_quiet, next_both, next_quiet}
 use Rattle.lone_rounds.proofs.Runs.{IsOfNoCall, all_runs, done_both, done_join, done_nothing, done_zero}
 use Rattle.lone_rounds.proofs.Spending.{none_spent, spent_both}
-use Rattle.lone_rounds.proofs.Tests.{any_same, children_up_to, count-append, count_fewer, count_none, no_children, none_came, none_left, offers_both, offers_none, or_false, some_left}
+use Rattle.lone_rounds.proofs.Tests.{any_same, children_up_to, count_fewer, no_children, none_came, none_left, offers_both, offers_none, some_left}
 use Rattle.lone_rounds.proofs.Turns.{claim_takes, none_fails}
 use Rattle.lone_rounds.proofs.Unready.{and_true}
 use Rattle.lone_rounds.proofs.Zeros.{again_lost, left_still, rests_one}
+use Rattle.ann_key.proofs.Booleans.{or_neither as neither}
+use Rattle.journal_model.proofs.Working.{count-append, count_none}
 
 -- ---- the begin
 

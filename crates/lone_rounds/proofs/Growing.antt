@@ -10,8 +10,8 @@ use Rattle.journal_model.specs.declared.opening.Opening.{Opening}
 use Rattle.journal_model.specs.Journal.{any, each_of, is_ended, offers}
 use Rattle.journal_model.specs.Legality.{Legal, count, is_start}
 use Rattle.journal_model.specs.Shares.{are_by, is_of_child}
-use Rattle.journal_model.proofs.Looks.{any-append, differ, each_of-append}
-use Rattle.journal_model.proofs.Testing.{all-each, all-join, neither}
+use Rattle.journal_model.proofs.Looks.{any-append, each_of-append}
+use Rattle.journal_model.proofs.Testing.{all-each, all-join}
 use Rattle.host_core.specs.Steps.{are_all_claimed}
 use Rattle.task_run.specs.declared.setup.Setup.{Setup}
 use Rattle.lone_work.specs.Works.{DeskTells}
@@ -25,7 +25,10 @@ use Rattle.lone_rounds.proofs.Losing.{lost_both}
 use Rattle.lone_rounds.proofs.Nexts.{next_both, next_first}
 use Rattle.lone_rounds.proofs.Runs.{done_both, done_same}
 use Rattle.lone_rounds.proofs.Spending.{last_spent, spent_both}
-use Rattle.lone_rounds.proofs.Tests.{and_behind, any_none, any_same, children_up_to, count-append, count_none, neither_nor, no_children, none_came, offers_both, offers_none, up_to_both, up_to_more}
+use Rattle.lone_rounds.proofs.Tests.{any_none, any_same, children_up_to, neither_nor, no_children, none_came, offers_both, offers_none, up_to_both, up_to_more}
+use Rattle.std.proofs.lemmas.Bool.{ne_eqb as differ}
+use Rattle.ann_key.proofs.Booleans.{or_neither as neither, and_assoc as and_behind}
+use Rattle.journal_model.proofs.Working.{count-append, count_none}
 
 -- ---- the start itself
 

@@ -11,13 +11,15 @@ use Rattle.journal_model.specs.Journal.{asks, asked_jobs, each_of}
 use Rattle.journal_model.specs.Due.{due_after}
 use Rattle.journal_model.specs.Legality.{Legal, may_come}
 use Rattle.journal_model.proofs.Holding.{due_names}
-use Rattle.journal_model.proofs.Looks.{both, differ, each_of-append, entry, same_number}
+use Rattle.journal_model.proofs.Looks.{each_of-append, entry}
 use Rattle.journal_model.proofs.Standing.{Legal-from}
-use Rattle.journal_model.proofs.Testing.{all-both, all-join, by_either, or_right}
+use Rattle.journal_model.proofs.Testing.{all-both, all-join, by_either}
 use Rattle.child_start.specs.Greetings.{is_greeting_line, is_of_greeting, asks_for}
 use Rattle.child_start.specs.declared.greeting.Mode.TheVariants.{Serve}
 use Rattle.lone_work.specs.Works.{by_worker}
 use Rattle.lone_rounds.specs.Rounds.{is_of_run}
+use Rattle.std.proofs.lemmas.Bool.{and_parts as both, ne_eqb as differ, eqb-true as same_number}
+use Rattle.ann_key.proofs.Booleans.{or_right}
 
 -- a job of c is neither of the first two
 abbrev pub late : ℕ → What → Bool

@@ -19,7 +19,8 @@ use Rattle.child_end.proofs.Held.{held_apart}
 use Rattle.child_end.specs.Programs.{AddsAll, ProgramsValue, RoseBy, is_failed_start, told, told_in}
 use Rattle.lone_rounds.specs.Starting.{is_any_start}
 use Rattle.lone_rounds.specs.Stints.{AreLinked, AreUpTo, IsLinked, Kept, StartsOne, ear_of, main_entry, mouth_of}
-use Rattle.lone_rounds.proofs.Tests.{count-append, count_none, each_without, none_came}
+use Rattle.lone_rounds.proofs.Tests.{each_without, none_came}
+use Rattle.journal_model.proofs.Working.{count-append, count_none}
 
 -- ---- counts of faults
 
@@ -31,7 +32,7 @@ rose_still n a b c h k = (let x : min (a + n) (2 ^ 64 - 1) ≤ b = h in omega (a
 
 -- ---- lists that are told
 
-adds_stays : (old mid new : Option Starts) (x : List ℕ × Bool) → AddsOne old mid x → Stays mid new → AddsAll old new (x ∷ [])
+pub adds_stays : (old mid new : Option Starts) (x : List ℕ × Bool) → AddsOne old mid x → Stays mid new → AddsAll old new (x ∷ [])
 adds_stays None None None x a s = tt
 adds_stays None None (Some zs) x a s = absurd s
 adds_stays None (Some ys) new x a s = absurd a
@@ -70,7 +71,7 @@ may_ask before after e (inr (b, a)) = inr (b, subst (λ (x : List ℕ). AddsOne 
 
 -- ---- the numbers of starts
 
-of_start : (old new : Option Starts) (x : List ℕ × Bool) (n : Option ℕ) → AddsOne old new x → IsNumbered new n → IsOfStart old 1 n
+pub of_start : (old new : Option Starts) (x : List ℕ × Bool) (n : Option ℕ) → AddsOne old new x → IsNumbered new n → IsOfStart old 1 n
 of_start old new x None a h = tt
 of_start None new x (Some n) a h = tt
 of_start (Some xs) None x (Some n) a h = absurd a
@@ -90,7 +91,7 @@ numbered_on starts e e' m m' same_ear same_mouth h = (subst (IsNumbered starts) 
 
 -- ---- told and came
 
-as_many : (program : List ℕ) (journal : List Entry) → length (told program journal) ≡ length (came journal)
+pub as_many : (program : List ℕ) (journal : List Entry) → length (told program journal) ≡ length (came journal)
 as_many program [] = refl
 as_many program (e ∷ journal) = go e.what (as_many program journal)
   where
@@ -107,7 +108,7 @@ untold program w h = refl
 pub none_told : (program : List ℕ) (xs : List Entry) → any is_any_start xs ≡ false → told program xs ≡ []
 none_told program xs h = each_without (told_in program) is_any_start (untold program) xs h
 
-failed_start_is : (w : What) → is_failed_start w ≡ true → is_any_start w ≡ true
+pub failed_start_is : (w : What) → is_failed_start w ≡ true → is_any_start w ≡ true
 failed_start_is (NoStart slot) h = refl
 failed_start_is w h = absurd cc
 

@@ -6,10 +6,11 @@ use Rattle.journal_model.specs.declared.entry.What.{What}
 use Rattle.journal_model.specs.declared.entry.What.TheVariants.{Ask, Claim, Lost, NoStart, Start}
 use Rattle.journal_model.specs.declared.entry.Entry.{Entry}
 use Rattle.journal_model.specs.Journal.{each_of}
-use Rattle.journal_model.proofs.Looks.{both, each_of-append, same_number}
+use Rattle.journal_model.proofs.Looks.{each_of-append}
 use Rattle.child_start.specs.Greetings.{is_greeting_line, is_of_greeting}
 use Rattle.lone_rounds.specs.Rounds.{AllLostWell, IsLostIn, greeted, opened_in}
 use Rattle.lone_rounds.specs.Stints.{main_entry}
+use Rattle.std.proofs.lemmas.Bool.{and_parts as both, eqb-true as same_number}
 
 pub lost_both : (past xs ys : List Entry) → AllLostWell past xs → AllLostWell (past ++ xs) ys → AllLostWell past (xs ++ ys)
 lost_both past [] ys h k = subst (λ (p : List Entry). AllLostWell p ys) (append-nil past) k

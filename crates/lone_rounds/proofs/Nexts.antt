@@ -6,10 +6,11 @@ use Rattle.journal_model.specs.declared.entry.What.TheVariants.{Claim, Start, No
 use Rattle.journal_model.specs.declared.entry.Entry.{Entry}
 use Rattle.journal_model.specs.declared.opening.Opening.{Opening}
 use Rattle.journal_model.specs.Journal.{any}
-use Rattle.journal_model.proofs.Looks.{both, either_left, either_right, same_number}
 use Rattle.lone_rounds.specs.Starting.{is_any_start}
 use Rattle.lone_rounds.specs.Rounds.{AllStandNext, MayStart, NoneUntaken, StandsNext}
 use Rattle.lone_rounds.specs.Stints.{IsStart}
+use Rattle.std.proofs.lemmas.Bool.{and_parts as both, eqb-true as same_number}
+use Rattle.ann_key.proofs.Booleans.{left_false as either_left, right_false as either_right}
 
 pub next_both : (o : Opening) (past xs ys : List Entry) → AllStandNext o past xs → AllStandNext o (past ++ xs) ys → AllStandNext o past (xs ++ ys)
 next_both o past [] ys h k = subst (λ (p : List Entry). AllStandNext o p ys) (append-nil past) k

@@ -3,12 +3,11 @@ use Rattle.std.proofs.Common.{refl, ◌≡◌, ℕ, zero, suc, ◌+◌, List, []
 use Rattle.std.specs.Prelude.{option_map, slice_get, take, Option}
 use Rattle.journal_model.specs.declared.entry.Entry.{Entry}
 use Rattle.journal_model.specs.Journal.{any}
-use Rattle.journal_model.proofs.Looks.{either_left, either_right}
-use Rattle.journal_model.proofs.Testing.{neither, or_left, or_right}
 use Rattle.journal_scan.specs.Shown.{entry_shown}
 use Rattle.journal_scan.specs.declared.entry.EntryRef.{EntryRef}
 use Rattle.lone_rounds.specs.Rounds.{ends_for_memory}
 use Rattle.lone_rounds.specs.Stints.{is_memory_end}
+use Rattle.ann_key.proofs.Booleans.{left_false as either_left, right_false as either_right, or_neither as neither, or_left, or_right}
 
 none_step : (xs : List Entry) (i : ℕ) → is_memory_end (slice_get xs i) ≡ false → any ends_for_memory (take i xs) ≡ false → any ends_for_memory (take (suc i) xs) ≡ false
 none_step [] i h k = refl

@@ -1,28 +1,24 @@
 -- A child that got ready: it does tasks until it is gone or all are claimed.
-use Rattle.std.proofs.Common.{◌≡◌, ◌⊎◌, ℕ, ◌+◌, ◌<◌, ◌≤◌, List, [], ◌∷◌, ◌++◌, refl, sym, ap, subst, ◌∙◌, append_assoc, append-nil, length, Bool, true, false, not, ◌==◌, cond, Some, None, Option, arith, inl, inr}
+use Rattle.std.proofs.Common.{◌≡◌, ◌⊎◌, ℕ, ◌+◌, ◌≤◌, List, [], ◌∷◌, ◌++◌, refl, sym, ap, subst, ◌∙◌, append_assoc, append-nil, length, Bool, true, false, not, ◌==◌, cond, Some, None, Option, arith, inl, inr}
 use Rattle.std.specs.Prelude.{◌&&◌, ◌||◌, is_some, filter}
 use Rattle.std.specs.List.{list_all}
 use Rattle.std.specs.Option.{option_or}
 use Rattle.std.proofs.lemmas.List.Folds.{list_all-append}
 use Rattle.journal_model.specs.declared.verdict.Why.{Why}
 use Rattle.journal_model.specs.declared.verdict.Verdict.{Verdict}
-use Rattle.journal_model.specs.declared.verdict.Verdict.TheVariants.{Done as DoneAt}
 use Rattle.journal_model.specs.declared.answer.Answer.{Answer}
 use Rattle.journal_model.specs.declared.entry.What.{What}
 use Rattle.journal_model.specs.declared.entry.What.TheVariants.{Start, End}
 use Rattle.journal_model.specs.declared.entry.Entry.{Entry}
 use Rattle.journal_model.specs.declared.opening.Opening.{Opening}
-use Rattle.annex_model.specs.Messages.{remote_reading}
-use Rattle.annex_model.specs.Tags.{names_async}
-use Rattle.journal_model.specs.Journal.{accepts_async, any, asked_jobs, ends, got_line, is_ended, is_mute, is_settled, is_tagged, offers, open_jobs, verdict_of, why_of}
+use Rattle.journal_model.specs.Journal.{accepts_async, any, asked_jobs, ends, is_ended, is_mute, is_settled, is_tagged, offers, open_jobs, verdict_of, why_of}
 use Rattle.journal_model.specs.Legality.{Legal, count, is_busy, is_done, is_prepared, is_start, prepares}
 use Rattle.journal_model.specs.Shares.{is_closed}
 use Rattle.journal_model.proofs.Fresh.{fresh}
 use Rattle.journal_model.proofs.Linking.{why_is_end, why_of-append}
-use Rattle.journal_model.proofs.Looks.{any-append, both, unsettled, verdict_of-append}
+use Rattle.journal_model.proofs.Looks.{any-append, unsettled, verdict_of-append}
 use Rattle.journal_model.proofs.Projecting.{invariant}
-use Rattle.journal_model.proofs.Replying.{slice_get-left}
-use Rattle.journal_model.proofs.Testing.{all-join, or_left, or_right}
+use Rattle.journal_model.proofs.Testing.{all-join}
 use Rattle.host_core.specs.Steps.{are_all_claimed, is_gone}
 use Rattle.gathering.specs.Tasks.{IsThrough}
 use Rattle.child_start.specs.Greetings.{Greeted, IsReady, is_of_greeting}
@@ -41,19 +37,17 @@ use Rattle.lone_rounds.proofs.Losing.{loses_task}
 use Rattle.lone_rounds.proofs.Nexts.{next_both, next_quiet, next_where}
 use Rattle.lone_rounds.proofs.Runs.{done_same, worker_runs}
 use Rattle.lone_rounds.proofs.Stinting.{Closing, Part, closing, closing_claims, closing_ends, closing_part, closing_rests, closing_loses, greeting_claims_none, greeting_closes_none, greeting_part, greeting_takes_none, quiet_greeting, served_lost, worker_loses, of_closing, part_both, worker_part}
-use Rattle.lone_rounds.proofs.Tests.{any_none, claimed_same, or_false}
+use Rattle.lone_rounds.proofs.Tests.{any_none, claimed_same}
 use Rattle.lone_rounds.proofs.Turns.{ready_untaken}
+use Rattle.journal_model.proofs.Replying.{accepted}
+use Rattle.std.proofs.lemmas.Bool.{and_parts as both}
+use Rattle.ann_key.proofs.Booleans.{or_left, or_right, or_false}
 
 -- ---- a ready child stays so, and tagged or not
 
-done_more : (v w : Option Verdict) → is_done v ≡ true → is_done (option_or v w) ≡ true
+pub done_more : (v w : Option Verdict) → is_done v ≡ true → is_done (option_or v w) ≡ true
 done_more None w h = absurd cc
 done_more (Some v) w h = h
-
-accepted : (past more : List Entry) (v : Option Verdict) → ((at : ℕ) → v ≡ Some (DoneAt at) → at < length past) → accepts_async (past ++ more) v ≡ accepts_async past v
-accepted past more None h = refl
-accepted past more (Some (DoneAt at)) h = ap (λ (e : Option Entry). names_async (remote_reading (got_line e))) (slice_get-left past more at (h at refl))
-accepted past more (Some v) h = refl
 
 module _ (o : Opening) (g more : List Entry) (c : ℕ) (legal : Legal o g) (ready : IsReady g c) (idle : open_jobs g c ≡ []) (within : list_all (λ (e : Entry). in_stint c e.what) more ≡ true) where
   settled_first : is_settled g c 0 ≡ true
@@ -122,7 +116,7 @@ pub greeting_unclosed : (c : ℕ) (w : What) → is_of_greeting c w ≡ true →
 greeting_unclosed c (End child why) h = (both (child == c) (not (is_closed why)) h).1
 greeting_unclosed c w h = refl
 
-worker_unclosed : (c : ℕ) (w : What) → by_worker c w ≡ true → is_unclosed_end w ≡ true
+pub worker_unclosed : (c : ℕ) (w : What) → by_worker c w ≡ true → is_unclosed_end w ≡ true
 worker_unclosed c (End child why) h = (both (child == c) (not (is_closed why)) h).1
 worker_unclosed c w h = refl
 

@@ -6,10 +6,11 @@ use Rattle.journal_model.specs.declared.entry.What.{What}
 use Rattle.journal_model.specs.declared.entry.What.TheVariants.{Start, NoStart}
 use Rattle.journal_model.specs.declared.entry.Entry.{Entry}
 use Rattle.journal_model.specs.Journal.{any}
-use Rattle.journal_model.proofs.Looks.{both, either_left, either_right}
 use Rattle.lone_rounds.specs.Starting.{are_spent, children, is_any_start, is_spent, is_start_spent, up_to}
 use Rattle.lone_rounds.specs.Stints.{main_entry}
 use Rattle.lone_rounds.proofs.Apart.{spent_on}
+use Rattle.std.proofs.lemmas.Bool.{and_parts as both}
+use Rattle.ann_key.proofs.Booleans.{left_false as either_left, right_false as either_right}
 
 -- ---- up to the first of a kind
 

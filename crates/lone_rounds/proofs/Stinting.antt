@@ -13,8 +13,8 @@ use Rattle.journal_model.specs.Makers.{is_of_task}
 use Rattle.journal_model.specs.Shares.{are_by, by_link, is_closed}
 use Rattle.journal_model.specs.declared.holder.Holder.{Holder}
 use Rattle.journal_model.proofs.Holding.{claimed, closed, holder_append, unturned}
-use Rattle.journal_model.proofs.Looks.{any-append, both, same}
-use Rattle.journal_model.proofs.Testing.{all-join, or_left, or_right}
+use Rattle.journal_model.proofs.Looks.{any-append}
+use Rattle.journal_model.proofs.Testing.{all-join}
 use Rattle.journal_model.proofs.Working.{holder_apart}
 use Rattle.host_core.specs.Steps.{are_all_claimed}
 use Rattle.link_roles.specs.Alone.{Closes}
@@ -36,6 +36,9 @@ use Rattle.lone_rounds.proofs.Losing.{greeted_next, lost_both, lost_greeting, lo
 use Rattle.lone_rounds.proofs.Nexts.{is_quiet}
 use Rattle.lone_rounds.proofs.Tests.{each_none, any_none, claimed_same, turns_none}
 use Rattle.lone_rounds.proofs.Zeros.{rests_one}
+use Rattle.std.proofs.lemmas.Bool.{and_parts as both}
+use Rattle.ann_key.proofs.Numbers.{same_number as same}
+use Rattle.ann_key.proofs.Booleans.{or_left, or_right}
 
 -- ---- a part
 
@@ -51,7 +54,7 @@ part_both c xs ys h k = record {
   asks = all-join (λ (e : Entry). is_of_run e.what) xs ys h.asks k.asks;
 }
 
-all_in : (p q : What → Bool) → ((w : What) → p w ≡ true → q w ≡ true) → (xs : List Entry) → list_all (λ (e : Entry). p e.what) xs ≡ true → list_all (λ (e : Entry). q e.what) xs ≡ true
+pub all_in : (p q : What → Bool) → ((w : What) → p w ≡ true → q w ≡ true) → (xs : List Entry) → list_all (λ (e : Entry). p e.what) xs ≡ true → list_all (λ (e : Entry). q e.what) xs ≡ true
 all_in p q f [] h = refl
 all_in p q f (e ∷ xs) h =
     let t = both (p e.what) (list_all (λ (x : Entry). p x.what) xs) h in

@@ -1,8 +1,7 @@
 -- Tests along entries and children, and what two stretches say together.
-use Rattle.std.proofs.Common.{◌≡◌, ℕ, ◌+◌, ◌≤◌, List, [], ◌∷◌, ◌++◌, refl, sym, ap, subst, ◌∙◌, Bool, true, false, not, ◌==◌, cond, Some, None, Option, arith, length, length-append, append_assoc, append-nil}
+use Rattle.std.proofs.Common.{◌≡◌, ℕ, ◌+◌, ◌≤◌, List, [], ◌∷◌, ◌++◌, refl, sym, ap, subst, ◌∙◌, Bool, true, false, not, ◌==◌, cond, Some, None, Option, arith, length, append_assoc, append-nil}
 use Rattle.std.specs.Prelude.{◌&&◌, ◌||◌, filter}
 use Rattle.std.specs.List.{list_all, list_any, cons_option}
-use Rattle.std.proofs.lemmas.List.Elements.{filter-append}
 use Rattle.journal_model.specs.declared.entry.What.{What}
 use Rattle.journal_model.specs.declared.entry.What.TheVariants.{Start, NoStart}
 use Rattle.journal_model.specs.declared.entry.Entry.{Entry}
@@ -10,26 +9,17 @@ use Rattle.journal_model.specs.declared.opening.Opening.{Opening}
 use Rattle.journal_model.specs.Journal.{any, each_of}
 use Rattle.journal_model.specs.Legality.{count, is_claimed, numbers_of}
 use Rattle.journal_model.proofs.Holding.{claimed, claimed_append, closed, unclaimed_on}
-use Rattle.journal_model.proofs.Looks.{both, either_left, either_right, any-append}
+use Rattle.journal_model.proofs.Looks.{any-append}
 use Rattle.journal_model.proofs.Testing.{all-each}
 use Rattle.host_core.specs.Steps.{are_all_claimed}
 use Rattle.child_end.specs.Wires.{came, came_in}
 use Rattle.gathering.specs.Tasks.{claimed_turn, turns_by}
 use Rattle.lone_rounds.specs.Starting.{AllOffer, OffersWell, children, is_any_start, started_in}
 use Rattle.lone_rounds.specs.Stints.{AreUpTo}
-
-pub or_false : (b : Bool) → (b || false) ≡ b
-or_false true = refl
-or_false false = refl
+use Rattle.ann_key.proofs.Booleans.{left_false as either_left, right_false as either_right}
+use Rattle.std.proofs.lemmas.Bool.{and_parts as both}
 
 -- ---- counts
-
-pub count-append : (p : What → Bool) (xs ys : List Entry) → count p (xs ++ ys) ≡ count p xs + count p ys
-count-append p xs ys = ap length (filter-append (λ (e : Entry). p e.what) xs ys) ∙ length-append (filter (λ (e : Entry). p e.what) xs) (filter (λ (e : Entry). p e.what) ys)
-
-pub count_none : (p : What → Bool) (xs : List Entry) → any p xs ≡ false → count p xs ≡ 0
-count_none p [] h = refl
-count_none p (e ∷ xs) h = rw (either_left (p e.what) (any p xs) h) (count_none p xs (either_right (p e.what) (any p xs) h))
 
 pub count_fewer : (p q : What → Bool) → ((w : What) → p w ≡ true → q w ≡ true) → (xs : List Entry) → count p xs ≤ count q xs
 count_fewer p q f [] = omega arith
@@ -164,10 +154,6 @@ none_left p (t ∷ ts) h = go (p t) h (none_left p ts)
     go false k r = absurd (let bad : ⊥ = omega (arith, k) in bad)
 
 -- ---- numbers
-
-pub and_behind : (a b c : Bool) → ((a && b) && c) ≡ (a && (b && c))
-and_behind true b c = refl
-and_behind false b c = refl
 
 pub neither_nor : (a b : Bool) → not (a || b) ≡ (not a && not b)
 neither_nor true b = refl

@@ -7,10 +7,11 @@ use Rattle.journal_model.specs.declared.entry.What.{What}
 use Rattle.journal_model.specs.declared.entry.What.TheVariants.{Claim, Start, NoStart, Answer as Answered}
 use Rattle.journal_model.specs.declared.entry.Entry.{Entry}
 use Rattle.journal_model.specs.Journal.{each_of}
-use Rattle.journal_model.proofs.Looks.{both, each_of-append}
+use Rattle.journal_model.proofs.Looks.{each_of-append}
 use Rattle.task_run.specs.TaskRuns.{failed_start, unready_answer}
 use Rattle.lone_rounds.specs.Rounds.{start_untaken, turn_of}
 use Rattle.lone_rounds.specs.Stints.{in_stint, main_entry}
+use Rattle.std.proofs.lemmas.Bool.{and_parts as both}
 
 -- what a turn came to
 abbrev Turn : Type 0

@@ -18,7 +18,7 @@ use Rattle.journal_model.specs.Shares.{is_closed}
 use Rattle.journal_model.proofs.Holding.{holder_append}
 use Rattle.journal_model.proofs.Linking.{why_is_end}
 use Rattle.journal_model.proofs.Looks.{or_none, verdict_of-append}
-use Rattle.journal_model.proofs.Testing.{all-join, or_left, or_right}
+use Rattle.journal_model.proofs.Testing.{all-join}
 use Rattle.host_core.specs.Steps.{are_all_claimed}
 use Rattle.child_start.specs.Greetings.{Greeted, HasEnded, IsRefused, IsUnsent, is_of_greeting, is_refusal}
 use Rattle.task_run.specs.declared.setup.Setup.{Setup}
@@ -38,6 +38,8 @@ use Rattle.lone_rounds.proofs.Stinting.{Closing, Part, closing, closing_ends, cl
 use Rattle.lone_rounds.proofs.Tests.{claimed_same, each_none}
 use Rattle.lone_rounds.proofs.Turns.{child_untaken, claim_takes, fault_untaken, none_fails}
 use Rattle.lone_rounds.proofs.Zeros.{rests_one}
+use Rattle.std.proofs.lemmas.Option.{same_Some as same_some}
+use Rattle.ann_key.proofs.Booleans.{or_left, or_right}
 
 pub and_true : (b : Bool) → b ≡ (b && true)
 and_true true = refl
@@ -58,9 +60,6 @@ refused_place v at (inr e) = ap refused_at e
 
 pub refused_some : (past : List Entry) (c : ℕ) (v : Verdict) → IsRefused past c v → is_some (refused_at v) ≡ true
 refused_some past c v h = ap is_some (refused_place v h.place h.refusal)
-
-same_some : {A : Type 0} (x y : A) → Some x ≡ Some y → x ≡ y
-same_some x y e = cc
 
 pub unready_refused : (g : List Entry) (c : ℕ) (v : Verdict) (answer : Answer) → IsRefused g c v → Some answer ≡ option_map NotPrepared (refused_at v) → IsUnready g c answer
 unready_refused g c v answer h is =

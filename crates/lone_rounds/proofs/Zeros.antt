@@ -16,8 +16,8 @@ use Rattle.journal_model.proofs.Growing.{Legal-induction}
 use Rattle.journal_model.specs.Due.{due_after}
 use Rattle.journal_model.proofs.Holders.{turn_stays}
 use Rattle.journal_model.proofs.Idling.{claimed_positive}
-use Rattle.journal_model.proofs.Looks.{any-append, both, each_of-append, same}
-use Rattle.journal_model.proofs.Testing.{all-join, or_false, or_true}
+use Rattle.journal_model.proofs.Looks.{any-append, each_of-append}
+use Rattle.journal_model.proofs.Testing.{all-join}
 use Rattle.journal_model.proofs.Working.{idle_shut, jobs_stay_closed}
 use Rattle.host_core.specs.declared.event.Event.TheVariants.{Claim as ClaimEvent}
 use Rattle.host_core.specs.declared.event.Reply.{Reply}
@@ -29,6 +29,9 @@ use Rattle.lone_work.proofs.Claiming.{claimed_all}
 use Rattle.lone_work.proofs.Working.{fewer_left}
 use Rattle.lone_rounds.specs.Rounds.{again_of, ends_for_memory, last_again, left_answer, or_unserved, unserved_answer}
 use Rattle.lone_rounds.specs.Stints.{AnswersLeft, AnswersOne, ClaimsZero, answered_so, main_entry}
+use Rattle.std.proofs.lemmas.Bool.{and_parts as both}
+use Rattle.ann_key.proofs.Numbers.{same_number as same}
+use Rattle.ann_key.proofs.Booleans.{or_false, or_true}
 
 -- ---- the claim
 

@@ -9,11 +9,10 @@ use Rattle.journal_model.specs.declared.entry.Entry.{Entry}
 use Rattle.journal_model.specs.declared.opening.Opening.{Opening}
 use Rattle.journal_model.specs.Journal.{any, is_open, is_started, starts}
 use Rattle.journal_model.specs.Legality.{Legal, both_conflict, has_open_job, is_busy, is_claimed, is_free, is_held_by, is_held_for, is_run_again, least_free, numbers_of, task_of, turn_of_task}
-use Rattle.journal_model.proofs.Holding.{claimed_append, holder_append, not_true}
+use Rattle.journal_model.proofs.Holding.{claimed_append, holder_append}
 use Rattle.journal_model.proofs.Idling.{claimed_positive}
-use Rattle.journal_model.proofs.Looks.{any-append, both, differ, entry, same}
-use Rattle.journal_model.proofs.Testing.{or_left, or_true}
-use Rattle.journal_model.proofs.Working.{find_holds, idle_shut, jobs_stay_closed}
+use Rattle.journal_model.proofs.Looks.{any-append, entry}
+use Rattle.journal_model.proofs.Working.{idle_shut, jobs_stay_closed}
 use Rattle.host_core.specs.declared.event.Event.TheVariants.{Claim as ClaimEvent, Answer as AnswerEvent}
 use Rattle.host_core.specs.declared.event.Reply.{Reply}
 use Rattle.host_core.specs.declared.event.Reply.TheVariants.{NoTask, Done}
@@ -21,10 +20,15 @@ use Rattle.journal_model.specs.declared.answer.Answer.{Answer}
 use Rattle.lone_work.specs.AtTasks.{AtTask}
 use Rattle.host_core.specs.Steps.{Step, step_of, claim, only, append, closing as closing_of, gone, is_gone, are_all_claimed}
 use Rattle.link_roles.specs.Doors.{Made, Stepped}
-use Rattle.lone_work.proofs.Serving.{idle_on, prepared_on}
+use Rattle.lone_work.proofs.Serving.{idle_on}
 use Rattle.task_run.specs.Askings.{closing}
 use Rattle.task_run.specs.declared.turn.TaskTurn.{TaskTurn}
 use Rattle.lone_work.specs.Works.{LoneBegun, CanWork, ClaimsNext, task_in}
+use Rattle.std.proofs.lemmas.Bool.{not-true as not_true, and_parts as both, ne_eqb as differ}
+use Rattle.ann_key.proofs.Numbers.{same_number as same}
+use Rattle.ann_key.proofs.Booleans.{or_left, or_true}
+use Rattle.ann_key.proofs.Lists.{found_so as find_holds}
+use Rattle.gathering.proofs.Laboring.{prepared_lasts as prepared_on}
 
 -- ---- tasks that are free
 

@@ -6,7 +6,7 @@ use Rattle.std.specs.declared.cmp.Ordering.{Ordering}
 use Rattle.std.specs.declared.cmp.Ordering.TheVariants.{Less, Equal, Greater}
 use Rattle.std.proofs.lemmas.Slice.Eq.{bytes_eq-Decides}
 use Rattle.std.proofs.lemmas.Option.{slice_get_within}
-use Rattle.std.proofs.lemmas.Bool.{eq-eqb}
+use Rattle.std.proofs.lemmas.Bool.{eq-eqb, and_parts as both, eqb-true as same_number}
 use Rattle.std.proofs.lemmas.List.Sums.{fold-append}
 use Rattle.chunk_log.specs.NoteBooks.{inserted, place_cmp, placed, is_no_later}
 use Rattle.chunk_log.specs.Current.{is_current, layouts_of, standing_of, in_rank, layout_of}
@@ -23,14 +23,17 @@ use Rattle.journal_model.specs.Journal.{any, each_of, is_live, is_mute}
 use Rattle.journal_model.specs.Due.{due_after}
 use Rattle.journal_model.specs.Legality.{Legal, claims, closes, is_busy, is_claimed, is_claimed_by, is_free, is_number, least_free, numbers_of, task_of, both_conflict, conflicts, clashes, share_name, holder, turned_by, may_come, may_note, has_open_job, is_prepared}
 use Rattle.journal_model.specs.Notes.{noted, note_of, with_notes, AreCurrentAt}
-use Rattle.journal_model.proofs.Looks.{entry, both, same, same_number, either_left, either_right, true_not_false, each_of-append}
+use Rattle.journal_model.proofs.Looks.{entry, each_of-append}
 use Rattle.journal_model.proofs.Holding.{claimed, closed, due_names, holder_append, unturned, held_busy}
-use Rattle.journal_model.proofs.Working.{find_holds, busy_stays, claim_busy}
+use Rattle.journal_model.proofs.Working.{busy_stays, claim_busy}
 use Rattle.journal_model.proofs.Growing.{Legal-induction}
 use Rattle.journal_model.proofs.Noting.{current_of_book}
 use Rattle.host_core.specs.Books.{notes_after}
 use Rattle.lone_work.specs.Noting.{by_noting}
 use Rattle.lone_work.specs.KnownLayouts.{known_layouts, layouts_at, BusyKeysDiffer, LayoutsStay, LayoutsSinceClaim}
+use Rattle.ann_key.proofs.Numbers.{same_number as same}
+use Rattle.ann_key.proofs.Booleans.{left_false as either_left, right_false as either_right, true_and_false as true_not_false}
+use Rattle.ann_key.proofs.Lists.{found_so as find_holds}
 
 -- ---- two busy tasks
 

@@ -13,12 +13,9 @@ use Rattle.journal_model.specs.declared.opening.Opening.{Opening}
 use Rattle.journal_model.specs.Journal.{any}
 use Rattle.journal_model.specs.Legality.{Legal, claims, closes, holder, is_claimed_by, task_of}
 use Rattle.journal_model.specs.Shares.{Moved, makes_only}
-use Rattle.journal_model.proofs.Looks.{either_right}
 use Rattle.journal_model.proofs.Holding.{held_busy}
-use Rattle.journal_model.proofs.Testing.{neither}
 use Rattle.journal_model.proofs.Unbounded.{Within, bounds, held_positive, none_by, unbounded}
 use Rattle.link_roles.specs.Asks.{never}
-use Rattle.link_roles.proofs.Roles.{others_make}
 use Rattle.host_core.specs.declared.event.Event.TheVariants.{Layouts as LayoutsEvent}
 use Rattle.host_core.specs.declared.event.Reply.{Reply}
 use Rattle.host_core.specs.Steps.{Step, step_of, layouts_for}
@@ -32,6 +29,8 @@ use Rattle.lone_work.proofs.Noted.{notings-append}
 use Rattle.lone_work.proofs.Pairs.{passed}
 use Rattle.lone_work.proofs.KeyNotes.{layouts_stay}
 use Rattle.lone_work.proofs.Serving.{at_asked}
+use Rattle.ann_key.proofs.Booleans.{or_neither as neither}
+use Rattle.journal_model.proofs.Testing.{only_others as others_make}
 
 -- what gives no notes notes nothing
 none_noted : (j : List Entry) (t : ℕ) (past : List Entry) (behind : ℕ) (xs : List Entry) → notings_from j t past behind xs ≡ [] → any (by_noting t) xs ≡ false

@@ -9,11 +9,14 @@ use Rattle.journal_model.specs.declared.entry.What.TheVariants.{Ask, Lost, Note}
 use Rattle.journal_model.specs.declared.entry.Entry.{Entry}
 use Rattle.journal_model.specs.Journal.{any, each_of, is_open, verdict_of, addressed}
 use Rattle.journal_model.specs.Legality.{job_for, has_open_job}
-use Rattle.journal_model.proofs.Looks.{entry, same, either_left, either_right}
+use Rattle.journal_model.proofs.Looks.{entry}
 use Rattle.journal_model.proofs.Working.{AllAsked, all_asked, kept_verdict}
 use Rattle.task_run.specs.Askers.{Asking, Noting}
 use Rattle.task_run.specs.Askings.{asking_of, askings_from, askings, noting_of, notings_from, name_before}
 use Rattle.lone_work.specs.AtTasks.{notings}
+use Rattle.ann_key.proofs.Lists.{cons_option-append}
+use Rattle.ann_key.proofs.Numbers.{same_number as same}
+use Rattle.ann_key.proofs.Booleans.{left_false as either_left, right_false as either_right}
 
 -- the entry notes something for task t
 abbrev pub notes_for : ℕ → What → Bool
@@ -65,10 +68,6 @@ askings_alike j k t past (e ∷ xs) h =
     ∙ ap (cons_option (asking_of k t past e.what)) (askings_alike j k t (past ++ e ∷ []) xs a.1)
 
 -- ---- along the list
-
-cons_option-append : {X : Type 0} (o : Option X) (xs ys : List X) → cons_option o xs ++ ys ≡ cons_option o (xs ++ ys)
-cons_option-append None xs ys = refl
-cons_option-append (Some x) xs ys = refl
 
 behind_so : {X : Type 0} (o : Option X) (behind : ℕ) (xs : List X) → (behind + length (cons_option o [])) + length xs ≡ behind + length (cons_option o xs)
 behind_so None behind xs = omega arith

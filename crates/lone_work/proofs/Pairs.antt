@@ -20,10 +20,9 @@ use Rattle.journal_model.specs.Makers.{is_of_task, is_taken_by}
 use Rattle.journal_model.specs.Shares.{are_own, makes_only, by_link}
 use Rattle.journal_model.proofs.Holding.{holder_append}
 use Rattle.journal_model.proofs.Idling.{claimed_positive}
-use Rattle.journal_model.proofs.Looks.{entry, same, each_of-append, settled_none}
+use Rattle.journal_model.proofs.Looks.{entry, each_of-append, settled_none}
 use Rattle.journal_model.proofs.Named.{same_addressed}
-use Rattle.journal_model.proofs.PartsGrow.{and_right}
-use Rattle.journal_model.proofs.Testing.{or_left, neither, by_either, all-split}
+use Rattle.journal_model.proofs.Testing.{by_either, all-split, only_others as others_make}
 use Rattle.journal_model.proofs.Working.{all_asked, closed_all, held_alone, holder_apart, jobs_stay_closed, no_jobs_in, settled_closed}
 use Rattle.journal_model.proofs.Unbounded.{held_positive, none_by}
 use Rattle.host_core.proofs.Wiring.{wired_text}
@@ -39,10 +38,12 @@ use Rattle.link_roles.specs.Doors.{Passed, Appended, Made}
 use Rattle.link_roles.specs.Events.{IsJob}
 use Rattle.link_roles.specs.Asks.{HasAsked, Grows, lost_as, never}
 use Rattle.link_roles.proofs.Linked.{any_narrower}
-use Rattle.link_roles.proofs.Roles.{moved_by, none_made, others_make}
+use Rattle.link_roles.proofs.Roles.{moved_by, none_made}
 use Rattle.lone_work.specs.AtTasks.{AtTask, SameTask, AsksNow, NotesNow, notings}
 use Rattle.lone_work.specs.Noting.{is_done, by_noting}
 use Rattle.lone_work.proofs.Noted.{notes_for, notings-unnoted, notings-note}
+use Rattle.ann_key.proofs.Numbers.{same_number as same}
+use Rattle.ann_key.proofs.Booleans.{and_last as and_right, or_neither as neither}
 
 -- ---- entries of a task
 
@@ -86,7 +87,7 @@ unsaid : (name : Option (List ℕ)) → said_with name None ≡ None
 unsaid None = refl
 unsaid (Some name) = refl
 
-verdict_settles : (past : List Entry) (c j : ℕ) (v : Verdict) → verdict_of past c j ≡ Some v → is_settled past c j ≡ true
+pub verdict_settles : (past : List Entry) (c j : ℕ) (v : Verdict) → verdict_of past c j ≡ Some v → is_settled past c j ≡ true
 verdict_settles past c j v h = by_either (is_settled past c j) (λ x. x) (λ f. absurd (none_some (sym (settled_none past c j f) ∙ h)))
   where
     none_some : None ≡ Some v → ⊥

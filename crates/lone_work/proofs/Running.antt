@@ -18,8 +18,7 @@ use Rattle.journal_model.specs.Legality.{Legal, has_open_job, holder, is_busy, j
 use Rattle.journal_model.specs.Notes.{AreCurrentAt}
 use Rattle.journal_model.specs.Shares.{are_by, makes_only}
 use Rattle.journal_model.proofs.Holding.{claimed, closed, holder_append}
-use Rattle.journal_model.proofs.Looks.{any-append, both, entry}
-use Rattle.journal_model.proofs.Testing.{or_left}
+use Rattle.journal_model.proofs.Looks.{any-append, entry}
 use Rattle.journal_model.proofs.Working.{jobs_stay_closed}
 use Rattle.task_run.specs.Askers.{Asking, Noting}
 use Rattle.task_run.specs.declared.setup.Setup.{Setup}
@@ -33,10 +32,13 @@ use Rattle.lone_work.specs.KnownLayouts.{known_layouts}
 use Rattle.lone_work.specs.Servings.{HasTurn, ServesOn, by_server}
 use Rattle.lone_work.proofs.KeyNotes.{layouts_since_claim}
 use Rattle.lone_work.proofs.Noted.{notes_for, notings-append, notings_from-append, notings_from-none, notings-unnoted}
-use Rattle.lone_work.proofs.Serving.{gives_none, held_on, idle_on, prepared_on, server_claims, server_closes}
+use Rattle.lone_work.proofs.Serving.{gives_none, held_on, idle_on, server_claims, server_closes}
 use Rattle.gathering.specs.JournalRuns.{JournalRun}
 use Rattle.gathering.proofs.Lasting.{run_shut}
 use Rattle.lone_work.specs.Works.{LoneBegun, CanWork, DeskTells, LoneDoes, RanFor}
+use Rattle.std.proofs.lemmas.Bool.{and_parts as both}
+use Rattle.ann_key.proofs.Booleans.{or_left}
+use Rattle.gathering.proofs.Laboring.{prepared_lasts as prepared_on}
 
 -- ---- entries of a task
 

@@ -3,7 +3,6 @@ use Rattle.std.proofs.Common.{◌≡◌, ℕ, ◌<◌, ◌≤◌, List, [], ◌�
 use Rattle.std.specs.Prelude.{◌&&◌, ◌||◌, nat_lt, filter, Result, Ok, Err}
 use Rattle.ann_key.specs.declared.bytes.NoMemory.{NoMemory}
 use Rattle.std.specs.List.{cons_option, list_all}
-use Rattle.std.specs.Option.{option_or}
 use Rattle.std.proofs.lemmas.Bool.Decides.{nat_tests}
 use Rattle.std.proofs.lemmas.List.{append_cancel_left}
 use Rattle.std.proofs.lemmas.List.Elements.{filter-append}
@@ -22,9 +21,8 @@ use Rattle.journal_model.specs.Halves.{EarValue, MouthValue}
 use Rattle.link_roles.specs.Writings.{LoneWired}
 use Rattle.journal_model.proofs.Holding.{claimed, closed, holder_append, unturned}
 use Rattle.journal_model.proofs.Unbounded.{Within}
-use Rattle.journal_model.proofs.Looks.{both, same, differ, any-append, each_of-append, is_asked, settled_none, verdict_of-append}
+use Rattle.journal_model.proofs.Looks.{any-append, each_of-append, is_asked}
 use Rattle.journal_model.proofs.Projecting.{invariant}
-use Rattle.journal_model.proofs.Testing.{or_left}
 use Rattle.journal_model.proofs.Verdicts.{unasked_none}
 use Rattle.host_core.specs.Steps.{asking, is_named_well, may_request, next_job}
 use Rattle.journal_model.specs.Due.{made_by}
@@ -37,6 +35,11 @@ use Rattle.link_roles.proofs.Roles.{moved_both, moved_by, moved_wider, none_made
 use Rattle.lone_work.specs.AtTasks.{AtTask, AskedFor, NotedFor}
 use Rattle.lone_work.specs.Noting.{by_noting}
 use Rattle.lone_work.specs.Servings.{HasTurn, Serves, ServesOn, by_server, is_said_in_text, names_text}
+use Rattle.lone_work.proofs.Pairs.{verdict_settles as verdict_settled}
+use Rattle.gathering.proofs.Laboring.{prepared_lasts as prepared_on}
+use Rattle.link_roles.proofs.Solo.{still_alone as none_passed, link_asks_none as link_asks}
+use Rattle.std.proofs.lemmas.Bool.{and_parts as both, ne_eqb as differ}
+use Rattle.ann_key.proofs.Numbers.{same_number as same}
 
 -- ---- the kinds
 
@@ -84,10 +87,6 @@ noting_within t = record { unclaimed = λ w h. unclaiming 0 t t w (note_serves 0
 pub never_within : (t : ℕ) → Within never t
 never_within t = record { unclaimed = λ w h. absurd cc; unclosed = λ w h. absurd cc }
 
-link_asks : (c : ℕ) (w : What) → by_link c w ≡ true → asks c w ≡ None
-link_asks c (Ask child job task line) h = absurd cc
-link_asks c w h = refl
-
 -- a role that is alone, and makes nothing that gives an X, gives none
 pub gives_none : {X : Type 0} (makes : What → Bool) (f : What → Option X) → ((w : What) → makes w ≡ true → f w ≡ None)
     → (n : ℕ) (more : List Entry) → makes_only makes n more ≡ true → are_by n more ≡ true → each_of f more ≡ []
@@ -126,22 +125,6 @@ module _ {n : ℕ} {a : Bool} {old new : List Entry} where
 
 -- ---- what stays
 
-pub prepared_on : (past more : List Entry) (c : ℕ) → is_prepared past c ≡ true → is_prepared (past ++ more) c ≡ true
-prepared_on past more c h = rw (done, asked) refl
-  where
-    s : (is_done (verdict_of past c 1) ≡ true) × (any (prepares c) past ≡ true)
-    s = both (is_done (verdict_of past c 1)) (any (prepares c) past) h
-
-    go : (v : Option Verdict) → is_done v ≡ true → is_done (option_or v (verdict_of more c 1)) ≡ true
-    go None h = absurd cc
-    go (Some v) h = h
-
-    done : is_done (verdict_of (past ++ more) c 1) ≡ true
-    done = ap is_done (verdict_of-append c 1 past more) ∙ go (verdict_of past c 1) s.0
-
-    asked : any (prepares c) (past ++ more) ≡ true
-    asked = any-append (prepares c) past more ∙ or_left (any (prepares c) past) (any (prepares c) more) s.1
-
 -- who holds the task stays, where it is neither claimed nor closed
 pub held_on : (past more : List Entry) (t : ℕ) → each_of claimed more ≡ [] → each_of closed more ≡ [] → holder (past ++ more) t ≡ holder past t
 held_on past more t c a = holder_append past more t ∙ unturned t (holder past t) more c a
@@ -167,13 +150,6 @@ idle_on old more c none idle =
     (each_of-append (asks c) old more ∙ ap (λ (ks : List ℕ). asked_jobs old c ++ ks) none ∙ append-nil (asked_jobs old c))
     ∙ none_left old (old ++ more) c (asked_jobs old c) (λ k. settled_on old more c k) idle
 
-verdict_settled : (past : List Entry) (c k : ℕ) (v : Verdict) → verdict_of past c k ≡ Some v → is_settled past c k ≡ true
-verdict_settled past c k v h = go (is_settled past c k) refl
-  where
-    go : (b : Bool) → is_settled past c k ≡ b → is_settled past c k ≡ true
-    go true e = e
-    go false e = absurd (let bad : None ≡ Some v = sym (settled_none past c k e) ∙ h in cc)
-
 -- and after one request that was settled
 idle_settled : (old one more new : List Entry) (c job : ℕ) (v : Verdict) → new ≡ (old ++ one) ++ more → asked_jobs one c ≡ job ∷ []
     → asked_jobs more c ≡ [] → verdict_of new c job ≡ Some v → open_jobs old c ≡ [] → open_jobs new c ≡ []
@@ -198,10 +174,6 @@ idle_settled old one more new c job v is here_job none settled idle =
     last = rw (verdict_settled new c job v settled) refl
 
 -- ---- the child's turn
-
--- others that made nothing leave what was seen
-none_passed : {n : ℕ} {a : Bool} {x y : List Entry} → a ≡ true → Passed n a x y → y ≡ x
-none_passed {x = x} lone s = s.is ∙ ap (λ (l : List Entry). x ++ l) (s.none lone) ∙ append-nil x
 
 note_asks : (c t : ℕ) (w : What) → by_noting t w ≡ true → asks c w ≡ None
 note_asks c t (Note task chunk count) h = refl
@@ -332,7 +304,7 @@ pub never_notes : {n : ℕ} {a : Bool} {old new : List Entry} (t : ℕ) → Grow
 never_notes t s = moved_wider (λ w h. absurd cc) (λ w k. k) s (λ own k. k)
 
 -- what is of a kind is of a wider one
-wider : (p q : What → Bool) → ((w : What) → p w ≡ true → q w ≡ true) → (n : ℕ) (xs : List Entry) → makes_only p n xs ≡ true → makes_only q n xs ≡ true
+pub wider : (p q : What → Bool) → ((w : What) → p w ≡ true → q w ≡ true) → (n : ℕ) (xs : List Entry) → makes_only p n xs ≡ true → makes_only q n xs ≡ true
 wider p q f n [] h = refl
 wider p q f n (e ∷ xs) h =
     let s = both (not (e.by == n) || p e.what) (makes_only p n xs) h in

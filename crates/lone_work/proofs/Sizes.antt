@@ -21,11 +21,12 @@ use Rattle.journal_model.specs.Legality.{Legal, has_open_job, is_claimed_by, may
 use Rattle.journal_model.specs.Notes.{noted, note_of, with_notes}
 use Rattle.journal_model.proofs.Growing.{Legal-induction}
 use Rattle.journal_model.proofs.Holding.{due_names}
-use Rattle.journal_model.proofs.Looks.{both, each_of-append}
+use Rattle.journal_model.proofs.Looks.{each_of-append}
 use Rattle.journal_model.proofs.Testing.{all-join}
 use Rattle.host_core.specs.Books.{notes_after}
 use Rattle.task_run.specs.Askers.{are_layouts}
 use Rattle.lone_work.specs.KnownLayouts.{is_sized, known_layouts, layouts_at}
+use Rattle.std.proofs.lemmas.Bool.{and_parts as both}
 
 -- ---- a number that isn't 0
 

@@ -11,7 +11,7 @@ use Rattle.journal_model.specs.declared.opening.Opening.{Opening}
 use Rattle.journal_model.specs.Halves.{EarValue, MouthValue}
 use Rattle.link_roles.specs.Writings.{LoneWired}
 use Rattle.journal_model.specs.Legality.{Legal, is_free, least_free, task_of}
-use Rattle.journal_model.proofs.Looks.{differ, entry}
+use Rattle.journal_model.proofs.Looks.{entry}
 use Rattle.journal_model.specs.Journal.{any}
 use Rattle.journal_model.specs.Room.{claims_left}
 use Rattle.task_run.specs.declared.setup.Setup.{Setup}
@@ -31,6 +31,7 @@ use Rattle.lone_work.proofs.Claiming.{found_between}
 use Rattle.lone_work.proofs.Running.{does, again as again_can}
 use Rattle.gathering.specs.Tasks.{IsThrough}
 use Rattle.lone_work.proofs.Working.{worked_both, worked_one, worked_still, fewer_left}
+use Rattle.std.proofs.lemmas.Bool.{ne_eqb as differ}
 
 -- ---- the tasks
 

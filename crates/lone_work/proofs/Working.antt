@@ -15,8 +15,8 @@ use Rattle.journal_model.specs.Makers.{is_taken_by}
 use Rattle.journal_model.specs.Room.{claims_left}
 use Rattle.journal_model.specs.Shares.{are_by, by_link, makes_only}
 use Rattle.journal_model.proofs.ClaimsLeft.{claims_left_less}
-use Rattle.journal_model.proofs.Looks.{both, either_left, either_right, entry, same, same_number}
-use Rattle.journal_model.proofs.Testing.{all-join, neither}
+use Rattle.journal_model.proofs.Looks.{entry}
+use Rattle.journal_model.proofs.Testing.{all-join}
 use Rattle.task_run.specs.declared.setup.Setup.{Setup}
 use Rattle.task_run.specs.declared.turn.TaskTurn.{TaskTurn}
 use Rattle.task_run.specs.Askings.{closing}
@@ -26,6 +26,9 @@ use Rattle.gathering.specs.Tasks.{claimed_turn, turns_by}
 use Rattle.gathering.proofs.Lasting.{run_stays}
 use Rattle.gathering.proofs.Turning.{turns_by-append}
 use Rattle.lone_work.specs.Works.{AllRan, CausedInTurn, DeskTells, LoneDoes, RanFor, TaskDone, Worked, all_calls, by_worker, ends_closed, is_closing, turns_of}
+use Rattle.std.proofs.lemmas.Bool.{and_parts as both, eqb-true as same_number}
+use Rattle.ann_key.proofs.Booleans.{left_false as either_left, right_false as either_right, or_neither as neither}
+use Rattle.ann_key.proofs.Numbers.{same_number as same}
 
 -- ---- lists
 
@@ -166,7 +169,7 @@ all_made makes p wide n (e ∷ more) own by =
     go true i h = h
     go false i h = absurd cc
 
-server_claims_none : (c t : ℕ) (past : List Entry) (w : What) → by_server c t w ≡ true → claimed_turn past w ≡ None
+pub server_claims_none : (c t : ℕ) (past : List Entry) (w : What) → by_server c t w ≡ true → claimed_turn past w ≡ None
 server_claims_none c t past (Claim task child) h = absurd cc
 server_claims_none c t past w h = refl
 
@@ -178,7 +181,7 @@ closing_closes : (renewed : Bool) (t : ℕ) (answer : Answer) → is_closing (cl
 closing_closes true t answer = refl
 closing_closes false t answer = refl
 
-closing_claims : (past : List Entry) (renewed : Bool) (t : ℕ) (answer : Answer) → claimed_turn past (closing renewed t answer) ≡ None
+pub closing_claims : (past : List Entry) (renewed : Bool) (t : ℕ) (answer : Answer) → claimed_turn past (closing renewed t answer) ≡ None
 closing_claims past true t answer = refl
 closing_claims past false t answer = refl
 

@@ -4,13 +4,13 @@ use Rattle.std.specs.Prelude.{if◌then◌else◌, codes, Result, Ok, Err, IfOk}
 use Rattle.ann_key.specs.declared.bytes.NoMemory.{NoMemory}
 use Rattle.annex_model.specs.Messages.{HostMessage}
 use Rattle.journal_model.specs.declared.verdict.Verdict.{Verdict}
-use Rattle.journal_model.proofs.Looks.{same_number}
 use Rattle.kit_core.specs.declared.call.Said.{Said}
 use Rattle.kit_core.specs.declared.call.Said.TheVariants.{Yes, No}
 use Rattle.mirror_children.specs.Children.{ChildValue}
 use Rattle.mirror_children.specs.Asking.{AskedTo}
 use Rattle.mirror_children.specs.Rule.{all_said, check_said, failure, is_absent, is_done, last_refusal, refusal, retrieve_said, Answers, AnswersOver, Rules, RulesAll, RulesCheck, RulesRetrieve}
 use Rattle.mirror_children.proofs.Fronts.{answers_all, answers_any, answers_check, refused_by}
+use Rattle.std.proofs.lemmas.Bool.{eqb-true as same_number}
 
 -- a mirror without children
 pub none_rules : (goes : Verdict → Bool) (q : HostMessage) (says : List ChildValue → List Verdict → Said) (cs : List ChildValue) (r : Result Said NoMemory) → length cs ≡ 0

@@ -8,7 +8,6 @@ use Rattle.journal_model.specs.declared.verdict.Verdict.{Verdict}
 use Rattle.journal_model.specs.declared.verdict.Verdict.TheVariants.{Absent}
 use Rattle.journal_model.specs.declared.opening.Opening.{Opening}
 use Rattle.journal_model.specs.declared.entry.Entry.{Entry}
-use Rattle.journal_model.proofs.Looks.{both, same, same_number}
 use Rattle.journal_model.specs.Due.{replies_at}
 use Rattle.journal_model.specs.Parts.{part}
 use Rattle.journal_model.specs.Projection.{Ends, final_in}
@@ -19,6 +18,8 @@ use Rattle.kit_core.specs.declared.call.Said.TheVariants.{Yes, No}
 use Rattle.mirror_children.specs.Children.{ChildValue, AreServing, IsServing}
 use Rattle.mirror_children.specs.Asking.{AskedTo, AsksAt, AsksEach, LeavesAt}
 use Rattle.mirror_children.specs.Rule.{all_said, check_said, failure, is_absent, is_done, is_enough, is_starved, last_refusal, refusal, retrieve_said, Answers, AreAsBefore, AsksFront, GoesOn, IsAsBefore, IsAsked}
+use Rattle.std.proofs.lemmas.Bool.{and_parts as both, eqb-true as same_number}
+use Rattle.ann_key.proofs.Numbers.{same_number as same}
 
 -- ---- children as before
 

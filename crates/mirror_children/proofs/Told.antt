@@ -21,7 +21,6 @@ use Rattle.journal_model.specs.Legality.{Legal}
 use Rattle.journal_model.specs.Parts.{part, part_from}
 use Rattle.journal_model.specs.Projection.{Ends, Fits, FitsFinal, PartFits, final_in}
 use Rattle.journal_model.specs.Shares.{by_asker}
-use Rattle.journal_model.proofs.Looks.{both, same}
 use Rattle.journal_model.proofs.PartsGrow.{part_from-append}
 use Rattle.journal_model.proofs.Projecting.{asked_parts, invariant, parts_fit}
 use Rattle.host_core.specs.Steps.{next_job}
@@ -29,6 +28,9 @@ use Rattle.link_roles.specs.Alone.{AskedAlone, IsSettled}
 use Rattle.link_roles.specs.Asks.{lost_as}
 use Rattle.mirror_children.specs.Children.{ChildValue, IsLinked}
 use Rattle.mirror_children.specs.Rule.{IsTold}
+use Rattle.std.proofs.lemmas.Option.{same_Some as same_some}
+use Rattle.std.proofs.lemmas.Bool.{and_parts as both}
+use Rattle.ann_key.proofs.Numbers.{same_number as same}
 
 -- ---- the child takes no tags
 
@@ -55,9 +57,6 @@ wired_so past j message none = rw none refl
 by_fit : (replies : ℕ → List (List ℕ)) (q : HostMessage) (p : List Item) (f : Option (Final × ℕ)) → FitsFinal replies q p f → IfSome f (λ x. Ends replies q p x.0 x.1)
 by_fit replies q p None h = tt
 by_fit replies q p (Some f) h = h
-
-same_some : {A : Type 0} (x y : A) → Some x ≡ Some y → x ≡ y
-same_some x y e = cc
 
 by_part : (replies : ℕ → List (List ℕ)) (q : HostMessage) (p : List Item) (v : Verdict) → request_in p ≡ Some q → Fits replies p (Some v) → IfSome (final_in v) (λ x. Ends replies q p x.0 x.1)
 by_part replies q [] v first f = absurd cc

@@ -1,6 +1,6 @@
 -- The calls that ask the children, as the mirror is seen.
-use Rattle.std.proofs.Common.{◌≡◌, ◌∙◌, ℕ, List, [], refl, sym, ap, subst, Bool, true, not}
-use Rattle.std.specs.Prelude.{◌&&◌, IsTrue, Result, Ok, Err}
+use Rattle.std.proofs.Common.{◌≡◌, ◌∙◌, ℕ, List, [], sym, ap, subst, Bool, true, not}
+use Rattle.std.specs.Prelude.{IsTrue, Result, Ok, Err}
 use Rattle.std.specs.Str.{IsUtf8, is_utf8}
 use Rattle.std.proofs.lemmas.Str.{is_utf8-from_IsUtf8}
 use Rattle.ann_key.specs.declared.bytes.NoMemory.{NoMemory}
@@ -13,11 +13,9 @@ use Rattle.mirror_children.specs.Children.{ChildValue}
 use Rattle.mirror_children.specs.Rule.{AreAsBefore, Rules, is_mirrored}
 use Rattle.mirror_starts.specs.Outcomes.{MirrorValue}
 use Rattle.mirror_children.proofs.Fronts.{before_refl}
+use Rattle.std.proofs.lemmas.Bool.{and_from as both_true}
 
 -- ---- the request
-
-both_true : (a b : Bool) → a ≡ true → b ≡ true → (a && b) ≡ true
-both_true a b x y = rw (x, y) refl
 
 -- of the key and the file that were passed
 pub transfer_same : (store : Bool) (key file k f : List ℕ) → k ≡ key → f ≡ file → Transfer store k f ≡ Transfer store key file

@@ -5,7 +5,6 @@ use Rattle.ann_key.specs.declared.bytes.NoMemory.{NoMemory}
 use Rattle.std.specs.List.{list_all, list_any}
 use Rattle.annex_model.specs.Messages.{HostMessage, Transfer, Checkpresent, Remove}
 use Rattle.journal_model.specs.declared.verdict.Verdict.{Verdict}
-use Rattle.journal_model.proofs.Looks.{both, same_number}
 use Rattle.kit_core.specs.declared.call.Said.{Said}
 use Rattle.kit_core.specs.declared.call.Said.TheVariants.{Yes, No, Failure}
 use Rattle.kit_core.specs.declared.call.Asked.{Asked}
@@ -17,6 +16,7 @@ use Rattle.mirror_children.specs.Rule.{all_said, check_said, failure, retrieve_s
 use Rattle.mirror_remote.specs.Mirrors.{BeginsTo, PreparesTo}
 use Rattle.mirror_starts.specs.Outcomes.{MirrorValue}
 use Rattle.mirror_remote.specs.Sessions.{is_prepare, is_prepared_after, prepared_by, AllDid, AreCalls, Called, IsFresh, Keeps}
+use Rattle.std.proofs.lemmas.Bool.{and_parts as both, eqb-true as same_number}
 
 -- a refusal is no Yes
 refused : {A : Type 0} (cs : List ChildValue) (vs : List Verdict) → last_refusal cs vs ≡ Yes → A

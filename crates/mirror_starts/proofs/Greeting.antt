@@ -7,7 +7,6 @@ use Rattle.journal_model.specs.declared.entry.What.TheVariants.{NoStart, Lead, A
 use Rattle.journal_model.specs.declared.entry.Entry.{Entry}
 use Rattle.journal_model.specs.Legality.{Legal}
 use Rattle.journal_model.specs.Shares.{by_asker}
-use Rattle.journal_model.proofs.Looks.{both}
 use Rattle.link_roles.specs.Writings.{LoneWired}
 use Rattle.child_start.specs.declared.greeting.Mode.TheVariants.{Serve}
 use Rattle.child_start.specs.Greetings.{Greeted, IsReady, is_greeting_line_for, is_of_greeting_for}
@@ -15,6 +14,7 @@ use Rattle.child_end.specs.Wires.{came}
 use Rattle.mirror_children.specs.Children.{ChildValue, IsLinked, IsServing}
 use Rattle.mirror_starts.specs.Stops.{IsUnwired, LogValue}
 use Rattle.mirror_starts.proofs.Stopping.{sound}
+use Rattle.std.proofs.lemmas.Bool.{and_parts as both}
 
 greeting_asks : (w : What) → is_of_greeting_for Serve 1 w ≡ true → by_asker 1 w ≡ true
 greeting_asks (Ask child job task line) h = (both (child == 1) (task == 0 && is_greeting_line_for Serve job line) h).0

@@ -13,13 +13,14 @@ use Rattle.journal_model.specs.Wires.{Wired, Caused, is_heard_in_turn}
 use Rattle.journal_model.specs.Halves.{EarValue, MouthValue}
 use Rattle.journal_model.specs.Shares.{by_asker}
 use Rattle.journal_model.proofs.Ears.{halves_wire}
-use Rattle.journal_model.proofs.Looks.{both, each_of-append}
+use Rattle.journal_model.proofs.Looks.{each_of-append}
 use Rattle.journal_model.proofs.Projecting.{parts_fit}
 use Rattle.link_roles.specs.Alone.{Closes}
 use Rattle.link_roles.specs.Writings.{LoneWired, is_written_first}
 use Rattle.child_end.specs.Wires.{WireValue, AreWires, IsLeft, IsOfStart, IsWire, came, came_in, is_served_alone}
 use Rattle.mirror_children.specs.Children.{ChildValue, AreLinked, AreServing, IsLinked}
 use Rattle.mirror_starts.specs.Stops.{LogValue, StoppedValue, AreSoundChildren, AreSoundLogs, AreWired, IsSound, IsUnwired, Stops, StopsAll}
+use Rattle.std.proofs.lemmas.Bool.{and_parts as both}
 
 -- ---- what a list of entries of one child doesn't say
 

@@ -24,7 +24,7 @@ use Rattle.journal_model.specs.Room.{is_ask}
 use Rattle.journal_model.specs.Due.{replies_said, replying, due_by_got, due_after, made_by}
 use Rattle.journal_model.specs.Legality.{Legal, may_come, may_ask, may_lead, is_in_turn, asks_in_turn, says_name, suits_child}
 use Rattle.journal_model.proofs.Growing.{Legal-induction, none_asks, due_none_asks, no_request}
-use Rattle.journal_model.proofs.Looks.{entry, both, same_number, true_not_false, either_left, either_right, each_of-append, first_of-append, or_none}
+use Rattle.journal_model.proofs.Looks.{entry, each_of-append, first_of-append, or_none}
 use Rattle.journal_model.proofs.Soft.{got_cases}
 use Rattle.journal_model.proofs.Testing.{by_either}
 use Rattle.journal_model.proofs.Turns.{tagged_on}
@@ -33,6 +33,8 @@ use Rattle.pair_world.specs.Paces.{written_lines}
 use Rattle.pair_world.proofs.PaceRequests.{turn_asks}
 use Rattle.pair_world.proofs.PaceAsks.{untagged_line}
 use Rattle.pair_world.proofs.AnswerKits.{asks_by, is_request, requests, requests-append}
+use Rattle.std.proofs.lemmas.Bool.{and_parts as both, eqb-true as same_number}
+use Rattle.ann_key.proofs.Booleans.{true_and_false as true_not_false, left_false as either_left, right_false as either_right}
 
 -- the lines that ask jobs of the child
 abbrev pub ask_line : ℕ → What → Option (List ℕ)

@@ -8,7 +8,6 @@ use Rattle.std.proofs.lemmas.List.Elements.{filter-append}
 use Rattle.std.proofs.lemmas.List.Folds.{list_all-append}
 use Rattle.annex_model.specs.Messages.{Getconfig, remote_line}
 use Rattle.annex_model.specs.Messages.{HostMessage, Prepare, Initremote, Transfer, Checkpresent, Remove, Export, Value, Creds, HostError, host_reading}
-use Rattle.journal_model.proofs.Looks.{both, either_left, true_not_false}
 use Rattle.kit_core.specs.declared.call.Call.{Call}
 use Rattle.kit_core.specs.Kits.{Heard, messages, is_value, is_error, is_readying, request_of, values_of, next_setting, awaits_value, is_unexpected, ends_kit, is_over, is_prepared, final_line, Due, Silence, Line, Asks, refusal, transfer_asked, readying, work_due, expected_due, live_due, due_of, said_by, IsAskedBy, lines_to, IsServed}
 use Rattle.kit_core.specs.Stages.{stage_of, is_free}
@@ -24,6 +23,8 @@ use Rattle.pair_world.proofs.PaceRequests.{is_asking}
 use Rattle.pair_world.proofs.PaceSaid.{served_front}
 use Rattle.pair_world.proofs.PaceTexts.{heads}
 use Rattle.pair_world.proofs.AnswerNotes.{answers_push, request_push}
+use Rattle.ann_key.proofs.Booleans.{and_false, left_false as either_left, true_and_false as true_not_false}
+use Rattle.std.proofs.lemmas.Bool.{and_parts as both}
 
 -- ---- what a message is to the requests
 
@@ -93,10 +94,6 @@ no_second n = let e : n + 1 ≡ suc n = omega arith in ap (slice_get settings) e
 
 values_full : (values : List (List ℕ)) (value : List ℕ) → slice_get settings (length (values ++ value ∷ [])) ≡ None
 values_full values value = ap (slice_get settings) (length-append values (value ∷ [])) ∙ no_second (length values)
-
-and_false : (b : Bool) → (b && false) ≡ false
-and_false true = refl
-and_false false = refl
 
 answers_now : (m : HostMessage) (after : Bool) (due : Due) (request : Option HostMessage) (call : Option Call) → is_value m ≡ false → is_asking m ≡ true → after ≡ false
     → is_answering due ≡ true → IsAskedBy due call → Comes m false after (map remote_line (said_by due request call))

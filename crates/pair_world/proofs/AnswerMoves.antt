@@ -20,8 +20,8 @@ use Rattle.journal_model.specs.declared.opening.Opening.{Opening}
 use Rattle.journal_model.specs.Journal.{each_of, first_of, open_jobs, is_open, is_settled, is_started, is_ended, is_live, is_full, is_tagged, unsent, got_lines, got_line, line_at, verdict_of, addressed}
 use Rattle.journal_model.specs.Due.{due_after}
 use Rattle.journal_model.specs.Legality.{is_empty}
-use Rattle.journal_model.proofs.Looks.{entry, same, same_number, true_not_false, each_of-append, first_of-append, verdict_of-append}
-use Rattle.journal_model.proofs.Replying.{slice_get-left, slice_get-here}
+use Rattle.journal_model.proofs.Looks.{entry, each_of-append, first_of-append, verdict_of-append}
+use Rattle.journal_model.proofs.Replying.{slice_get-left}
 use Rattle.kit_core.specs.Kits.{is_over}
 use Rattle.host_core.specs.declared.event.Event.{Event}
 use Rattle.host_core.specs.declared.event.Event.TheVariants.{Got as GotEvent, Stop as StopEvent, Sent as SentEvent}
@@ -40,7 +40,6 @@ use Rattle.pair_world.specs.Worlds.{WorldValue, IsLinked, AreLinked}
 use Rattle.pair_world.specs.Moves.{Moves, is_barred, is_odd, is_unended, DoesEvent, DoesWrite, DoesToKit, DoesToHost, DoesWork, DoesHear, DoesEnd, reply_to, is_amiss, is_silent, is_long, heard_event}
 use Rattle.pair_world.specs.Paces.{IsSilent, IsIdle, IsBusy, KeepsStep, AreInStep}
 use Rattle.pair_world.specs.Answered.{line_for, request_of, answers_of, request_taken, answers_to, shown, IsAnsweredBy, AreAnswered, AreNoted}
-use Rattle.pair_world.proofs.Lines.{first_false, second_false}
 use Rattle.pair_world.proofs.Journals.{Grows, Starts, Stays, grows_event, quiet_stop}
 use Rattle.pair_world.proofs.Linking.{there, not_silent}
 use Rattle.pair_world.proofs.PaceAsks.{untagged_line}
@@ -49,6 +48,10 @@ use Rattle.pair_world.proofs.AnswerNotes.{by_made}
 use Rattle.pair_world.proofs.AnswerKits.{AreExpected, IsAnswer, last_answer, asking_line, requests, firsts}
 use Rattle.pair_world.proofs.AnswerAsks.{ask_lines, asks_counted, asks_placed, asks_written}
 use Rattle.pair_world.proofs.AnswerVerdicts.{Settling, step_settles, places_within}
+use Rattle.ann_key.proofs.Numbers.{same_number as same}
+use Rattle.std.proofs.lemmas.Bool.{eqb-true as same_number}
+use Rattle.ann_key.proofs.Booleans.{true_and_false as true_not_false, left_false as first_false, right_false as second_false}
+use Rattle.ann_key.proofs.Lists.{get_after as slice_get-here}
 
 -- ---- what stays
 

@@ -9,7 +9,6 @@ use Rattle.annex_model.specs.Messages.{HostMessage, host_reading}
 use Rattle.wire_line.specs.HeldBytes.{first_line}
 use Rattle.journal_model.specs.Journal.{is_ended, unsent}
 use Rattle.journal_model.specs.Legality.{is_empty}
-use Rattle.journal_model.proofs.Looks.{same, same_number, true_not_false}
 use Rattle.journal_model.proofs.Testing.{by_either}
 use Rattle.kit_core.specs.declared.call.Asked.{Asked}
 use Rattle.kit_core.specs.declared.kit.Stage.{Stage}
@@ -30,8 +29,10 @@ use Rattle.pair_world.specs.Works.{call_for, is_waiting, next_message, request_w
 use Rattle.pair_world.specs.Worlds.{WorldValue, AreLinked}
 use Rattle.pair_world.specs.Moves.{Moves, IsMade, is_barred, is_odd, is_unended, DoesEvent, DoesWrite, DoesToKit, DoesToHost, DoesTake, DoesWork, DoesHear, DoesEnd, reply_to, begun_by, line_of, is_amiss, is_silent, left_at}
 use Rattle.pair_world.specs.Answered.{answers_of, request_by, request_after, request_taken, noted, answer_with, answers_behind, answers_to, shown, IsNoted, AreNoted}
-use Rattle.pair_world.proofs.Lines.{first_false, second_false}
 use Rattle.pair_world.proofs.Linking.{child_low, set_same, set_other, there, none_amiss, none_unsent, message_reads}
+use Rattle.ann_key.proofs.Numbers.{same_number as same}
+use Rattle.std.proofs.lemmas.Bool.{eqb-true as same_number}
+use Rattle.ann_key.proofs.Booleans.{true_and_false as true_not_false, left_false as first_false, right_false as second_false}
 
 -- ---- one line more
 

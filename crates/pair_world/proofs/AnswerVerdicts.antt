@@ -22,11 +22,12 @@ use Rattle.journal_model.specs.Parts.{part}
 use Rattle.journal_model.specs.Due.{verdict_at, ending, foul, replies, replying, due_by_got, due_after, after_hearing, after_late, after_message, after_line, is_passed, is_error, is_version_one, made_by}
 use Rattle.journal_model.specs.Legality.{Legal, may_come}
 use Rattle.journal_model.proofs.Growing.{Legal-induction, pair}
-use Rattle.journal_model.proofs.Looks.{entry, same_number, verdict_of-append, settled_all, verdicts_one}
+use Rattle.journal_model.proofs.Looks.{entry, verdict_of-append, settled_all, verdicts_one}
 use Rattle.host_core.specs.declared.event.Event.{Event}
 use Rattle.host_core.specs.Steps.{Step, step_of, group_of}
 use Rattle.host_core.proofs.Stepping.{Came, step_came, plain_may}
 use Rattle.pair_world.specs.Answered.{place_in}
+use Rattle.std.proofs.lemmas.Bool.{eqb-true as same_number}
 
 -- The line is the next, and it settles the child's open job by a message that is no aside.
 pub record Says (past : List Entry) (child : ℕ) (line : List ℕ) (c j at : ℕ) : Type 0 where

@@ -20,7 +20,7 @@ use Rattle.journal_model.specs.Journal.{each_of, writes, is_started, is_ended, i
 use Rattle.journal_model.specs.Legality.{is_empty, count, is_start, is_claimed_by, is_run_again, is_prepared, least_free, task_of, turn_of_task}
 use Rattle.journal_model.specs.Due.{due_by, due_by_got, made_by}
 use Rattle.journal_model.specs.Wires.{sent_lines}
-use Rattle.journal_model.proofs.Looks.{same, each_of-append}
+use Rattle.journal_model.proofs.Looks.{each_of-append}
 use Rattle.journal_model.proofs.Soft.{is_soft, soft_verdicts, soft_got, soft_stretch}
 use Rattle.journal_model.proofs.Linking.{sent_count, sent_count-append, got_more}
 use Rattle.journal_model.proofs.Mouths.{lines_same, covered_more}
@@ -34,6 +34,7 @@ use Rattle.host_core.specs.Steps.{Step, step_of, group_of, append, odd, only, go
 use Rattle.pair_world.specs.Pairs.{PairValue, new_pair}
 use Rattle.pair_world.specs.Worlds.{IsFed, IsRead}
 use Rattle.pair_world.specs.Moves.{begun_by, is_barred, is_odd}
+use Rattle.ann_key.proofs.Numbers.{same_number as same}
 
 -- ---- stretches that neither hear nor cover
 

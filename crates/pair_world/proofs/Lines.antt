@@ -1,19 +1,11 @@
 -- The first line of bytes.
-use Rattle.std.proofs.Common.{ℕ, ◌≡◌, ◌+◌, ◌<◌, suc, Bool, true, false, not, cond, List, [], ◌∷◌, ◌++◌, length, take, get_or, refl, sym, ap, ◌∙◌, arith, append_assoc}
+use Rattle.std.proofs.Common.{ℕ, ◌≡◌, ◌+◌, ◌<◌, Bool, true, false, not, cond, List, [], ◌∷◌, ◌++◌, length, take, get_or, refl, sym, ap, ◌∙◌, arith, append_assoc}
 use Rattle.std.specs.Prelude.{◌||◌, ◌==◌}
 use Rattle.std.proofs.lemmas.List.{take_all, take_more}
 use Rattle.annex_model.specs.Lines.{has_newline, text}
 use Rattle.wire_line.specs.HeldBytes.{first_line, after_line}
 use Rattle.wire_line.proofs.Firsts.{end_of, split_line}
 use Rattle.journal_model.proofs.Linking.{text-append}
-
-pub first_false : (a b : Bool) → (a || b) ≡ false → a ≡ false
-first_false true b e = cc
-first_false false b e = refl
-
-pub second_false : (a b : Bool) → (a || b) ≡ false → b ≡ false
-second_false true b e = cc
-second_false false b e = e
 
 -- where the first line ends within the bytes, there is a line end
 pub has_of : (bytes : List ℕ) → end_of bytes < length bytes → has_newline bytes ≡ true
@@ -55,17 +47,6 @@ first_all side none = ap (λ (n : ℕ). take n side) (all_of side none) ∙ take
 -- the bytes are the first line, its byte 10 and what stands behind
 pub first_split : (side : List ℕ) → has_newline side ≡ true → side ≡ first_line side ++ 10 ∷ after_line side
 first_split side h = split_line side (has_end side h)
-
--- no line ends in the first line
-pub first_whole : (bytes : List ℕ) → has_newline (first_line bytes) ≡ false
-first_whole [] = refl
-first_whole (x ∷ xs) = go (x == 10) refl (first_whole xs)
-  where
-    go : (b : Bool) → (x == 10) ≡ b → has_newline (first_line xs) ≡ false → has_newline (take (cond (not b) (1 + end_of xs) 0) (x ∷ xs)) ≡ false
-    go true e r = refl
-    go false e r =
-        let more : 1 + end_of xs ≡ suc (end_of xs) = omega arith in
-        ap (λ (n : ℕ). has_newline (take n (x ∷ xs))) more ∙ ap (λ (b : Bool). b || has_newline (first_line xs)) e ∙ r
 
 -- ---- the text of lines that are gone through
 

@@ -9,7 +9,7 @@ use Rattle.std.proofs.lemmas.List.Folds.{list_all-append}
 use Rattle.annex_model.specs.Lines.{text, has_newline}
 use Rattle.annex_model.specs.Messages.{HostMessage, host_reading}
 use Rattle.wire_line.specs.HeldBytes.{first_line, after_line}
-use Rattle.pair_world.proofs.Lines.{first_false, second_false, first_all, first_split, first_whole}
+use Rattle.pair_world.proofs.Lines.{first_all, first_split}
 use Rattle.journal_model.specs.declared.verdict.Why.{Why}
 use Rattle.journal_model.specs.declared.verdict.Why.TheVariants.{Eof, LongLine, Full}
 use Rattle.journal_model.specs.declared.entry.What.TheVariants.{Start, Sent, Got, End}
@@ -18,7 +18,7 @@ use Rattle.journal_model.specs.declared.opening.Opening.{Opening}
 use Rattle.journal_model.specs.Journal.{starts, is_started, is_ended, is_full, got_lines, unsent, each_of, writes}
 use Rattle.journal_model.specs.Legality.{Legal, count, is_start, is_empty}
 use Rattle.journal_model.specs.Wires.{sent_lines}
-use Rattle.journal_model.proofs.Looks.{same, any-append}
+use Rattle.journal_model.proofs.Looks.{any-append}
 use Rattle.journal_model.proofs.Linking.{sent_count, got_more, text-append}
 use Rattle.journal_model.proofs.Mouths.{lines_same, covered_more}
 use Rattle.journal_model.proofs.Fresh.{fresh}
@@ -44,6 +44,9 @@ use Rattle.pair_world.specs.Worlds.{WorldValue, IsLinked, AreLinked}
 use Rattle.pair_world.specs.Moves.{Moves, IsMade, is_barred, is_odd, is_unended, DoesEvent, DoesWrite, DoesToKit, DoesToHost, DoesWork, DoesHear, DoesEnd, stepped, reply_to, begun_by, line_of, is_amiss, is_silent, is_long, heard_event, left_at}
 use Rattle.pair_world.proofs.Journals.{Calm, calm_none, calm_end, calm_got, calm_sent, quiet_stop, Grows, Starts, Stays, grows_event, fed_on, read_on, sent_one, got_one}
 use Rattle.pair_world.proofs.Taking.{heard_more}
+use Rattle.ann_key.proofs.Booleans.{or_false, left_false as first_false, right_false as second_false}
+use Rattle.wire_line.proofs.Firsts.{no_newline_before as first_whole}
+use Rattle.ann_key.proofs.Numbers.{same_number as same}
 
 -- ---- children by their numbers
 
@@ -82,10 +85,6 @@ count-append : (xs ys : List Entry) → count is_start (xs ++ ys) ≡ count is_s
 count-append xs ys =
     ap (λ (l : List Entry). length l) (filter-append (λ (e : Entry). is_start e.what) xs ys)
     ∙ length-append (filter (λ (e : Entry). is_start e.what) xs) (filter (λ (e : Entry). is_start e.what) ys)
-
-or_false : (b : Bool) → (b || false) ≡ b
-or_false true = refl
-or_false false = refl
 
 linked_on : (past more : List Entry) (c : ℕ) (p : PairValue) → got_lines more c ≡ [] → sent_count more c ≡ 0 → IsLinked past c p → IsLinked (past ++ more) c p
 linked_on past more c p got sent h = record { heard = h.heard; fed = fed_on past more c p sent h.fed; read = read_on past more c p got h.read }

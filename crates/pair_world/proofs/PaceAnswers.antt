@@ -4,7 +4,7 @@ use Rattle.std.specs.Prelude.{◌&&◌, ◌||◌}
 use Rattle.std.specs.List.{list_all, list_any, cons_option}
 use Rattle.std.specs.Map.{lookup}
 use Rattle.std.specs.Option.{option_or}
-use Rattle.std.proofs.lemmas.Bool.{and_parts, and_right, not-true}
+use Rattle.std.proofs.lemmas.Bool.{and_parts, and_right, not-true, eqb-true as same_number}
 use Rattle.std.proofs.lemmas.List.{map-append}
 use Rattle.std.proofs.lemmas.List.Elements.{filter_map-append}
 use Rattle.std.proofs.lemmas.List.Folds.{list_all-append}
@@ -31,11 +31,9 @@ use Rattle.journal_model.specs.Parts.{part, part_from, is_for, ends_at}
 use Rattle.journal_model.specs.Due.{due_by_got, after_line, after_hearing, after_late, ending, is_error, is_version_one, verdict_at}
 use Rattle.journal_model.specs.Registers.{config_at, last_given, gives_config, settings as settings_made}
 use Rattle.journal_model.proofs.Linking.{got_more}
-use Rattle.journal_model.proofs.Looks.{entry, same, same_number, any-append, each_of-append, verdict_of-append, silent_lines}
-use Rattle.journal_model.proofs.Named.{filter_alike}
+use Rattle.journal_model.proofs.Looks.{entry, any-append, each_of-append, verdict_of-append, silent_lines}
 use Rattle.journal_model.proofs.PartsGrow.{part_from-append}
-use Rattle.journal_model.proofs.Replying.{IsPlaced, slice_get-here, tag_kept}
-use Rattle.journal_model.proofs.Testing.{or_false}
+use Rattle.journal_model.proofs.Replying.{IsPlaced, tag_kept}
 use Rattle.kit_core.specs.declared.kit.Stage.TheVariants.{Waiting}
 use Rattle.kit_core.specs.Kits.{is_over, request_of as request_of_messages}
 use Rattle.kit_core.specs.Stages.{is_free, stage_of}
@@ -48,6 +46,9 @@ use Rattle.pair_world.proofs.PaceEntries.{ChildInStep, any_same, each_same, open
 use Rattle.pair_world.proofs.PaceKits.{still_expects}
 use Rattle.pair_world.proofs.PaceRequests.{expects_value, value_line_free}
 use Rattle.pair_world.proofs.PaceSaid.{replies_to-append, one_reply}
+use Rattle.ann_key.proofs.Numbers.{same_number as same}
+use Rattle.ann_key.proofs.Lists.{filter_alike, get_after as slice_get-here}
+use Rattle.ann_key.proofs.Booleans.{or_false}
 
 -- ---- what is due
 

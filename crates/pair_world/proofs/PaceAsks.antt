@@ -23,8 +23,8 @@ use Rattle.journal_model.specs.Legality.{Legal, may_come, is_greeted, said_versi
 use Rattle.journal_model.proofs.Asking.{asked_text, read_askable}
 use Rattle.journal_model.proofs.Growing.{Led, pair}
 use Rattle.journal_model.proofs.Keeping.{in_turn_of, named_text, plain_lead}
-use Rattle.journal_model.proofs.Looks.{entry, same, same_number, both, is_asked, each_of-append, unsettled}
-use Rattle.journal_model.proofs.Named.{filter_alike, same_addressed, same_ask}
+use Rattle.journal_model.proofs.Looks.{entry, is_asked, each_of-append, unsettled}
+use Rattle.journal_model.proofs.Named.{same_addressed, same_ask}
 use Rattle.journal_model.proofs.PartsGrow.{NamesNoLine, come_names_none, part_from-append}
 use Rattle.journal_model.proofs.Projecting.{invariant, asked_parts}
 use Rattle.journal_model.proofs.Replying.{tag_kept}
@@ -37,6 +37,9 @@ use Rattle.pair_world.proofs.PaceEntries.{ChildInStep, touches, any_same, each_s
 use Rattle.pair_world.proofs.PaceKits.{still_expects}
 use Rattle.pair_world.proofs.PaceRequests.{is_asking, turn_asks, asks_no_name, asks_current, request_line_free, name_line_free, expects_request, expects_name, expects_named}
 use Rattle.pair_world.proofs.PaceSaid.{replies_to-append, one_reply}
+use Rattle.ann_key.proofs.Numbers.{same_number as same}
+use Rattle.std.proofs.lemmas.Bool.{eqb-true as same_number, and_parts as both}
+use Rattle.ann_key.proofs.Lists.{filter_alike}
 
 -- ---- what may be asked
 

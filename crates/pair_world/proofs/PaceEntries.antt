@@ -12,15 +12,15 @@ use Rattle.journal_model.specs.declared.entry.Entry.{Entry}
 use Rattle.journal_model.specs.Journal.{any, each_of, first_of, starts, ends, mutes, settles, offers, asks, writes, line_from, got_lines, asked_jobs, open_jobs, is_settled, is_started, is_ended, is_mute, is_live, is_tagged, verdict_of}
 use Rattle.journal_model.specs.Parts.{part, part_from}
 use Rattle.journal_model.proofs.Looks.{entry, any-append, each_of-append}
-use Rattle.journal_model.proofs.Named.{filter_alike}
 use Rattle.journal_model.proofs.PartsGrow.{NamesNoLine, part_from-append}
 use Rattle.journal_model.proofs.Replying.{IsPlaced, tag_kept}
-use Rattle.journal_model.proofs.Testing.{or_false}
 use Rattle.kit_core.specs.Kits.{is_over, request_of as request_of_messages}
 use Rattle.kit_core.specs.Stages.{stage_of}
 use Rattle.pair_world.specs.Cues.{settings}
 use Rattle.pair_world.specs.Answered.{line_for, request_of}
 use Rattle.pair_world.specs.Paces.{written_lines, written, replies_to, is_message_line, IsExpected, IsSilent, IsIdle, IsBusy, KeepsStep}
+use Rattle.ann_key.proofs.Lists.{filter_alike}
+use Rattle.ann_key.proofs.Booleans.{or_false}
 
 -- ---- one child of a journal
 

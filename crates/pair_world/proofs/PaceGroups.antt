@@ -2,7 +2,7 @@
 use Rattle.std.proofs.Common.{ℕ, ◌≡◌, ◌+◌, ◌==◌, Bool, true, false, not, List, [], ◌∷◌, ◌++◌, refl, sym, ap, subst, ◌∙◌, append-nil}
 use Rattle.std.specs.Prelude.{◌&&◌, ◌||◌}
 use Rattle.std.specs.List.{list_all}
-use Rattle.std.proofs.lemmas.Bool.{not-true}
+use Rattle.std.proofs.lemmas.Bool.{not-true, and_parts as both, eqb-true as same_number}
 use Rattle.annex_model.specs.Messages.{RemoteMessage}
 use Rattle.reg_file.specs.Registers.{IsKept}
 use Rattle.journal_model.specs.declared.verdict.Why.{Why}
@@ -17,7 +17,7 @@ use Rattle.journal_model.specs.Journal.{any, is_started, is_live, open_jobs}
 use Rattle.journal_model.specs.Legality.{Legal, may_come, may_stop, needs_lead, count, is_start}
 use Rattle.journal_model.specs.Registers.{HasNoLine, is_got, settings as settings_made}
 use Rattle.journal_model.proofs.Growing.{Led, pair, is_lead}
-use Rattle.journal_model.proofs.Looks.{entry, both, same_number, settled_all}
+use Rattle.journal_model.proofs.Looks.{entry, settled_all}
 use Rattle.journal_model.proofs.PartsGrow.{come_names_none}
 use Rattle.journal_model.proofs.Projecting.{invariant}
 use Rattle.journal_model.proofs.Registering.{settings-append, settings_from-none}

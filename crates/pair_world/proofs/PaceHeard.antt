@@ -21,7 +21,6 @@ use Rattle.journal_model.specs.Wires.{sent_lines}
 use Rattle.journal_model.proofs.Growing.{Legal-induction}
 use Rattle.journal_model.proofs.Linking.{got_more, text-append}
 use Rattle.journal_model.proofs.Soft.{soft_stretch}
-use Rattle.journal_model.proofs.Working.{soft_due}
 use Rattle.kit_core.specs.declared.kit.Stage.{Stage}
 use Rattle.kit_core.specs.Kits.{Heard, messages, is_over, request_of, IsServed, IsAskedBy, due_of, said_by, lines_to, lines_behind}
 use Rattle.kit_core.specs.Stages.{stage_of}
@@ -31,11 +30,14 @@ use Rattle.pair_world.specs.Cues.{settings}
 use Rattle.pair_world.specs.Pairs.{PairValue, heard, is_spelled, are_spelled, taken_lines, said_lines}
 use Rattle.pair_world.specs.Worlds.{IsRead, IsLinked}
 use Rattle.pair_world.specs.Paces.{written_lines, written, is_name, replies_to, is_message_line, is_line_call, is_whole, IsExpected, IsSilent, IsIdle, IsBusy}
-use Rattle.pair_world.proofs.Lines.{first_split, first_whole}
+use Rattle.pair_world.proofs.Lines.{first_split}
 use Rattle.pair_world.proofs.Taking.{heard_more}
 use Rattle.pair_world.proofs.PaceKits.{GoesOn, Finishes, SaysOne, is_fine, expects}
 use Rattle.pair_world.proofs.PaceSaid.{SaidWell, AreSound, is_one_line, replies_to-append, one_reply, says_reads, one_says, front_goes_on, served_front, sound_front, messages_heard, heard_sound, said_so}
-use Rattle.pair_world.proofs.PaceTexts.{text_front, all_front, same_last, EndsBy, ends_by, heads, tails, no_last, none_behind, empty_is}
+use Rattle.pair_world.proofs.PaceTexts.{text_front, all_front, same_last, EndsBy, ends_by, heads, tails, no_last}
+use Rattle.journal_model.proofs.Bounds.{due_soft as soft_due}
+use Rattle.wire_line.proofs.Firsts.{no_newline_before as first_whole}
+use Rattle.ann_key.proofs.Lists.{nil_back as none_behind, no_items as empty_is}
 
 -- ---- the lines that a kit took are the first that are written to it
 

@@ -2,7 +2,7 @@
 use Rattle.std.proofs.Common.{ℕ, ◌≡◌, ◌==◌, ◌⊎◌, inl, inr, Bool, true, false, not, cond, List, [], ◌∷◌, ◌++◌, length, Option, Some, None, refl, sym, ap, subst, ◌∙◌, append-nil}
 use Rattle.std.specs.Prelude.{◌&&◌, ◌||◌}
 use Rattle.std.specs.List.{list_all, list_any, cons_option}
-use Rattle.std.proofs.lemmas.Bool.{and_parts, not-true}
+use Rattle.std.proofs.lemmas.Bool.{and_parts, not-true, and_parts as both}
 use Rattle.annex_model.specs.Lines.{has_newline}
 use Rattle.annex_model.specs.Messages.{RemoteMessage, Version, Value, host_line, remote_reading}
 use Rattle.annex_model.specs.Tags.{names_async}
@@ -18,7 +18,7 @@ use Rattle.journal_model.specs.Due.{due_by_got, is_error, made_by, verdict_at}
 use Rattle.journal_model.specs.Legality.{Legal, may_come}
 use Rattle.journal_model.specs.Replies.{is_setting}
 use Rattle.journal_model.specs.Registers.{HasNoLine, is_open_job, if_setting, setting_of, settings_from, settings as settings_made}
-use Rattle.journal_model.proofs.Looks.{entry, both, same, open_unsettled, settled_none}
+use Rattle.journal_model.proofs.Looks.{entry, open_unsettled, settled_none}
 use Rattle.journal_model.proofs.PartsGrow.{come_names_none}
 use Rattle.journal_model.proofs.Projecting.{invariant}
 use Rattle.journal_model.proofs.Registering.{settings-append, settings_from-none}
@@ -34,12 +34,10 @@ use Rattle.pair_world.proofs.PaceEntries.{ChildInStep}
 use Rattle.pair_world.proofs.PaceGroups.{JournalInStep, Goes, child_grows}
 use Rattle.pair_world.proofs.PaceHeard.{HeardBusy, heard_silent, heard_idle, heard_busy}
 use Rattle.pair_world.proofs.PaceKits.{GoesOn, Finishes}
+use Rattle.host_core.proofs.Noting.{unset as neither}
+use Rattle.ann_key.proofs.Numbers.{same_number as same}
 
 -- ---- nothing is set
-
-neither : (b : Bool) → cond {A = Option RemoteMessage} b None None ≡ None
-neither true = refl
-neither false = refl
 
 -- a line that spells no setting sets nothing
 got_unset : (o : Opening) (past : List Entry) (by c : ℕ) (line : List ℕ) (due : List Entry) (r : RemoteMessage) → may_come o past by (Got c line) ≡ true → HasNoLine due

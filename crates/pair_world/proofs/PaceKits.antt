@@ -3,7 +3,6 @@ use Rattle.std.proofs.Common.{ℕ, ◌≡◌, ◌⊎◌, inl, inr, Bool, true, f
 use Rattle.std.specs.Prelude.{◌&&◌, ◌||◌}
 use Rattle.std.specs.Str.{is_utf8}
 use Rattle.std.proofs.lemmas.Bool.{or_parts}
-use Rattle.std.proofs.lemmas.Slice.Eq.{bytes_eq-Decides}
 use Rattle.annex_model.specs.Lines.{has_newline}
 use Rattle.annex_model.specs.declared.final_line.Final.{Final}
 use Rattle.annex_model.specs.declared.final_line.Final.TheVariants.{Done, Failed, Absent, Unknown, Unsupported}
@@ -27,6 +26,8 @@ use Rattle.kit_core.proofs.Behind.{request_pushed, values_pushed, some_behind-pu
 use Rattle.kit_core.proofs.Endless.{final_free}
 use Rattle.pair_world.specs.Cues.{settings}
 use Rattle.pair_world.specs.Paces.{is_name, is_line_call}
+use Rattle.ann_key.proofs.Lists.{same_name as own}
+use Rattle.std.proofs.lemmas.Option.{same_Some as some_is}
 
 -- ---- one line
 
@@ -54,9 +55,6 @@ pub record SaysOne (request : HostMessage) (said : List RemoteMessage) (stage : 
   pub line : has_newline (remote_line reply) ≡ false
   pub fine : is_fine reply ≡ true
   pub next : GoesOn reply stage ⊎ Finishes request reply stage
-
-pub some_is : {X : Type 0} (x y : X) → Some x ≡ Some y → x ≡ y
-some_is x y e = cc
 
 own_says : (m q : HostMessage) (said : List RemoteMessage) (stage : Stage) → Some m ≡ Some q → SaysOne m said stage → SaysOne q said stage
 own_says m q said stage is s = subst (λ (x : HostMessage). SaysOne x said stage) (some_is m q is) s
@@ -104,9 +102,6 @@ finishes q said f sayable fine plain settles fields text = record {
   fine = fine;
   next = inr (record { final = f; settles = settles; plain = plain; free = refl });
 }
-
-own : (key : List ℕ) → bytes_eq key key ≡ true
-own key = (bytes_eq-Decides key key).1 refl
 
 chosen : (b : Bool) (f : Final) → b ≡ true → cond {A = Option Final} b (Some f) None ≡ Some f
 chosen b f e = ap (λ (x : Bool). cond {A = Option Final} x (Some f) None) e

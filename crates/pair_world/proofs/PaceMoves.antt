@@ -38,12 +38,13 @@ use Rattle.pair_world.specs.Worlds.{WorldValue, AreLinked}
 use Rattle.pair_world.specs.Moves.{Moves, IsMade, is_barred, is_odd, is_unended, DoesEvent, DoesWrite, DoesToKit, DoesToHost, DoesTake, DoesWork, DoesHear, DoesEnd, stepped, reply_to, begun_by, line_of, is_amiss, is_silent, is_long, heard_event, left_at}
 use Rattle.pair_world.specs.Paces.{is_line_call, is_whole, IsExpected, KeepsStep, AreInStep}
 use Rattle.pair_world.specs.Peace.{finds_fault, is_error_line, AtPeace}
-use Rattle.pair_world.proofs.Lines.{first_false, second_false, first_whole}
 use Rattle.pair_world.proofs.Linking.{pair_at, no_child, there, not_silent, step_got}
 use Rattle.pair_world.proofs.PaceEvents.{event_goes, stop_goes, sent_goes}
 use Rattle.pair_world.proofs.PaceGroups.{JournalInStep, Goes, IsNumbered, goes_nowhere, end_goes}
 use Rattle.pair_world.proofs.PaceHeard.{has_taken}
 use Rattle.pair_world.proofs.PaceHears.{hear_goes}
+use Rattle.ann_key.proofs.Booleans.{left_false as first_false, right_false as second_false}
+use Rattle.wire_line.proofs.Firsts.{no_newline_before as first_whole}
 
 -- ---- what each kit took is whole
 

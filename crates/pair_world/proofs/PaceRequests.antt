@@ -2,7 +2,7 @@
 use Rattle.std.proofs.Common.{ℕ, ◌≡◌, Bool, true, false, not, List, [], ◌∷◌, ◌++◌, Option, Some, None, is_some, bytes_eq, refl, sym, ap, ◌∙◌}
 use Rattle.std.specs.Prelude.{◌&&◌}
 use Rattle.std.specs.Str.{is_utf8}
-use Rattle.std.proofs.lemmas.Bool.{not-true}
+use Rattle.std.proofs.lemmas.Bool.{not-true, and_parts as both}
 use Rattle.std.proofs.lemmas.Slice.Eq.{bytes_eq-Decides}
 use Rattle.ann_key.specs.Keys.{Parts, key_reading, is_key}
 use Rattle.annex_model.specs.Extensions.{names_of}
@@ -13,7 +13,6 @@ use Rattle.annex_model.specs.Turns.{turn_of, is_at}
 use Rattle.journal_model.specs.declared.entry.Entry.{Entry}
 use Rattle.journal_model.specs.Journal.{any, offers}
 use Rattle.journal_model.specs.Legality.{is_text, suits_child}
-use Rattle.journal_model.proofs.Looks.{both}
 use Rattle.kit_core.specs.declared.kit.Stage.TheVariants.{Waiting}
 use Rattle.kit_core.specs.Kits.{is_error as is_host_error, is_unexpected, is_over, awaits_value, is_readying, next_setting, request_of, values_of}
 use Rattle.kit_core.specs.Stages.{is_free, stage_by, stage_of}

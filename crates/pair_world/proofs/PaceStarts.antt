@@ -14,13 +14,14 @@ use Rattle.journal_model.specs.declared.opening.Opening.{Opening}
 use Rattle.journal_model.specs.Journal.{any, each_of, asks, writes, ends, mutes, offers, line_from, asked_jobs, open_jobs, is_started, is_ended, is_live, accepts_async, verdict_of}
 use Rattle.journal_model.specs.Legality.{Legal}
 use Rattle.journal_model.proofs.Fresh.{fresh}
-use Rattle.journal_model.proofs.Looks.{entry, same, is_asked, any-append, verdict_of-append, settled_all}
+use Rattle.journal_model.proofs.Looks.{entry, is_asked, any-append, verdict_of-append, settled_all}
 use Rattle.journal_model.proofs.Soft.{soft_stretch, soft_verdicts}
-use Rattle.journal_model.proofs.Testing.{or_true}
 use Rattle.journal_model.proofs.Verdicts.{unasked_none}
 use Rattle.host_core.specs.Steps.{group_of}
 use Rattle.pair_world.specs.Paces.{written_lines, IsExpected}
 use Rattle.pair_world.proofs.PaceEntries.{ChildInStep, touches, any_same, each_same, expected_same}
+use Rattle.ann_key.proofs.Numbers.{same_number as same}
+use Rattle.ann_key.proofs.Booleans.{or_true}
 
 -- ---- a start
 

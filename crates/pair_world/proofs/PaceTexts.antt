@@ -1,12 +1,13 @@
 -- Lines by their text, and lists by their ends.
-use Rattle.std.proofs.Common.{ℕ, ◌≡◌, ◌==◌, Bool, true, false, List, [], ◌∷◌, ◌++◌, length, Option, Some, None, refl, sym, ap, subst, ◌∙◌, arith, append_assoc}
+use Rattle.std.proofs.Common.{ℕ, ◌≡◌, ◌==◌, Bool, true, false, List, [], ◌∷◌, ◌++◌, None, refl, sym, ap, subst, ◌∙◌, append_assoc}
 use Rattle.std.specs.Prelude.{◌||◌}
 use Rattle.std.specs.List.{list_all, last_or}
 use Rattle.std.proofs.lemmas.Bool.{or_parts, and_parts, not-true}
 use Rattle.std.proofs.lemmas.List.Folds.{list_all-append}
 use Rattle.annex_model.specs.Lines.{has_newline, text}
-use Rattle.pair_world.proofs.PaceKits.{some_is}
 use Rattle.pair_world.proofs.PaceSaid.{is_one_line}
+use Rattle.ann_key.proofs.Lists.{last_or-push as last_is}
+use Rattle.std.proofs.lemmas.Option.{same_Some as some_is}
 
 pub heads : {X : Type 0} (x y : X) (xs ys : List X) → x ∷ xs ≡ y ∷ ys → x ≡ y
 heads x y xs ys e = cc
@@ -49,10 +50,6 @@ text_front (x ∷ xs) (y ∷ ys) rest a b e =
 pub all_front : {X : Type 0} (p : X → Bool) (xs ys : List X) → list_all p (xs ++ ys) ≡ true → (list_all p xs ≡ true) × (list_all p ys ≡ true)
 all_front p xs ys h = and_parts (list_all p xs) (list_all p ys) (sym (list_all-append p xs ys) ∙ h)
 
-last_is : {X : Type 0} (o : Option X) (xs : List X) (x : X) → last_or o (xs ++ x ∷ []) ≡ Some x
-last_is o [] x = refl
-last_is o (y ∷ xs) x = last_is (Some y) xs x
-
 pub same_last : {X : Type 0} (xs ys : List X) (x y : X) → xs ++ x ∷ [] ≡ ys ++ y ∷ [] → x ≡ y
 same_last {X = X} xs ys x y e = some_is x y (sym (last_is None xs x) ∙ ap (λ (l : List X). last_or None l) e ∙ last_is None ys y)
 
@@ -71,11 +68,3 @@ ends_by {X = X} x (y ∷ xs) =
 pub no_last : {A X : Type 0} (xs : List X) (x : X) → [] ≡ xs ++ x ∷ [] → A
 no_last [] x e = absurd cc
 no_last (y ∷ xs) x e = absurd cc
-
-pub none_behind : {X : Type 0} (xs ys : List X) → xs ++ ys ≡ [] → ys ≡ []
-none_behind [] ys e = e
-none_behind (x ∷ xs) ys e = absurd cc
-
-pub empty_is : {X : Type 0} (xs : List X) → length xs ≡ 0 → xs ≡ []
-empty_is [] e = refl
-empty_is (x ∷ xs) e = absurd (omega (arith, e))

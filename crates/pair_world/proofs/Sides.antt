@@ -9,7 +9,8 @@ use Rattle.host_core.specs.declared.event.Event.TheVariants.{Stop as StopEvent}
 use Rattle.pair_world.specs.Moves.{is_silent, is_long, is_gone, heard_event, left_at}
 use Rattle.pair_world.specs.Pairs.{PairValue}
 use Rattle.host_core.specs.declared.event.Reply.{Reply}
-use Rattle.pair_world.proofs.Lines.{first_all, first_false}
+use Rattle.pair_world.proofs.Lines.{first_all}
+use Rattle.ann_key.proofs.Booleans.{left_false as first_false}
 
 -- with no line end and more than a line may have, the child's end is heard
 pub too_long : (c : ℕ) (side : List ℕ) → has_newline side ≡ false → 65536 < length side → (is_silent side ≡ false) × (StopEvent c LongLine ≡ heard_event c side)

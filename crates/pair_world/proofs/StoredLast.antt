@@ -6,7 +6,7 @@ use Rattle.std.proofs.lemmas.List.Folds.{list_any-append}
 use Rattle.pair_world.specs.declared.answer.Answer.{Answer}
 use Rattle.pair_world.specs.Shelves.{Items, content}
 use Rattle.pair_world.specs.Stored.{stores, removes, retrieves, changes, IsLastStored, GiveLastStored}
-use Rattle.pair_world.proofs.Lines.{first_false, second_false}
+use Rattle.ann_key.proofs.Booleans.{left_false as first_false, right_false as second_false}
 
 -- none, or some answers and a last one
 abbrev HasEnd : List Answer → Type 0

@@ -1,16 +1,9 @@
 -- How much of a text was written.
-use Rattle.std.proofs.Common.{◌≡◌, ℕ, ◌+◌, ◌<◌, ◌≤◌, List, [], ◌∷◌, ◌++◌, length, take, Option, None, Some, sym, ap, ◌∙◌, subst, arith, ⊎_elim}
-use Rattle.std.proofs.Math.Seq.{take-append-add, take-append_seam, take-length}
-use Rattle.std.proofs.lemmas.Bool.{cases_lt}
-use Rattle.std.proofs.lemmas.List.{take-append-le, take_all, append-nil}
+use Rattle.std.proofs.Common.{ℕ, ◌+◌, List, ◌∷◌, ◌++◌, length, take, Option, sym, ap, subst}
+use Rattle.std.proofs.Math.Seq.{take-append-add, take-length}
 use Rattle.std.specs.Io.KnownBytes.{Appends}
 use Rattle.ann_outside.proofs.Telling.{appends_both}
-
--- the first bytes of a text are first bytes of a longer one
-front_of_longer : (n : ℕ) (xs ys : List ℕ) → (m : ℕ) × (take m (xs ++ ys) ≡ take n xs)
-front_of_longer n xs ys =
-    ⊎_elim (λ (past : length xs < n). (length xs, take-append_seam xs ys ∙ sym (take_all n xs (omega arith))))
-    (λ (within : n ≤ length xs). (n, take-append-le n xs ys within)) (cases_lt (length xs) n)
+use Rattle.ann_key.proofs.Lists.{front_of_longer}
 
 -- a whole text, and then the first bytes of what follows it
 pub prefix_more : (a b c : Option (List ℕ)) (xs ys : List ℕ) → Appends a b xs
@@ -23,7 +16,3 @@ pub prefix_longer : (a c : Option (List ℕ)) (xs ys : List ℕ) → ((n : ℕ) 
 prefix_longer a c xs ys q =
     let front = front_of_longer q.0 xs ys in
     (front.0, subst (λ (l : List ℕ). Appends a c l) (sym front.1) q.1)
-
-pub appends_nothing : (told : Option (List ℕ)) → Appends told told []
-appends_nothing None = tt
-appends_nothing (Some xs) = sym (append-nil xs)

@@ -1,8 +1,8 @@
 -- One turn more, and the end.
-use Rattle.std.proofs.Common.{◌≡◌, ℕ, ◌+◌, ◌<◌, ◌≤◌, ◌==◌, suc, cond, Bool, true, false, not, ◌&&◌, List, [], ◌∷◌, ◌++◌, length, take, Option, Some, None, Result, Ok, Err, OnOk, IfErr, IsTrue, refl, sym, ap, ◌∙◌, subst, ⊎_elim, arith, append_assoc, length-take}
+use Rattle.std.proofs.Common.{◌≡◌, ℕ, ◌+◌, ◌<◌, ◌≤◌, ◌==◌, suc, cond, true, false, not, ◌&&◌, List, [], ◌∷◌, ◌++◌, length, take, Option, Some, None, Result, Ok, Err, OnOk, IfErr, IsTrue, refl, sym, ap, ◌∙◌, subst, ⊎_elim, arith, append_assoc, length-take}
 use Rattle.std.specs.Io.KnownBytes.{Appends}
 use Rattle.std.specs.List.{list_all}
-use Rattle.std.proofs.lemmas.Bool.{cases_lt}
+use Rattle.std.proofs.lemmas.Bool.{cases_lt, not-true as not_false}
 use Rattle.std.proofs.lemmas.Bool.Decides.{nat_tests}
 use Rattle.std.proofs.lemmas.List.{append-nil, take_all}
 use Rattle.std.proofs.lemmas.List.Folds.{list_all-append}
@@ -15,7 +15,8 @@ use Rattle.plain_carry.specs.declared.end.End.{End}
 use Rattle.plain_carry.specs.declared.end.End.TheVariants.{Eof, Long, ReadFault, WriteFault, Memory}
 use Rattle.plain_carry.specs.Carries.{longest_line, is_short, Passing, AllPass, passed_text, text_passed, IsEnd, IsWritten, Told, Carried, Gains, Going, Carries}
 use Rattle.plain_carry.specs.Turns.{ReadsOn, Writes, Falters, Passes}
-use Rattle.plain_carry.proofs.Prefixes.{appends_nothing}
+use Rattle.ann_key.proofs.Booleans.{not_and_so as true_not}
+use Rattle.ann_key.proofs.Lists.{appends_nothing}
 
 -- ---- a read
 
@@ -123,14 +124,6 @@ falters_end P begun given taken taken' held held' line f takes fits g = record {
   );
   ends = tt;
 }
-
-not_false : (b : Bool) → not b ≡ true → b ≡ false
-not_false true h = cc
-not_false false h = refl
-
-true_not : (b : Bool) → b ≡ true → not b ≡ true → ⊥
-true_not true e h = cc
-true_not false e h = cc
 
 -- no line ends in what is held, where none stands first and it isn't long
 pub no_line : (held : List ℕ) → IsTrue (not (has_line longest_line held)) → length held ≤ longest_line → has_newline held ≡ false

@@ -1,10 +1,9 @@
 -- What one start came to: a child that serves, one that is over, or none.
-use Rattle.std.proofs.Common.{◌≡◌, ℕ, ◌≤◌, List, [], ◌∷◌, ◌++◌, refl, sym, ap, subst, ◌∙◌, append_assoc, append-nil, length, length-append, Bool, true, false, not, ◌==◌, Some, None, Option, arith, inl, inr}
+use Rattle.std.proofs.Common.{◌≡◌, ℕ, ◌≤◌, List, [], ◌∷◌, ◌++◌, refl, sym, ap, subst, ◌∙◌, append_assoc, append-nil, true, false, not, ◌==◌, Some, None, arith, inl, inr}
 use Rattle.std.specs.Prelude.{is_some}
 use Rattle.std.specs.List.{list_all}
 use Rattle.std.proofs.lemmas.List.Elements.{All-cons, All-nil}
 use Rattle.ann_outside.specs.Causes.{AddsOne, Rose}
-use Rattle.ann_outside.specs.Starts.{IsNumbered, Starts}
 use Rattle.journal_model.specs.declared.verdict.Why.TheVariants.{Closed}
 use Rattle.journal_model.specs.declared.entry.What.TheVariants.{Start, NoStart}
 use Rattle.journal_model.specs.declared.entry.Entry.{Entry}
@@ -15,21 +14,21 @@ use Rattle.journal_model.specs.Legality.{Legal, is_busy, is_done, is_prepared, m
 use Rattle.journal_model.specs.Shares.{is_of_child}
 use Rattle.journal_model.proofs.Holding.{holder_append}
 use Rattle.journal_model.proofs.Linking.{why_is_end}
-use Rattle.journal_model.proofs.Looks.{any-append, or_none, same, verdict_of-append}
-use Rattle.journal_model.proofs.Testing.{all-each, all-join, or_left, or_right}
+use Rattle.journal_model.proofs.Looks.{any-append, or_none, verdict_of-append}
+use Rattle.journal_model.proofs.Testing.{all-each, all-join}
 use Rattle.link_roles.specs.Alone.{Closes}
 use Rattle.link_roles.specs.Writings.{LoneWired}
 use Rattle.child_start.specs.Greetings.{AreNumbered, Greeted, IsReady, is_of_greeting}
 use Rattle.child_start.proofs.Jobs.{idle_on}
 use Rattle.child_end.specs.Programs.{ProgramsValue}
-use Rattle.child_end.specs.Wires.{IsOfStart, WireValue}
+use Rattle.child_end.specs.Wires.{WireValue}
 use Rattle.child_end.proofs.Held.{lone_held}
 use Rattle.lone_work.specs.KnownLayouts.{IsBook}
 use Rattle.gathering.specs.Rounds.{IsAtRest, LinkValue}
 use Rattle.lone_rounds.specs.Starting.{is_unclosed}
 use Rattle.lone_rounds.specs.Rounds.{is_of_run}
 use Rattle.lone_rounds.specs.Stints.{AreLinked, StartsOne, main_entry, next_child}
-use Rattle.lone_rounds.proofs.Leaving.{adds_one, rose_still, starts_child}
+use Rattle.lone_rounds.proofs.Leaving.{adds_one, rose_still, starts_child, of_start}
 use Rattle.lone_rounds.proofs.Losing.{greeted_next, lost_both, lost_greeting, lost_tasks}
 use Rattle.lone_rounds.proofs.Served.{all_unclosed, greeting_unclosed, new_unclosed}
 use Rattle.lone_rounds.proofs.Stinting.{Closing, closing, closing_loses, closing_part, greeting_part, may_close, of_closing}
@@ -38,6 +37,8 @@ use Rattle.crew_rounds.specs.PoolChildren.{MayServe}
 use Rattle.pool_starts.specs.Pools.{AreSeated, OverBy, SeatValue, Serves, is_among}
 use Rattle.pool_starts.specs.Seats.{SeatsOne, SeatsOver}
 use Rattle.pool_starts.proofs.Own.{greeting_own, own_rests, rest_shut, undone_unready}
+use Rattle.ann_key.proofs.Numbers.{same_number as same}
+use Rattle.ann_key.proofs.Booleans.{or_left, or_right}
 
 -- ---- a child that was greeted
 
@@ -72,12 +73,6 @@ module _ (old g : List Entry) (slot c : ℕ) (greeted : Greeted old g slot false
       new_unclosed o old (begun ∷ greeted.more) c legal greeted.next (all_unclosed (is_of_greeting c) (greeting_unclosed c) greeted.more greeted.own) ended in
       let bad : false ≡ true = ap is_unclosed (sym why) ∙ unclosed in
       absurd cc
-
-of_start : (old new : Option Starts) (x : List ℕ × Bool) (n : Option ℕ) → AddsOne old new x → IsNumbered new n → IsOfStart old 1 n
-of_start old new x None a h = tt
-of_start None new x (Some n) a h = tt
-of_start (Some xs) None x (Some n) a h = absurd a
-of_start (Some xs) (Some ys) x (Some n) a h = h ∙ ap (λ (zs : Starts). length zs) a ∙ length-append xs (x ∷ [])
 
 module _ (o : Opening) (program : List ℕ) (slot : ℕ) (old g : List Entry) (before mid : ProgramsValue) (ear : EarValue) (mouth : MouthValue) (seats seats' : List SeatValue) (links links' : List LinkValue)
     (greeted : Greeted old g slot false ear.child) (one : mouth.child ≡ ear.child) (numbered : AreNumbered mid.starts ear mouth) (adds : AddsOne before.starts mid.starts (program, true)) (faults : before.faults ≤ mid.faults) where

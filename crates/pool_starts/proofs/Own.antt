@@ -2,7 +2,6 @@
 use Rattle.std.proofs.Common.{◌≡◌, ℕ, ◌<◌, ◌≤◌, List, [], ◌∷◌, ◌++◌, refl, sym, ap, ◌∙◌, Bool, true, false, not, ◌==◌, cond, Some, None, Option, arith, nat_le, nat_lt}
 use Rattle.std.specs.Prelude.{◌&&◌, ◌||◌, is_some}
 use Rattle.std.specs.List.{list_all, list_any, cons_option}
-use Rattle.std.specs.Option.{option_or}
 use Rattle.std.proofs.lemmas.Bool.Decides.{nat_tests}
 use Rattle.journal_model.specs.declared.verdict.Verdict.{Verdict}
 use Rattle.journal_model.specs.declared.verdict.Why.{Why}
@@ -16,8 +15,8 @@ use Rattle.journal_model.specs.Shares.{is_closed, is_of_child}
 use Rattle.journal_model.proofs.Fresh.{fresh}
 use Rattle.journal_model.proofs.Holding.{closed, claimed, holder_append, unturned}
 use Rattle.journal_model.proofs.Linking.{why_is_end, why_of-append}
-use Rattle.journal_model.proofs.Looks.{any-append, both, or_none, same, same_number, settled_none, true_not_false, verdict_of-append}
-use Rattle.journal_model.proofs.Testing.{by_either, or_left}
+use Rattle.journal_model.proofs.Looks.{any-append, or_none, settled_none, verdict_of-append}
+use Rattle.journal_model.proofs.Testing.{by_either}
 use Rattle.journal_model.proofs.Turns.{without}
 use Rattle.link_roles.proofs.Linked.{any_narrower}
 use Rattle.link_roles.proofs.Writings.{lone_apart}
@@ -27,11 +26,15 @@ use Rattle.child_start.proofs.Jobs.{idle_on}
 use Rattle.gathering.specs.Rounds.{IsAtRest, LinkValue}
 use Rattle.lone_rounds.specs.Starting.{is_any_start}
 use Rattle.lone_rounds.specs.Stints.{in_stint}
-use Rattle.lone_rounds.proofs.Apart.{apart_in, no_start_in}
+use Rattle.lone_rounds.proofs.Apart.{apart_in, no_start_in, prepares_of}
 use Rattle.lone_rounds.proofs.Tests.{any_none, each_none, each_without}
 use Rattle.crew_rounds.specs.PoolChildren.{MayServe}
 use Rattle.pool_starts.specs.Pools.{changes_claim}
 use Rattle.pool_starts.specs.Slots.{in_pool, offers_tags}
+use Rattle.ann_key.proofs.Booleans.{or_off as or_no, true_and_false as true_not_false, or_left}
+use Rattle.std.proofs.lemmas.Bool.{le-leb as low, and_parts as both, eqb-true as same_number}
+use Rattle.gathering.proofs.Laboring.{prepared_lasts as prepared_on}
+use Rattle.ann_key.proofs.Numbers.{same_number as same}
 
 -- ---- one entry of the child
 
@@ -69,9 +72,6 @@ own_unclosed c w h = refl
 own_untagged : (c : ℕ) (w : What) → is_of_child c w ≡ true → offers_tags w ≡ false
 own_untagged c (Start child slot offer) h = absurd cc
 own_untagged c w h = refl
-
-pub low : (m n : ℕ) → m ≤ n → nat_le m n ≡ true
-low m n h = grind (arith, nat_tests)
 
 pub own_pool : (first c : ℕ) → first ≤ c → (w : What) → is_of_child c w ≡ true → in_pool first w ≡ true
 own_pool first c le w h = go w h
@@ -139,14 +139,14 @@ AreShut journal = (c : ℕ) → open_jobs journal c ≡ []
 pub shut_open : (journal : List Entry) → AreShut journal → (c j : ℕ) → is_open journal c j ≡ false
 shut_open journal shut c j = ap (list_any (λ (k : ℕ). k == j)) (shut c)
 
-none_of : (js : List ℕ) → ((j : ℕ) → list_any (λ (k : ℕ). k == j) js ≡ false) → js ≡ []
+pub none_of : (js : List ℕ) → ((j : ℕ) → list_any (λ (k : ℕ). k == j) js ≡ false) → js ≡ []
 none_of [] h = refl
 none_of (k ∷ js) h = absurd (let bad : true ≡ false = sym (ap (λ (b : Bool). b || list_any (λ (i : ℕ). i == k) js) (same k)) ∙ h k in cc)
 
 pub rest_shut : (journal : List Entry) → IsAtRest journal → AreShut journal
 rest_shut journal h c = none_of (open_jobs journal c) (λ j. h.shut c j)
 
-asks_of : (d : ℕ) (w : What) → is_of_child d w ≡ false → asks d w ≡ None
+pub asks_of : (d : ℕ) (w : What) → is_of_child d w ≡ false → asks d w ≡ None
 asks_of d (Ask child job task line) h = rw h refl
 asks_of d w h = refl
 
@@ -160,29 +160,6 @@ shut_on past xs c within idle shut d = by_either (c == d)
     (λ other. idle_on past xs d (unasked d xs (own_apart c xs within d other)) (shut d))
 
 -- ---- a child that can serve
-
-done_more : (v w : Option Verdict) → is_done v ≡ true → is_done (option_or v w) ≡ true
-done_more None w h = absurd cc
-done_more (Some v) w h = h
-
-pub prepared_on : (past more : List Entry) (c : ℕ) → is_prepared past c ≡ true → is_prepared (past ++ more) c ≡ true
-prepared_on past more c h =
-    let t = both (is_done (verdict_of past c 1)) (any (prepares c) past) h in
-    let done : is_done (verdict_of (past ++ more) c 1) ≡ true = ap is_done (verdict_of-append c 1 past more) ∙ done_more (verdict_of past c 1) (verdict_of more c 1) t.0 in
-    let asked : any (prepares c) (past ++ more) ≡ true = any-append (prepares c) past more ∙ or_left (any (prepares c) past) (any (prepares c) more) t.1 in
-    rw (done, asked) refl
-
-prepares_of : (c : ℕ) (w : What) → prepares c w ≡ true → is_of_child c w ≡ true
-prepares_of c (Ask child job task line) h = three (child == c) (job == 1) (asks_prepare line) h
-  where
-    three : (a b d : Bool) → (a && b && d) ≡ true → a ≡ true
-    three true b d k = refl
-    three false b d k = absurd cc
-prepares_of c w h = absurd cc
-
-or_no : (b d : Bool) → d ≡ false → (b || d) ≡ b
-or_no true d h = refl
-or_no false d h = h
 
 -- a child of which nothing is made gets no readier
 pub prepared_apart : (past more : List Entry) (c : ℕ) → any (is_of_child c) more ≡ false → is_prepared (past ++ more) c ≡ is_prepared past c

@@ -1,15 +1,12 @@
 -- The seats of a pool, as its journal grows.
 use Rattle.std.proofs.Common.{◌≡◌, ℕ, zero, suc, ◌+◌, ◌<◌, ◌≤◌, List, [], ◌∷◌, ◌++◌, refl, sym, ap, subst, ◌∙◌, length, length-append, Bool, true, false, ◌==◌, Some, None, Option, arith, ◌⊎◌, inl, inr}
 use Rattle.std.specs.Prelude.{◌||◌, slice_get}
-use Rattle.std.specs.List.{cons_option}
 use Rattle.ann_outside.specs.Starts.{Starts}
-use Rattle.journal_model.specs.declared.entry.What.{What}
-use Rattle.journal_model.specs.declared.entry.What.TheVariants.{Start, NoStart}
 use Rattle.journal_model.specs.declared.entry.Entry.{Entry}
 use Rattle.journal_model.specs.Journal.{any}
 use Rattle.journal_model.specs.Shares.{is_of_child}
-use Rattle.child_end.specs.Programs.{AddsAll, told, told_in}
-use Rattle.child_end.specs.Wires.{IsOfStart, came, came_in}
+use Rattle.child_end.specs.Programs.{AddsAll, told}
+use Rattle.child_end.specs.Wires.{IsOfStart, came}
 use Rattle.gathering.specs.Laws.{Distinct, children_of}
 use Rattle.gathering.specs.Rounds.{LinkValue}
 use Rattle.lone_rounds.specs.Stints.{AreUpTo}
@@ -19,17 +16,8 @@ use Rattle.pool_starts.specs.Pools.{AreSeated, OverBy, SeatValue, Serves, is_amo
 
 -- ---- told and came
 
-pub as_many : (program : List ℕ) (journal : List Entry) → length (told program journal) ≡ length (came journal)
-as_many program [] = refl
-as_many program (e ∷ journal) = go e.what (as_many program journal)
-  where
-    go : (w : What) → length (told program journal) ≡ length (came journal) → length (cons_option (told_in program w) (told program journal)) ≡ length (cons_option (came_in w) (came journal))
-    go (Start child slot offer) r = ap (λ (n : ℕ). suc n) r
-    go (NoStart slot) r = ap (λ (n : ℕ). suc n) r
-    go w r = r
-
 -- a start after those that were told
-shifted : (old mid : Option Starts) (told_so : Starts) (k j : ℕ) (n : Option ℕ) → AddsAll old mid told_so → length told_so ≡ k → IsOfStart mid j n → IsOfStart old (j + k) n
+pub shifted : (old mid : Option Starts) (told_so : Starts) (k j : ℕ) (n : Option ℕ) → AddsAll old mid told_so → length told_so ≡ k → IsOfStart mid j n → IsOfStart old (j + k) n
 shifted old mid told_so k j None a e h = tt
 shifted None mid told_so k j (Some n) a e h = tt
 shifted (Some xs) None told_so k j (Some n) a e h = absurd a

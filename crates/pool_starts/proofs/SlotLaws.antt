@@ -18,10 +18,9 @@ use Rattle.journal_model.proofs.Holding.{claimed_append}
 use Rattle.journal_model.proofs.Idling.{claimed_positive}
 use Rattle.journal_model.proofs.Standing.{task_stands}
 use Rattle.journal_model.proofs.Working.{claimed_apart}
-use Rattle.journal_model.proofs.Looks.{any-append, both, each_of-append, either_left, either_right, verdict_of-append}
+use Rattle.journal_model.proofs.Looks.{any-append, each_of-append, verdict_of-append}
 use Rattle.journal_model.proofs.Projecting.{invariant}
 use Rattle.journal_model.proofs.Replying.{slice_get-left}
-use Rattle.journal_model.proofs.Testing.{or_left}
 use Rattle.host_core.specs.Steps.{unclaimed}
 use Rattle.lone_rounds.specs.Starting.{is_any_start, is_ready_untagged}
 use Rattle.lone_rounds.proofs.Tests.{each_without}
@@ -29,6 +28,9 @@ use Rattle.pool_starts.specs.Pools.{changes_claim}
 use Rattle.pool_starts.specs.Slots.{AllInTurn, IsManned, StandsInTurn, begins_by_start, first_in, has_pool, is_first_start, is_ready_pool, is_unclaimed_since, last_slot, slot_of, offers_tags}
 use Rattle.link_roles.proofs.Linked.{any_narrower}
 use Rattle.child_start.proofs.Begun.{later_unstarted}
+use Rattle.ann_key.proofs.Lists.{last_or-append}
+use Rattle.std.proofs.lemmas.Bool.{and_parts as both}
+use Rattle.ann_key.proofs.Booleans.{left_false as either_left, right_false as either_right, or_left}
 
 -- ---- one stretch after another
 
@@ -60,10 +62,6 @@ turn_quiet o jobs past (e ∷ xs) h k = (
 
 -- ---- the last of a kind
 
-last_or-append : {X : Type 0} (d : Option X) (xs ys : List X) → last_or d (xs ++ ys) ≡ last_or (last_or d xs) ys
-last_or-append d [] ys = refl
-last_or-append d (x ∷ xs) ys = last_or-append (Some x) xs ys
-
 -- what the last entry of a kind says stays where none of that kind follows
 pub last_same : {X : Type 0} (f : What → Option X) (past more : List Entry) → each_of f more ≡ [] → last_or None (each_of f (past ++ more)) ≡ last_or None (each_of f past)
 last_same f past more none = ap (last_or None) (each_of-append f past more) ∙ last_or-append None (each_of f past) (each_of f more) ∙ ap (last_or (last_or None (each_of f past))) none
@@ -73,7 +71,7 @@ slotless (Start child slot offer) h = absurd cc
 slotless (NoStart slot) h = absurd cc
 slotless w h = refl
 
-unfirst : (w : What) → is_first_start w ≡ false → first_in w ≡ None
+pub unfirst : (w : What) → is_first_start w ≡ false → first_in w ≡ None
 unfirst (Start child slot offer) h = rw h refl
 unfirst (NoStart slot) h = rw h refl
 unfirst w h = refl
@@ -188,7 +186,7 @@ pub manned_on : (o : Opening) (jobs : ℕ) (past more : List Entry) → any is_a
 manned_on o jobs past more none leaves pool h = λ later. filled_on o jobs past more none leaves (h pool)
 
 -- entries without starts, where each claim among them may stand
-turn_where : (o : Opening) (jobs : ℕ) (past xs : List Entry) → any is_any_start xs ≡ false → ((front rest : List Entry) → xs ≡ front ++ rest → IsManned o jobs (past ++ front)) → AllInTurn o jobs past xs
+pub turn_where : (o : Opening) (jobs : ℕ) (past xs : List Entry) → any is_any_start xs ≡ false → ((front rest : List Entry) → xs ≡ front ++ rest → IsManned o jobs (past ++ front)) → AllInTurn o jobs past xs
 turn_where o jobs past [] none f = tt
 turn_where o jobs past (e ∷ xs) none f = (
   one e.what (either_left (is_any_start e.what) (any is_any_start xs) none) (subst (IsManned o jobs) (append-nil past) (f [] (e ∷ xs) refl)),
@@ -246,7 +244,7 @@ turn_tagged o jobs past xs c legal first tag none = turn_where o jobs past xs no
 
 -- ---- a child to which ASYNC wasn't offered
 
-offered_starts : (c : ℕ) (w : What) → offers c w ≡ true → starts c w ≡ true
+pub offered_starts : (c : ℕ) (w : What) → offers c w ≡ true → starts c w ≡ true
 offered_starts c (Start child slot offer) h = (both (child == c) offer h).0
 offered_starts c w h = absurd cc
 

@@ -1,6 +1,6 @@
 -- How a pool stands from one slot to the next.
 use Rattle.std.proofs.Common.{◌≡◌, ℕ, zero, suc, ◌+◌, ◌<◌, ◌≤◌, List, [], ◌∷◌, ◌++◌, refl, sym, ap, subst, ◌∙◌, append_assoc, append-nil, length, length-append, Bool, true, false, not, ◌==◌, Some, None, Option, arith, inl, inr}
-use Rattle.std.specs.Prelude.{◌&&◌, ◌||◌, All, is_some, unwrap_or}
+use Rattle.std.specs.Prelude.{◌||◌, All, is_some, unwrap_or}
 use Rattle.std.specs.List.{cons_option, last_or, list_all}
 use Rattle.std.proofs.lemmas.List.Elements.{All-append, All-cons, All-head, All-nil, All-tail}
 use Rattle.ann_outside.specs.Starts.{Starts}
@@ -12,8 +12,8 @@ use Rattle.journal_model.specs.Journal.{any, asks, each_of, is_ended, is_tagged,
 use Rattle.journal_model.specs.Legality.{Legal, count, is_busy, is_prepared, is_start}
 use Rattle.journal_model.specs.Shares.{is_of_child}
 use Rattle.journal_model.proofs.Holding.{holder_append}
-use Rattle.journal_model.proofs.Looks.{any-append, both, differ, each_of-append, either_left, either_right}
-use Rattle.journal_model.proofs.Testing.{all-each, all-join, by_either, neither, or_left, or_right}
+use Rattle.journal_model.proofs.Looks.{any-append, each_of-append}
+use Rattle.journal_model.proofs.Testing.{all-each, all-join, by_either}
 use Rattle.host_core.specs.Steps.{unclaimed}
 use Rattle.child_start.proofs.Jobs.{idle_on}
 use Rattle.child_end.specs.Programs.{AddsAll, HaveStarted, ProgramsValue, RoseBy, is_failed_start, told, told_in}
@@ -26,15 +26,18 @@ use Rattle.lone_rounds.specs.Rounds.{AllLostWell, IsLostIn, is_of_run}
 use Rattle.lone_rounds.specs.Stints.{AreUpTo, main_entry, next_child}
 use Rattle.lone_rounds.proofs.Apart.{ended_on, ready_same}
 use Rattle.lone_rounds.proofs.Losing.{lost_both}
-use Rattle.lone_rounds.proofs.Leaving.{adds_both, none_told, rose_both}
-use Rattle.lone_rounds.proofs.Tests.{UpTo, any_none, children_up_to, count-append, count_none, no_children, none_came, up_to_both, up_to_more}
+use Rattle.lone_rounds.proofs.Leaving.{adds_both, none_told, rose_both, as_many}
+use Rattle.lone_rounds.proofs.Tests.{UpTo, any_none, children_up_to, no_children, none_came, up_to_both, up_to_more}
 use Rattle.crew_rounds.specs.PoolChildren.{MayServe, PoolCan}
 use Rattle.pool_starts.specs.Pools.{AreSeated, Gathered, GathersBy, IsPool, OverBy, SeatValue, Serves, is_among, changes_claim}
 use Rattle.pool_starts.specs.Seats.{IsSlotStart, SeatsOne}
 use Rattle.pool_starts.specs.Slots.{AllInTurn, IsInSlot, IsNextSlot, StandsInTurn, begins_by_start, has_pool, in_pool, is_first_start, is_ready_pool, is_unclaimed_since, last_slot, offers_tags, slot_of}
-use Rattle.pool_starts.proofs.Own.{AreShut, low, own_apart, own_claims, own_pool, own_rests, own_starts, own_tags, prepared_apart, prepared_low, rest_shut, serve_on, shut_on, shut_open}
-use Rattle.pool_starts.proofs.Seating.{among_both, as_many, distinct_more, links_low, seated_behind, seated_both, seated_on, up_both, up_more}
+use Rattle.pool_starts.proofs.Own.{AreShut, own_apart, own_claims, own_pool, own_rests, own_starts, own_tags, prepared_apart, prepared_low, rest_shut, serve_on, shut_on, shut_open}
+use Rattle.pool_starts.proofs.Seating.{among_both, distinct_more, links_low, seated_behind, seated_both, seated_on, up_both, up_more}
 use Rattle.pool_starts.proofs.SlotLaws.{first_same, last_first, left_same, none_first, pool_of, since_same, slot_same, turn_both, turn_quiet}
+use Rattle.ann_key.proofs.Booleans.{false_is_true as not_yet, and_false as false_and, left_false as either_left, right_false as either_right, or_neither as neither, or_left, or_right}
+use Rattle.std.proofs.lemmas.Bool.{and_parts as both, ne_eqb as differ, le-leb as low}
+use Rattle.journal_model.proofs.Working.{count-append, count_none}
 
 -- ---- the start itself
 
@@ -63,10 +66,6 @@ last_one f x past w e = ap (last_or None) (each_of-append f past (main_entry w �
     last_or-behind : {Y : Type 0} (d : Option Y) (ys : List Y) (y : Y) → last_or d (ys ++ y ∷ []) ≡ Some y
     last_or-behind d [] y = refl
     last_or-behind d (z ∷ ys) y = last_or-behind (Some z) ys y
-
-false_and : (b : Bool) → (b && false) ≡ false
-false_and true = refl
-false_and false = refl
 
 pub says_slot : (slot : ℕ) (past : List Entry) (first : What) → IsSlotStart slot past first → SaysSlot slot past first
 says_slot slot past first (inl e) = subst (SaysSlot slot past) (sym e) record {
@@ -143,9 +142,6 @@ serve_all o past more most legal apart (l ∷ links) u ones all =
     All-cons (MayServe o (past ++ more)) l links
     (serve_on o past more l legal (All-head (λ (x : LinkValue). x.mouth.child ≡ x.ear.child) l links ones) (apart l.ear.child u.0) (All-head (MayServe o past) l links all))
     (serve_all o past more most legal apart links u.1 (All-tail (λ (x : LinkValue). x.mouth.child ≡ x.ear.child) l links ones) (All-tail (MayServe o past) l links all))
-
-not_yet : {A : Type 0} → false ≡ true → A
-not_yet h = absurd (let bad : false ≡ true = h in cc)
 
 -- what holds of each child up to a number
 all_low : (n : ℕ) (p q : ℕ → Bool) → ((d : ℕ) → d ≤ n → p d ≡ true → q d ≡ true) → (ds : List ℕ) → UpTo n ds → list_all p ds ≡ true → list_all q ds ≡ true

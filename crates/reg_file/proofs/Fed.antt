@@ -14,8 +14,8 @@ use Rattle.reg_file.specs.Tables.{Texts, by_bytes, put, without, Rises}
 use Rattle.reg_file.specs.Links.{by_link, with_link, LinksRise}
 use Rattle.reg_file.specs.Registers.{RegisterFile, nothing_set, IsKept}
 use Rattle.reg_file.specs.RegLines.{ConfigLine, StateLine, UrlLine, wanted_lines, lines_of, later_lines_of, keyed_lines_of, set_by_line, set_by_lines}
-use Rattle.reg_file.proofs.LinkLists.{both}
 use Rattle.reg_file.proofs.Settings.{links_total}
+use Rattle.std.proofs.lemmas.Bool.{and_parts as both}
 
 one_by_one : {A : Type 0} (xs : List A) (x : A) (ys : List A) → (xs ++ x ∷ []) ++ ys ≡ xs ++ x ∷ ys
 one_by_one [] x ys = refl

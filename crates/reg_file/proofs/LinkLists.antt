@@ -1,6 +1,5 @@
 -- A set of pairs of vectors, read as links.
 use Rattle.std.proofs.Common.{◌≡◌, ℕ, Bool, true, false, cond, not, ◌&&◌, List, [], ◌∷◌, Vec, bytes_eq, nat_eq, filter, map, sym, ap, subst, refl, ◌∙◌}
-use mathlib.Core.Bool.{false≢true}
 use Rattle.std.specs.declared.alloc.Global.{Global}
 use Rattle.std.specs.declared.cmp.Ordering.{Ordering}
 use Rattle.std.specs.declared.cmp.Ordering.TheVariants.{Less, Equal, Greater}
@@ -12,7 +11,9 @@ use Rattle.std.specs.List.{AllZip, AllByRecursion, starts_with}
 use Rattle.std.specs.List.Sorted.{IsStrictlySortedBy}
 use Rattle.reg_file.specs.Tables.{Texts, by_bytes}
 use Rattle.reg_file.specs.Links.{by_link, LinksRise, is_link, with_link, without_link, urls_at, link_of, links_of}
-use Rattle.reg_file.proofs.Tables.{is_eq-by_bytes, same_bytes, IsVecCopy, items_of_copy}
+use Rattle.reg_file.proofs.Tables.{is_eq-by_bytes, IsVecCopy, items_of_copy}
+use Rattle.std.proofs.lemmas.Bool.{and_parts as both}
+use Rattle.ann_key.proofs.Lists.{equal_bytes as same_bytes}
 
 abbrev pub Link : Type 0
 Link = Vec ℕ Global × Vec ℕ Global
@@ -51,10 +52,6 @@ keeps_all : (x : List ℕ × List ℕ) (links : Texts) → AllByRecursion (λ y.
 keeps_all x [] h = refl
 keeps_all x (l ∷ ls) h =
     ap (λ b. cond (not b) (l ∷ without_link ls x.0 x.1) (without_link ls x.0 x.1)) (sym (is_eq-by_link x l) ∙ ap is_eq h.0) ∙ ap (λ rest. l ∷ rest) (keeps_all x ls h.1)
-
-pub both : (a b : Bool) → (a && b) ≡ true → (a ≡ true) × (b ≡ true)
-both true b h = (refl, h)
-both false b h = absurd (false≢true h)
 
 pub same_link : (key url : List ℕ) (l : List ℕ × List ℕ) → is_link key url l ≡ true → (key, url) ≡ l
 same_link key url l h = let parts = both _ _ h in λ i. (same_bytes key l.0 parts.0 i, same_bytes url l.1 parts.1 i)

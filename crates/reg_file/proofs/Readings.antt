@@ -12,9 +12,10 @@ use Rattle.reg_file.specs.Links.{by_link, is_link, has_link, urls_at, LinksRise}
 use Rattle.reg_file.specs.Registers.{RegisterFile, IsKept, is_line, state_of, has_url, with_state, with_url}
 use Rattle.reg_file.specs.RegLines.{ConfigLine, StateLine, UrlLine, wanted_lines, keyed_lines_of, later_lines_of, lines_of, is_fit}
 use Rattle.std.proofs.lemmas.List.Folds.{list_all-append, list_all-map}
-use Rattle.reg_file.proofs.Tables.{value_at-put, value_at-without, same_bytes}
-use Rattle.reg_file.proofs.LinkLists.{both}
-use Rattle.reg_file.proofs.Settings.{both_true, has_link-with_link, has_link-without_link}
+use Rattle.reg_file.proofs.Tables.{value_at-put, value_at-without}
+use Rattle.reg_file.proofs.Settings.{has_link-with_link, has_link-without_link}
+use Rattle.ann_key.proofs.Lists.{equal_bytes as same_bytes}
+use Rattle.std.proofs.lemmas.Bool.{and_parts as both, and_from as both_true}
 
 unwrapped : {A : Type 0} (b : Bool) (v d : A) (o : Option A) → unwrap_or (cond b (Some v) o) d ≡ cond b v (unwrap_or o d)
 unwrapped true v d o = refl

@@ -9,13 +9,13 @@ use Rattle.std.specs.List.Sorted.{IsStrictlySortedBy}
 use Rattle.ann_key.specs.Keys.{is_key}
 use Rattle.reg_file.specs.Tables.{Texts, by_bytes, value_at, put, without}
 use Rattle.reg_file.specs.Links.{by_link, is_link, has_link, with_link, without_link}
-use Rattle.std.proofs.Common.{arith}
-use Rattle.std.proofs.lemmas.Bool.Decides.{nat_tests}
 use Rattle.std.proofs.lemmas.Cmp.{nat_list_cmp_total, then_total, on_total}
 use Rattle.reg_file.specs.Registers.{RegisterFile, nothing_set, has_url, SetsOnly, SetsConfig, SetsCreds, SetsWanted, SetsState, SetsUrl, with_config, with_creds, with_wanted, with_state, with_url, is_line, is_word, is_key_word, IsKept}
-use Rattle.reg_file.proofs.Tables.{same_bytes, itself, value_at-put, value_at-without}
-use Rattle.reg_file.proofs.LinkLists.{same_link, both, is_eq-by_link}
+use Rattle.reg_file.proofs.Tables.{value_at-put, value_at-without}
+use Rattle.reg_file.proofs.LinkLists.{same_link, is_eq-by_link}
 use Rattle.reg_file.proofs.Orders.{sorted-insert_entry, sorted-insert_key, sorted-filter, sorted-filter_keys}
+use Rattle.std.proofs.lemmas.Bool.{and_from as both_true, and_parts as both}
+use Rattle.ann_key.proofs.Lists.{filled, equal_bytes as same_bytes, same_name as itself}
 
 -- from what a call did where it succeeds, and from what it left where it doesn't
 pub settled : {A E P Q : Type 0} (G : Type 0) (r : Result A E) → OnOk r P → OnErr r Q → (P → G) → (Q → G) → G
@@ -127,9 +127,6 @@ sets_url r key url false = record {
 }
 
 -- ---- the texts of each register stay in their classes
-pub both_true : (a b : Bool) → a ≡ true → b ≡ true → (a && b) ≡ true
-both_true a b p q = λ i. p i && q i
-
 module _ {X : Type 0} (p : List ℕ → Bool) (q : X → Bool) where
   abbrev pub pass : List (List ℕ × X) → Bool
   pass es = list_all (λ e. p e.0 && q e.1) es
@@ -175,10 +172,6 @@ key_word key spelled word = both_true _ _ word spelled
 
 pub links_total : IsTotalOrder by_link
 links_total = then_total (on_total (λ (l : List ℕ × List ℕ). l.0) nat_list_cmp_total) (on_total (λ (l : List ℕ × List ℕ). l.1) nat_list_cmp_total)
-
-filled : (value : List ℕ) → (length value == 0) ≡ false → nat_lt 0 (length value) ≡ true
-filled [] h = absurd (false≢true (sym h))
-filled (b ∷ bytes) h = grind (arith, nat_tests)
 
 module _ (r : RegisterFile) (kept : IsKept r) where
   pub kept_config : (name value : List ℕ) → is_word name ≡ true → is_line value ≡ true → IsKept (with_config r name value)

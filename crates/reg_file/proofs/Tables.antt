@@ -4,11 +4,9 @@ use mathlib.Core.Bool.{false≢true}
 use Rattle.std.specs.declared.cmp.Ordering.{Ordering}
 use Rattle.std.specs.declared.cmp.Ordering.TheVariants.{Less, Equal, Greater}
 use Rattle.std.specs.Ordering.{match_ordering, is_eq}
-use Rattle.std.specs.Cmp.Lexicographic.{same_text}
 use Rattle.std.specs.Map.{lookup, keys_of, remove_entry}
 use Rattle.std.specs.List.{AllByRecursion, AllZip}
 use Rattle.std.specs.List.Sorted.{IsStrictlySortedBy}
-use Rattle.std.proofs.lemmas.Cmp.{nat_list_cmp_total, tied_itself}
 use Rattle.std.proofs.lemmas.Map.Text.{is_eq-slice_cmp}
 use Rattle.std.specs.declared.alloc.Global.{Global}
 use Rattle.std.specs.Option.{option_map}
@@ -16,6 +14,7 @@ use Rattle.std.specs.BTreeMap.{insert_entry, is_at}
 use Rattle.std.proofs.Common.{Vec}
 use Rattle.reg_file.specs.Tables.{by_bytes, Rises, value_at, put, without, texts_of}
 use Rattle.reg_file.proofs.Seen.{lookup-seen, insert_entry-seen, remove_entry-seen, rises-seen, seen_copies}
+use Rattle.ann_key.proofs.Lists.{equal_bytes as same_bytes}
 
 -- one test, as the order and as `==` write it
 pub is_eq-by_bytes : (x y : List ℕ) → is_eq (by_bytes x y) ≡ bytes_eq x y
@@ -26,13 +25,6 @@ unlike x y e h = sym (is_eq-by_bytes x y) ∙ ap is_eq e ∙ h
 
 pub alike : (x y : List ℕ) → by_bytes x y ≡ Equal → bytes_eq x y ≡ true
 alike x y e = sym (is_eq-by_bytes x y) ∙ ap is_eq e
-
--- what is equal by `==` is the same
-pub same_bytes : (x y : List ℕ) → bytes_eq x y ≡ true → x ≡ y
-same_bytes x y h = same_text x y (sym h)
-
-pub itself : (x : List ℕ) → bytes_eq x x ≡ true
-itself x = alike x x (tied_itself nat_list_cmp_total x)
 
 -- one text is not both of two others
 apart : (x y q : List ℕ) → bytes_eq x y ≡ false → bytes_eq q y ≡ true → bytes_eq q x ≡ true → ⊥

@@ -7,27 +7,26 @@ use Rattle.ann_outside.specs.Starts.{Starts}
 use Rattle.journal_model.specs.declared.verdict.Why.{Why}
 use Rattle.journal_model.specs.declared.verdict.Why.TheVariants.{Eof, ReadFault, LongLine, Full, Memory, Closed, Foul, Error, Version}
 use Rattle.journal_model.specs.declared.verdict.Verdict.{Verdict}
-use Rattle.journal_model.specs.declared.verdict.Verdict.TheVariants.{Ended}
 use Rattle.journal_model.specs.declared.entry.What.{What}
-use Rattle.journal_model.specs.declared.entry.What.TheVariants.{Claim, Start, NoStart, Ask, Put, Sent, Mute, Got, End, Verdict as Settled, Lost, Answer as Answered, Note as Noted}
+use Rattle.journal_model.specs.declared.entry.What.TheVariants.{Claim, Start, NoStart, Ask, Put, Sent, Mute, End, Verdict as Settled, Lost, Answer as Answered, Note as Noted}
 use Rattle.journal_model.specs.declared.entry.Entry.{Entry}
 use Rattle.journal_model.specs.declared.opening.Opening.{Opening}
 use Rattle.journal_model.specs.Due.{due_after, due_by, made_by}
-use Rattle.journal_model.specs.Journal.{any, ends, is_ended, is_live, is_mute, is_started, mutes, open_jobs, starts, why_of}
+use Rattle.journal_model.specs.Journal.{any, ends, is_ended, is_live, is_mute, is_started, mutes, starts, why_of}
 use Rattle.journal_model.specs.Legality.{Legal, count, may_come, may_stop}
 use Rattle.journal_model.proofs.Fresh.{fresh}
 use Rattle.journal_model.proofs.Growing.{Near, Legal-induction}
 use Rattle.journal_model.proofs.Linking.{why_alone, why_of-append}
-use Rattle.journal_model.proofs.Looks.{any-append, both, either_left, either_right, same, same_number}
-use Rattle.journal_model.proofs.Soft.{is_soft, soft_got, soft_mute, soft_verdicts}
+use Rattle.journal_model.proofs.Looks.{any-append}
+use Rattle.journal_model.proofs.Soft.{is_soft}
 use Rattle.child_end.specs.Programs.{RoseBy, is_failed_start}
 use Rattle.child_end.specs.Wires.{AreWires, IsWire, WireValue, came, came_in, wire_value}
 use Rattle.link_roles.specs.declared.wire.Wire.{Wire}
 use Rattle.rehearse_run.specs.Rehearsals.{is_fault}
-
-not_both : {A : Type 0} (b : Bool) → b ≡ true → b ≡ false → A
-not_both true h k = absurd cc
-not_both false h k = absurd cc
+use Rattle.ann_key.proofs.Booleans.{true_and_false as not_both, left_false as either_left, right_false as either_right}
+use Rattle.journal_model.proofs.Bounds.{due_soft}
+use Rattle.std.proofs.lemmas.Bool.{and_parts as both, eqb-true as same_number}
+use Rattle.ann_key.proofs.Numbers.{same_number as same}
 
 -- ---- an end by a fault of reading
 
@@ -50,13 +49,6 @@ soft_quiet by (w ∷ ws) h = let t = both (is_soft w) (list_all is_soft ws) h in
     one (End child (Error at)) s = refl
     one (End child (Version at)) s = refl
     one w s = refl
-
--- what an entry makes due is soft
-due_soft : (o : Opening) (past : List Entry) (w : What) → list_all is_soft (due_by o past w) ≡ true
-due_soft o past (Got c line) = soft_got o past c line
-due_soft o past (End c why) = soft_verdicts c (Ended why) (open_jobs past c)
-due_soft o past (Mute c) = soft_mute o past c
-due_soft o past w = refl
 
 first_why : (a b : Option Why) (why : Why) → a ≡ Some why → option_or a b ≡ Some why
 first_why a b why h = rw h refl

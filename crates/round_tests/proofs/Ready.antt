@@ -7,14 +7,14 @@ use Rattle.task_text.specs.declared.task.Task.{Task}
 use Rattle.task_text.specs.TaskLines.{IsTask}
 use Rattle.journal_model.specs.declared.verdict.Why.TheVariants.{Closed}
 use Rattle.journal_model.specs.declared.entry.What.{What}
-use Rattle.journal_model.specs.declared.entry.What.TheVariants.{Ask, End}
+use Rattle.journal_model.specs.declared.entry.What.TheVariants.{Ask}
 use Rattle.journal_model.specs.declared.entry.Entry.{Entry}
 use Rattle.journal_model.specs.declared.opening.Opening.{Opening}
 use Rattle.journal_model.specs.Halves.{EarValue, MouthValue}
 use Rattle.journal_model.specs.Journal.{asks, asked_jobs, is_ended, is_open, is_tagged, open_jobs, why_of}
 use Rattle.journal_model.specs.Legality.{Legal}
 use Rattle.journal_model.proofs.Linking.{unended}
-use Rattle.journal_model.proofs.Looks.{both, same_number, unasked_closed}
+use Rattle.journal_model.proofs.Looks.{unasked_closed}
 use Rattle.journal_model.proofs.Testing.{all-each, by_either}
 use Rattle.link_roles.specs.Writings.{LoneWired}
 use Rattle.child_start.specs.Greetings.{Greeted, IsReady, is_greeting_line_for, is_of_greeting}
@@ -22,18 +22,16 @@ use Rattle.child_start.specs.declared.greeting.Mode.TheVariants.{Serve}
 use Rattle.lone_work.specs.KnownLayouts.{IsBook}
 use Rattle.lone_work.specs.Works.{AreTasks, CanWork}
 use Rattle.lone_rounds.specs.Starting.{is_unclosed}
-use Rattle.lone_rounds.proofs.Apart.{ended_unclosed, is_unclosed_end, link_unclosed}
+use Rattle.lone_rounds.proofs.Apart.{ended_unclosed, is_unclosed_end}
 use Rattle.lone_rounds.proofs.Stinting.{greeting_works}
 use Rattle.lone_rounds.proofs.Tests.{each_none}
 use Rattle.crew_rounds.specs.Tagged.{TaggedCan, link_of}
+use Rattle.lone_rounds.proofs.Served.{greeting_unclosed}
+use Rattle.std.proofs.lemmas.Bool.{and_parts as both, eqb-true as same_number}
 
 pub are_tasks : (tasks : List Task) → All IsTask tasks → AreTasks tasks
 are_tasks [] all = tt
 are_tasks (task ∷ tasks) all = (All-head IsTask task tasks all, are_tasks tasks (All-tail IsTask task tasks all))
-
-greeting_unclosed : (c : ℕ) (w : What) → is_of_greeting c w ≡ true → is_unclosed_end w ≡ true
-greeting_unclosed c (End child why) h = link_unclosed c (End child why) h
-greeting_unclosed c w h = refl
 
 -- a greeting asks its own child alone
 asks_own : (c d : ℕ) → (c == d) ≡ false → (w : What) → is_of_greeting c w ≡ true → asks d w ≡ None

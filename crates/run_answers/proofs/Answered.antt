@@ -11,16 +11,10 @@ use Rattle.journal_model.specs.declared.opening.Opening.{Opening}
 use Rattle.journal_model.specs.Journal.{each_of, first_of}
 use Rattle.journal_model.specs.Legality.{Legal, answers, is_answered, is_busy, is_claimed, numbers_of}
 use Rattle.journal_model.proofs.Holding.{held_unanswered}
-use Rattle.journal_model.proofs.Looks.{both}
 use Rattle.host_core.specs.Steps.{are_all_claimed}
 use Rattle.run_answers.specs.Answers.{answer_for, answer_of}
 use Rattle.run_answers.specs.Answering.{AreAllAnswered, HoldsAnswers}
-
-all_still : {X : Type 0} (p q : X → Bool) → ((x : X) → p x ≡ true → q x ≡ true) → (xs : List X) → list_all p xs ≡ true → list_all q xs ≡ true
-all_still p q more [] h = refl
-all_still p q more (x ∷ xs) h =
-    let here = both (p x) (list_all p xs) h in
-    rw (more x here.0, all_still p q more xs here.1) refl
+use Rattle.ann_key.proofs.Lists.{all_still}
 
 answer_given : (t : ℕ) (journal : List Entry) → is_some (answer_of journal t) ≡ is_answered journal t
 answer_given t [] = refl

@@ -11,13 +11,14 @@ use Rattle.journal_model.specs.declared.answer.Answer.{Answer}
 use Rattle.journal_model.specs.declared.entry.What.TheVariants.{Answer as Answered}
 use Rattle.journal_model.specs.declared.entry.Entry.{Entry}
 use Rattle.journal_model.specs.Journal.{first_of, each_of}
-use Rattle.journal_model.proofs.Looks.{first_of-append, each_of-append, or_none, differ}
+use Rattle.journal_model.proofs.Looks.{first_of-append, each_of-append, or_none}
 use Rattle.journal_scan.specs.Shown.{what_shown, entry_shown}
 use Rattle.journal_scan.specs.declared.entry.WhatRef.{WhatRef}
 use Rattle.journal_scan.specs.declared.entry.WhatRef.TheVariants.{Answer as AnswerRef}
 use Rattle.journal_scan.specs.declared.entry.EntryRef.{EntryRef}
 use Rattle.run_answers.specs.Answers.{answer_for, answer_of}
 use Rattle.run_answers.specs.Answering.{HoldsAnswers, TakesUp}
+use Rattle.std.proofs.lemmas.Bool.{ne_eqb as differ}
 
 -- ---- one entry more
 

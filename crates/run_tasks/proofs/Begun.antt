@@ -130,7 +130,7 @@ is_ready words clock told flow k tasks stamp opening h input at is = record {
 -- ---- what a run may begin with
 
 -- a line whose number is above the limit is refused
-unrefused : (limits : Limits) (n : ℕ) (line : List ℕ) → reason_of limits n line ≡ None → n ≤ limits.lines
+pub unrefused : (limits : Limits) (n : ℕ) (line : List ℕ) → reason_of limits n line ≡ None → n ≤ limits.lines
 unrefused limits n line h = go (nat_lt limits.lines n) refl
   where
     go : (b : Bool) → nat_lt limits.lines n ≡ b → n ≤ limits.lines
@@ -149,7 +149,7 @@ few_lines limits n (line ∷ lines) h within =
     let rest : n + 1 + length lines ≤ limits.lines + 1 = few_lines limits (n + 1) lines both.1 (omega (arith, here)) in
     omega (arith, rest)
 
-none_large : (large : Bool) (n : ℕ) (r : Option (ℕ × Reason)) → or_large large n r ≡ None → (large ≡ false) × (r ≡ None)
+pub none_large : (large : Bool) (n : ℕ) (r : Option (ℕ × Reason)) → or_large large n r ≡ None → (large ≡ false) × (r ≡ None)
 none_large true n (Some x) h = absurd cc
 none_large true n None h = absurd cc
 none_large false n (Some x) h = absurd cc
@@ -160,7 +160,7 @@ none_refused limits bytes h =
     let none = none_large (is_large limits bytes) (length (lines_within limits bytes)) (first_refused limits 1 (lines_within limits bytes)) h in
     sym (ap (λ (b : Bool). first_refused limits 1 (cond {A = List (List ℕ)} b (lines_of false (take limits.bytes bytes)) (lines_of true bytes))) none.0) ∙ none.1
 
-few_tasks : (limits : Limits) (bytes : List ℕ) (tasks : List Task) → IsInput limits bytes (Ok tasks) → length tasks ≤ limits.lines
+pub few_tasks : (limits : Limits) (bytes : List ℕ) (tasks : List Task) → IsInput limits bytes (Ok tasks) → length tasks ≤ limits.lines
 few_tasks limits bytes tasks h =
     let few : 1 + length (lines_of true bytes) ≤ limits.lines + 1 = few_lines limits 1 (lines_of true bytes) (none_refused limits bytes h.0) (omega arith) in
     let same : length (lines_of true bytes) ≡ length tasks = ap (λ (ls : List (List ℕ)). length ls) h.1.whole ∙ length-map tasks line_of in

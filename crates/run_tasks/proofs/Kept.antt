@@ -36,7 +36,7 @@ keeps_unnamed words told table o journal e same = unnamed words told table o jou
 
 -- ---- what was written
 
-rises : (faults faults' : ℕ) → Rose faults faults' → Rose 0 faults'
+pub rises : (faults faults' : ℕ) → Rose faults faults' → Rose 0 faults'
 rises faults faults' h = omega (arith, h)
 
 failed : (told : Option Files) (old : Counts) (table : TableValue) → Rose old.faults table.counts.faults ⊎ ((told ≡ None) × Rose old.missing table.counts.missing) → HasFailed told table

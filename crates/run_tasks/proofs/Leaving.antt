@@ -1,9 +1,8 @@
 -- What is left of a run's programs, and which desks were asked for.
-use Rattle.std.proofs.Common.{◌≡◌, ◌≤◌, ◌+◌, inl, inr, ℕ, suc, zero, List, [], ◌∷◌, ◌++◌, length, append_assoc, refl, sym, ap, subst, ◌∙◌, arith, true, false, Some, None, Option, Ok}
+use Rattle.std.proofs.Common.{◌≡◌, ◌≤◌, ◌+◌, inl, inr, ℕ, suc, List, [], ◌∷◌, ◌++◌, length, append_assoc, refl, sym, ap, subst, ◌∙◌, arith, true, false, Some, None, Option, Ok}
 use Rattle.std.specs.Prelude.{Result, IsErr, map}
 use Rattle.std.specs.List.{range_with_len}
 use Rattle.std.proofs.lemmas.List.{append-nil, length-append, map-append}
-use Rattle.ann_outside.specs.Starts.{Starts}
 use Rattle.ann_outside.specs.Calls.{IsLogFrom, log_origin}
 use Rattle.ann_outside.specs.Causes.{AddsOne, Stays}
 use Rattle.ann_outside.specs.Desks.{Made}
@@ -11,17 +10,14 @@ use Rattle.journal_model.specs.declared.entry.Entry.{Entry}
 use Rattle.journal_model.specs.Legality.{count}
 use Rattle.child_end.specs.Wires.{WireValue, AreWires, came}
 use Rattle.child_end.specs.Programs.{ProgramsValue, told, AddsAll, HaveStarted, Leaves, RoseBy, is_failed_start}
-use Rattle.lone_rounds.proofs.Leaving.{rose_still}
+use Rattle.lone_rounds.proofs.Leaving.{rose_still, adds_none}
 use Rattle.child_end.specs.Outsides.{TableValue}
 use Rattle.run_tasks.specs.Runs.{AddsMade, BeganAs}
 use Rattle.run_tasks.specs.Workings.{AddsWorkers}
 use Rattle.run_tasks.proofs.Origins.{began_more, began_same}
+use Rattle.ann_key.proofs.Lists.{range_next as range_more}
 
 -- ---- programs
-
-adds_none : (t : Option Starts) → AddsAll t t []
-adds_none None = tt
-adds_none (Some xs) = sym (append-nil xs)
 
 -- nothing was started
 pub leaves_nothing : (W : Type 0) (programs : ProgramsValue) (program : List ℕ) (journal : List Entry) (wires : List WireValue) → journal ≡ [] → wires ≡ []
@@ -96,12 +92,6 @@ made_more None (Some ys) new more m h a = absurd h
 made_more (Some xs) None new more m h a = absurd h
 made_more (Some xs) (Some ys) None more m h a = absurd a
 made_more (Some xs) (Some ys) (Some zs) more m h a = a ∙ ap (λ (v : List Made). v ++ m ∷ []) h ∙ append_assoc xs more (m ∷ [])
-
-range_more : (a n : ℕ) → range_with_len a (suc n) ≡ range_with_len a n ++ (a + n) ∷ []
-range_more a zero = let e : a ≡ a + 0 = omega arith in ap (λ (k : ℕ). k ∷ []) e
-range_more a (suc n) =
-    let e : a + 1 + n ≡ a + suc n = omega arith in
-    ap (λ (ks : List ℕ). a ∷ ks) (range_more (a + 1) n ∙ ap (λ (k : ℕ). range_with_len (a + 1) n ++ k ∷ []) e)
 
 -- the next one was asked for
 pub adds_worker : (n : ℕ) (old mid new : Option (List Made)) (workers workers' : List TableValue) (table : TableValue) (m : Made) → length workers ≡ n → workers' ≡ workers ++ table ∷ [] → m.number ≡ n + 1

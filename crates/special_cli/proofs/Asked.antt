@@ -14,10 +14,13 @@ use Rattle.journal_model.specs.Journal.{any, asks, offers, asked_jobs, open_jobs
 use Rattle.journal_model.specs.Due.{due_by, due_by_got, due_after, made_by}
 use Rattle.journal_model.specs.Legality.{Legal, may_come, asks_in_turn, asks_prepare, is_in_turn, offered_names}
 use Rattle.journal_model.proofs.Growing.{Legal-induction}
-use Rattle.journal_model.proofs.Looks.{both, same_number, either_left, each_of-append, any-append}
+use Rattle.journal_model.proofs.Looks.{each_of-append, any-append}
 use Rattle.journal_model.proofs.Soft.{is_soft, soft_got, soft_mute, soft_verdicts}
 use Rattle.child_start.specs.Greetings.{is_greeting_line}
 use Rattle.info_run.specs.Askings.{line_to, asked_lines}
+use Rattle.journal_model.proofs.Closing.{soft_asks as soft_jobs}
+use Rattle.std.proofs.lemmas.Bool.{and_parts as both, eqb-true as same_number}
+use Rattle.ann_key.proofs.Booleans.{left_false as either_left}
 
 -- ---- one request of the greeting
 
@@ -72,13 +75,6 @@ next_line past c (suc (suc k)) line r plain early h = absurd (let bad : true ≡
     no_third a b p e f = rw (e, f) refl
 
 -- ---- what a group asks
-
-soft_jobs : (c by : ℕ) (ws : List What) → list_all is_soft ws ≡ true → asked_jobs (made_by by ws) c ≡ []
-soft_jobs c by [] h = refl
-soft_jobs c by (Settled child job verdict ∷ ws) h = soft_jobs c by ws h
-soft_jobs c by (Put child job line ∷ ws) h = soft_jobs c by ws h
-soft_jobs c by (End child why ∷ ws) h = soft_jobs c by ws (both (is_soft (End child why)) (list_all is_soft ws) h).1
-soft_jobs c by (w ∷ ws) h = absurd cc
 
 soft_lines : (c by : ℕ) (ws : List What) → list_all is_soft ws ≡ true → asked_lines (made_by by ws) c ≡ []
 soft_lines c by [] h = refl

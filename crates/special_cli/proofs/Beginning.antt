@@ -4,11 +4,11 @@ use Rattle.journal_model.specs.declared.entry.What.{What}
 use Rattle.journal_model.specs.declared.entry.What.TheVariants.{Start}
 use Rattle.journal_model.specs.declared.entry.Entry.{Entry}
 use Rattle.journal_model.specs.Journal.{is_started}
-use Rattle.journal_model.proofs.Looks.{same}
 use Rattle.child_start.specs.Greetings.{Greeted}
 use Rattle.lone_rounds.specs.Stints.{main_entry}
 use Rattle.special_cli.specs.Endings.{start_in, starts_in}
 use Rattle.special_cli.proofs.Looking.{Vanishes, greeting_says_none}
+use Rattle.ann_key.proofs.Numbers.{same_number as same}
 
 no_starts : Vanishes start_in
 no_starts = record { put = λ c j l. refl; sent = λ c. refl; mute = λ c. refl; got = λ c l. refl; ended = λ c w. refl; settled = λ c j v. refl; ask = λ c j l. refl; lost = λ c. refl }

@@ -9,7 +9,6 @@ use Rattle.ann_outside.specs.Desks.{Made}
 use Rattle.annex_model.specs.Lines.{text}
 use Rattle.journal_model.specs.declared.answer.Answer.{Answer}
 use Rattle.journal_model.specs.declared.entry.Entry.{Entry}
-use Rattle.journal_model.proofs.Looks.{same_number}
 use Rattle.journal_model.specs.Output.{answer_line}
 use Rattle.info_run.specs.Infos.{info_lines, is_informed}
 use Rattle.special_cli.specs.declared.end.End.{End}
@@ -58,11 +57,11 @@ use Rattle.special_cli.proofs.Leaving.{leaves_as, leaves_nothing}
 use Rattle.special_cli.specs.Tells.{Flow, IsSilent, IsWritten, IsPrintedOr, IsSaidThen, IsUnkeptTold, IsToldOf, answer_lines, answers_status}
 use Rattle.cli_words.specs.declared.command.Command.{Command}
 use Rattle.cli_words.specs.declared.command.Command.TheVariants.{Check, Info, Init, Run, Audit as AuditWord, Rehearse, Walk, Show}
+use Rattle.ann_key.proofs.Booleans.{false_is_true as never}
+use Rattle.ann_key.proofs.Lists.{appends_nothing as appends}
+use Rattle.std.proofs.lemmas.Bool.{eqb-true as same_number}
 
 -- ---- the statuses
-
-never : {A : Type 0} → false ≡ true → A
-never e = absurd cc
 
 -- the statuses that go with an end whose text was written
 wanted_of : End → List ℕ
@@ -216,10 +215,6 @@ seven_or ws status out err (inr h) = inr (go (7 == status) h)
 stays : (t : Option (List ℕ)) → Stays t t
 stays None = tt
 stays (Some x) = refl
-
-appends : (t : Option (List ℕ)) → Appends t t []
-appends None = tt
-appends (Some x) = sym (append-nil x)
 
 silent_appends : (f : Flow) → IsSilent f → Appends f.taken f.taken' []
 silent_appends f h = subst (λ (t : Option (List ℕ)). Appends f.taken t []) (sym h.taken) (appends f.taken)

@@ -34,9 +34,9 @@ use Rattle.child_end.specs.Outsides.{OutsideValue}
 use Rattle.child_end.specs.Programs.{ProgramsValue, Leaves}
 use Rattle.special_cli.specs.Left.{Left, RanValue}
 use Rattle.special_cli.specs.Commands.{EndsCheck, HasChecked, HasNoDesk, IsPrepared}
-use Rattle.special_cli.proofs.Keeping.{leaves_named}
 use Rattle.special_cli.proofs.Leaving.{leaves_as}
 use Rattle.special_cli.specs.Endings.{IsAnswered, IsChecked, check_setup}
+use Rattle.run_tasks.proofs.Leaving.{leaves_named}
 
 -- what a check of a key that isn't refused begins with, and an info
 begins : (o : Opening) → length o.tasks ≤ most_tasks → All IsTask o.tasks → o.identity ≡ nobody → o.again ≤ most_again → MayBegin o

@@ -1,20 +1,14 @@
 -- A run has no more answers than its input may have lines.
-use Rattle.std.proofs.Common.{◌≡◌, ◌∙◌, ◌+◌, ◌≤◌, ℕ, Bool, true, false, cond, List, [], ◌∷◌, length, take, Option, Some, None, Ok, refl, sym, ap, subst, inl, inr, arith}
-use Rattle.std.specs.Prelude.{nat_lt, option_and_then}
-use Rattle.std.proofs.lemmas.Bool.Decides.{nat_tests}
+use Rattle.std.proofs.Common.{◌≡◌, ◌∙◌, ◌+◌, ◌≤◌, ℕ, List, [], ◌∷◌, length, Option, Some, None, refl, sym, ap, inl, inr, arith}
 use Rattle.std.proofs.lemmas.List.{length-map}
 use Rattle.std.proofs.lemmas.List.FromFn.{length-range_with_len}
 use Rattle.ann_outside.specs.Files.{Files}
 use Rattle.keep_desk.specs.declared.writing.KeptWritten.{KeptWritten}
-use Rattle.task_text.specs.declared.task.Task.{Task}
-use Rattle.task_text.specs.TaskLines.{fault_of, line_of}
-use Rattle.task_input.specs.InputLines.{lines_of}
-use Rattle.task_input.specs.Inputs.{reason_for, reason_of, refused_or, first_refused, or_large, is_large, lines_within, IsInput}
+use Rattle.task_input.specs.Inputs.{reason_of, refused_or, first_refused}
 use Rattle.task_input.specs.declared.limits.Limits.{Limits}
 use Rattle.task_input.specs.declared.limits.TheConstants.Limits.{TASKS}
 use Rattle.cli_words.specs.declared.command.RunWords.{RunWords}
 use Rattle.cli_words.specs.declared.refusals.Reason.{Reason}
-use Rattle.cli_words.specs.declared.refusals.Reason.TheVariants.{Many, Long}
 use Rattle.journal_model.specs.declared.answer.Answer.{Answer}
 use Rattle.journal_model.specs.declared.opening.Opening.{Opening}
 use Rattle.journal_model.specs.Legality.{numbers_of}
@@ -23,16 +17,9 @@ use Rattle.run_tasks.specs.Inputs.{InputFlow}
 use Rattle.run_tasks.specs.Runs.{MadeValue, HasDone, IsWholeRun, IfUnwhole, EndsRun, answer_of}
 use Rattle.run_tasks.specs.declared.made.RunEnd.{RunEnd}
 use Rattle.run_tasks.specs.declared.made.RunEnd.TheVariants.{Done}
+use Rattle.run_tasks.proofs.Begun.{unrefused as within, few_tasks}
 
 -- ---- an input
-
--- a line that is not refused has a number within the limit
-within : (limits : Limits) (n : ℕ) (line : List ℕ) → reason_of limits n line ≡ None → n ≤ limits.lines
-within limits n line h = go (nat_lt limits.lines n) refl h
-  where
-    go : (b : Bool) → nat_lt limits.lines n ≡ b → cond b (Some Many) (cond (nat_lt limits.line (length line)) (Some Long) (option_and_then reason_for (fault_of line))) ≡ None → n ≤ limits.lines
-    go true e h = absurd cc
-    go false e h = grind (arith, nat_tests)
 
 neither : (r : Option Reason) (n : ℕ) (next : Option (ℕ × Reason)) → refused_or n r next ≡ None → (r ≡ None) × (next ≡ None)
 neither None n next h = (refl, h)
@@ -45,20 +32,6 @@ few_lines limits (line ∷ lines) n small none =
     let here : n ≤ limits.lines = within limits n line t.0 in
     let rest : (n + 1) + length lines ≤ limits.lines + 1 = few_lines limits lines (n + 1) (omega arith) t.1 in
     omega (arith, rest)
-
-unrefused : (large : Bool) (before : ℕ) (o : Option (ℕ × Reason)) → or_large large before o ≡ None → (large ≡ false) × (o ≡ None)
-unrefused large before (Some refused) h = absurd cc
-unrefused true before None h = absurd cc
-unrefused false before None h = (refl, refl)
-
-few_tasks : (limits : Limits) (bytes : List ℕ) (tasks : List Task) → IsInput limits bytes (Ok tasks) → length tasks ≤ limits.lines
-few_tasks limits bytes tasks (none, are) =
-    let t = unrefused (is_large limits bytes) (length (lines_within limits bytes)) (first_refused limits 1 (lines_within limits bytes)) none in
-    let all : first_refused limits 1 (lines_of true bytes) ≡ None =
-    subst (λ (b : Bool). first_refused limits 1 (cond b (lines_of false (take limits.bytes bytes)) (lines_of true bytes)) ≡ None) t.0 t.1 in
-    let few : 1 + length (lines_of true bytes) ≤ limits.lines + 1 = few_lines limits (lines_of true bytes) 1 (omega arith) all in
-    let same : length (lines_of true bytes) ≡ length tasks = ap (λ (ls : List (List ℕ)). length ls) are.whole ∙ length-map tasks line_of in
-    omega (arith, few, same)
 
 -- ---- a run
 

@@ -1,5 +1,5 @@
 -- What a setup comes to at its desk: from what was read of the kept file to what was written.
-use Rattle.std.proofs.Common.{◌≡◌, ◌∙◌, ℕ, List, refl, sym, ap, subst, inr, Some, None, Option, Ok}
+use Rattle.std.proofs.Common.{◌≡◌, ◌∙◌, List, refl, sym, ap, subst, inr, Some, None, Option, Ok}
 use Rattle.std.specs.Prelude.{Result, IfOk, IsErr, true, false}
 use Rattle.ann_key.specs.declared.bytes.NoMemory.{NoMemory}
 use Rattle.ann_outside.specs.Calls.{Log}
@@ -20,12 +20,8 @@ use Rattle.init_run.specs.declared.setup.Setup.TheVariants.{Initialized, Stopped
 use Rattle.init_run.specs.Setups.{Begins, outcome_of}
 use Rattle.special_cli.specs.declared.end.End.{End}
 use Rattle.special_cli.specs.declared.end.End.TheVariants.{Memory, SetUp, NotSetUp}
-use Rattle.child_end.specs.Wires.{WireValue}
-use Rattle.child_end.specs.Programs.{ProgramsValue}
 use Rattle.child_end.specs.Outsides.{TableValue}
-use Rattle.child_end.specs.Programs.{Leaves}
 use Rattle.special_cli.specs.Setups.{IsSetup, IsRunOf, InitFilesStay, IsInitKept, EndsInit, EndsKeep}
-use Rattle.special_cli.proofs.Leaving.{leaves_as}
 
 -- ---- files that stay
 
@@ -105,9 +101,3 @@ outcome_ok journal r setup e h = subst (λ (x : Result Setup NoMemory). IfOk x (
 
 pub ok_err : {A : Type 0} (r : Result Setup NoMemory) (setup : Setup) → r ≡ Ok setup → IsErr r → A
 ok_err r setup e h = absurd (let bad : false ≡ true = subst IsErr e h in cc)
-
--- the running out of memory, the program and the journal are named otherwise
-pub leaves_named : {V W : Type 0} {program program' : List ℕ} {journal journal' : List Entry} {before after : ProgramsValue} {wires : List WireValue} → (V → W) → journal' ≡ journal → program ≡ program'
-    → Leaves V program journal before after wires → Leaves W program' journal' before after wires
-leaves_named {V} {W} {program} {program'} {journal} {journal'} {before} {after} {wires} f j e h =
-    leaves_as f j refl (subst (λ (p : List ℕ). Leaves V p journal before after wires) e h)

@@ -1,9 +1,8 @@
 -- What a run leaves of its programs and its child.
-use Rattle.std.proofs.Common.{◌≡◌, ◌⊎◌, ◌≤◌, inl, inr, ℕ, suc, List, [], ◌∷◌, length, refl, sym, ap, subst, ◌∙◌, arith, cond, Bool, true, false, Some, None, Option, length-append}
+use Rattle.std.proofs.Common.{◌≡◌, ◌⊎◌, ◌≤◌, inl, inr, ℕ, suc, List, [], ◌∷◌, length, refl, sym, ap, subst, ◌∙◌, arith, cond, Bool, true, false, Some, None, Option}
 use Rattle.std.specs.Prelude.{IsTrue, filter, filter_map, option_and_then}
 use Rattle.std.specs.List.{cons_option}
-use Rattle.std.proofs.lemmas.List.{append-nil}
-use Rattle.ann_outside.specs.Starts.{Starts, IsNumbered}
+use Rattle.ann_outside.specs.Starts.{Starts}
 use Rattle.ann_outside.specs.Causes.{AddsOne, Rose, Stays}
 use Rattle.journal_model.specs.declared.entry.What.{What}
 use Rattle.journal_model.specs.declared.entry.What.TheVariants.{Start, NoStart}
@@ -17,7 +16,7 @@ use Rattle.child_start.specs.Greetings.{AreNumbered}
 use Rattle.special_cli.specs.Endings.{start_in, starts_in}
 use Rattle.child_end.specs.Wires.{came_in, came, is_served_alone, IsOfStart, IsWire, AreWires, IsLaid}
 use Rattle.child_end.specs.Programs.{told_in, told, AddsAll, HaveStarted, Leaves, RoseBy, is_failed_start}
-use Rattle.lone_rounds.proofs.Leaving.{rose_still}
+use Rattle.lone_rounds.proofs.Leaving.{rose_still, of_start, adds_stays, adds_one as adds_all, stays_none, adds_none}
 use Rattle.special_cli.specs.Objects.{OneIsLeft}
 use Rattle.child_end.specs.Wires.{WireValue}
 use Rattle.child_end.specs.Programs.{ProgramsValue}
@@ -55,20 +54,6 @@ failed_of_starts journal first h = of_starts journal ∙ ap (λ (ws : List What)
         go (NoStart slot) r = ap (λ (n : ℕ). suc n) r
         go w r = r
 
-adds_stays : (old mid new : Option Starts) (x : List ℕ × Bool) → AddsOne old mid x → Stays mid new → AddsAll old new (x ∷ [])
-adds_stays None None None x a s = tt
-adds_stays None None (Some zs) x a s = absurd s
-adds_stays None (Some ys) new x a s = absurd a
-adds_stays (Some xs) None new x a s = absurd a
-adds_stays (Some xs) (Some ys) None x a s = absurd s
-adds_stays (Some xs) (Some ys) (Some zs) x a s = s ∙ a
-
-adds_all : (old new : Option Starts) (x : List ℕ × Bool) → AddsOne old new x → AddsAll old new (x ∷ [])
-adds_all None None x a = tt
-adds_all None (Some ys) x a = absurd a
-adds_all (Some xs) None x a = absurd a
-adds_all (Some xs) (Some ys) x a = a
-
 child_told : (program : List ℕ) (journal : List Entry) (old mid new : Option Starts) → starts_in journal ≡ Start 1 0 false ∷ [] → AddsOne old mid (program, true) → Stays mid new
     → AddsAll old new (told program journal)
 child_told program journal old mid new h a s = subst (AddsAll old new) (sym (told_of_starts program journal (Start 1 0 false) h)) (adds_stays old mid new (program, true) a s)
@@ -84,12 +69,6 @@ one_laid {ear} {mouth} {old} {new} laid none = go (subst (λ (xs : List WireValu
   where
     go : IsLaid ear mouth [] new → OneIsLeft ear mouth new
     go (wire, only, is) = (wire, only, is)
-
-of_start : (old new : Option Starts) (x : List ℕ × Bool) (n : Option ℕ) → AddsOne old new x → IsNumbered new n → IsOfStart old 1 n
-of_start old new x None a h = tt
-of_start None new x (Some n) a h = tt
-of_start (Some xs) None x (Some n) a h = absurd a
-of_start (Some xs) (Some ys) x (Some n) a h = h ∙ ap (λ (zs : Starts). length zs) a ∙ length-append xs (x ∷ [])
 
 -- the one child's wire
 one_wire : (old new : Option Starts) (journal : List Entry) (x : List ℕ × Bool) (ear : EarValue) (mouth : MouthValue) (wires : List WireValue) → starts_in journal ≡ Start 1 0 false ∷ []
@@ -124,16 +103,6 @@ empty_wires old journal wires nothing none =
 
 none_failed : (before after : ProgramsValue) (journal : List Entry) → journal ≡ [] → before.faults ≤ after.faults → RoseBy (count is_failed_start journal) before.faults after.faults
 none_failed before after journal none le = subst (λ (x : List Entry). RoseBy (count is_failed_start x) before.faults after.faults) (sym none) (rose_still 0 before.faults before.faults after.faults (omega arith) le)
-
-stays_none : (old new : Option Starts) → Stays old new → AddsAll old new []
-stays_none None None s = tt
-stays_none None (Some ys) s = absurd s
-stays_none (Some xs) None s = absurd s
-stays_none (Some xs) (Some ys) s = s ∙ sym (append-nil xs)
-
-adds_none : (t : Option Starts) → AddsAll t t []
-adds_none None = tt
-adds_none (Some xs) = sym (append-nil xs)
 
 -- nothing was started
 pub leaves_nothing : (W : Type 0) (before after : ProgramsValue) (program : List ℕ) (journal : List Entry) (wires : List WireValue) → after ≡ before → journal ≡ [] → wires ≡ []

@@ -1,5 +1,5 @@
 -- What a list of entries says through one small function of an entry.
-use Rattle.std.proofs.Common.{◌≡◌, ℕ, List, [], ◌∷◌, ◌++◌, refl, ap, ◌∙◌, Bool, true, false, ◌==◌, Some, None, Option}
+use Rattle.std.proofs.Common.{◌≡◌, ℕ, List, [], ◌∷◌, refl, ap, ◌∙◌, Bool, true, false, ◌==◌, Some, None, Option}
 use Rattle.std.specs.Prelude.{◌&&◌, ◌||◌, filter_map, option_and_then}
 use Rattle.std.specs.List.{list_all, list_any, cons_option}
 use Rattle.journal_model.specs.declared.verdict.Why.{Why}
@@ -8,9 +8,10 @@ use Rattle.journal_model.specs.declared.entry.What.{What}
 use Rattle.journal_model.specs.declared.entry.What.TheVariants.{Claim, Start, NoStart, Lead, Ask, Put, Sent, Mute, Got, End, Verdict as Settled, Lost, Answer as Answered, Note as Noted, Again}
 use Rattle.journal_model.specs.declared.entry.Entry.{Entry}
 use Rattle.journal_model.specs.Journal.{any, each_of}
-use Rattle.journal_model.proofs.Looks.{both, same_number}
 use Rattle.journal_model.specs.Shares.{by_link}
 use Rattle.child_start.specs.Greetings.{is_greeting_line, is_of_greeting}
+use Rattle.lone_rounds.proofs.Tests.{each_none as none_of}
+use Rattle.std.proofs.lemmas.Bool.{and_parts as both, eqb-true as same_number}
 
 -- ---- what links and greetings don't say
 
@@ -64,13 +65,6 @@ of_greeting f v c (Answered task answer) h = absurd cc
 of_greeting f v c (Noted task chunk count) h = absurd cc
 of_greeting f v c (Again task answer) h = absurd cc
 
-none_of : {X : Type 0} (f : What → Option X) (p : What → Bool) → ((w : What) → p w ≡ true → f w ≡ None)
-    → (xs : List Entry) → list_all (λ (e : Entry). p e.what) xs ≡ true → each_of f xs ≡ []
-none_of f p quiet [] h = refl
-none_of f p quiet (e ∷ xs) h =
-    let t = both (p e.what) (list_all (λ (x : Entry). p x.what) xs) h in
-    rw (quiet e.what t.0, none_of f p quiet xs t.1) refl
-
 pub greeting_says_none : {X : Type 0} (f : What → Option X) → Vanishes f → (c : ℕ) (xs : List Entry) → list_all (λ (e : Entry). is_of_greeting c e.what) xs ≡ true → each_of f xs ≡ []
 greeting_says_none f v c xs h = none_of f (is_of_greeting c) (of_greeting f v c) xs h
 
@@ -99,27 +93,3 @@ any_through p g h same (e ∷ xs) = ap (λ (b : Bool). b || any p xs) (same e.wh
     go (Some x) r = ap (λ (b : Bool). h x || b) r
 
 -- ---- facts of all entries
-
-pub all_both : (p : What → Bool) (xs ys : List Entry) → list_all (λ (e : Entry). p e.what) xs ≡ true → list_all (λ (e : Entry). p e.what) ys ≡ true
-    → list_all (λ (e : Entry). p e.what) (xs ++ ys) ≡ true
-all_both p [] ys h k = k
-all_both p (x ∷ xs) ys h k =
-    let t = both (p x.what) (list_all (λ (e : Entry). p e.what) xs) h in
-    rw (t.0, all_both p xs ys t.1 k) refl
-
-pub all_weaken : (p q : What → Bool) → ((w : What) → p w ≡ true → q w ≡ true) → (xs : List Entry) → list_all (λ (e : Entry). p e.what) xs ≡ true
-    → list_all (λ (e : Entry). q e.what) xs ≡ true
-all_weaken p q follows [] h = refl
-all_weaken p q follows (x ∷ xs) h =
-    let t = both (p x.what) (list_all (λ (e : Entry). p e.what) xs) h in
-    rw (follows x.what t.0, all_weaken p q follows xs t.1) refl
-
-pub any_none : (p q : What → Bool) → ((w : What) → p w ≡ true → q w ≡ false) → (xs : List Entry) → list_all (λ (e : Entry). p e.what) xs ≡ true → any q xs ≡ false
-any_none p q apart [] h = refl
-any_none p q apart (x ∷ xs) h =
-    let t = both (p x.what) (list_all (λ (e : Entry). p e.what) xs) h in
-    rw (apart x.what t.0, any_none p q apart xs t.1) refl
-
-pub or_true : (b : Bool) → (b || true) ≡ true
-or_true true = refl
-or_true false = refl

@@ -14,7 +14,7 @@ use Rattle.journal_model.specs.declared.entry.What.TheVariants.{Claim, Start, No
 use Rattle.journal_model.specs.declared.entry.Entry.{Entry}
 use Rattle.journal_model.specs.Journal.{any, starts, ends, mutes, is_started, is_ended, is_mute, open_jobs, verdict_of, why_of}
 use Rattle.journal_model.specs.Legality.{is_done, is_busy_with, has_busy_task, may_stop}
-use Rattle.journal_model.proofs.Looks.{both, same, any-append, each_of-append, verdict_of-append}
+use Rattle.journal_model.proofs.Looks.{any-append, each_of-append, verdict_of-append}
 use Rattle.journal_model.proofs.Linking.{why_of-append, why_is_end}
 use Rattle.journal_scan.specs.Looks.{is_no_start}
 use Rattle.journal_model.specs.Shares.{are_by, is_closed}
@@ -22,7 +22,6 @@ use Rattle.link_roles.specs.Alone.{Closes}
 use Rattle.child_start.specs.declared.greeting.Mode.TheVariants.{Init}
 use Rattle.child_start.specs.Greetings.{GreetedFor, IsSetUp, IsRefused, HasEnded, IsUnsent, is_of_greeting_for, is_refusal}
 use Rattle.child_start.proofs.Jobs.{idle_on}
-use Rattle.child_start.proofs.Requests.{main_both}
 use Rattle.init_run.specs.declared.setup.Setup.{Setup}
 use Rattle.init_run.specs.declared.setup.Setup.TheVariants.{Initialized, Stopped}
 use Rattle.init_run.specs.Setups.{setup_for, mute_outcome, gone_outcome, verdict_outcome, outcome_of}
@@ -30,8 +29,13 @@ use Rattle.special_cli.specs.Endings.{start_in, starts_in}
 use Rattle.special_cli.specs.Informs.{is_of_task}
 use Rattle.lone_rounds.specs.Stints.{main_entry}
 use Rattle.special_cli.specs.Setups.{is_of_setup, IsSetup, IsTalked}
-use Rattle.special_cli.proofs.Looking.{all_weaken, any_none}
-use Rattle.special_cli.proofs.Talking.{no_claims, closing_of, closed_so, IsStill, closing_still, over_or, off}
+use Rattle.special_cli.proofs.Talking.{no_claims, closing_of, closed_so, IsStill, closing_still, over_or}
+use Rattle.ann_key.proofs.Booleans.{or_false as or_none, and_false as off}
+use Rattle.std.proofs.lemmas.Bool.{and_parts as both}
+use Rattle.ann_key.proofs.Numbers.{same_number as same}
+use Rattle.link_roles.proofs.Roles.{by_append as main_both}
+use Rattle.lone_rounds.proofs.Stinting.{all_in as all_weaken}
+use Rattle.info_run.proofs.Asked.{none_so as any_none}
 
 -- ---- the entries
 
@@ -162,10 +166,6 @@ may_close journal c setup t =
     let none : any is_of_task journal ≡ false = any_none is_of_setup is_of_task taskless journal t.own in
     let idle : has_busy_task journal c ≡ false = ap (list_any (is_busy_with journal c)) (no_claims c journal none) in
     rw (t.settled, idle) refl
-
-or_none : (b : Bool) → (b || false) ≡ b
-or_none true = refl
-or_none false = refl
 
 option_or_none : {X : Type 0} (o : Option X) → option_or o None ≡ o
 option_or_none None = refl

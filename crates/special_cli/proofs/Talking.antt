@@ -15,14 +15,13 @@ use Rattle.journal_model.specs.declared.opening.Opening.{Opening}
 use Rattle.journal_model.specs.Journal.{any, each_of, starts, ends, mutes, offers, is_started, is_ended, is_mute, asked_jobs, open_jobs, verdict_of, why_of}
 use Rattle.journal_model.specs.Shares.{are_by}
 use Rattle.journal_model.specs.Legality.{Legal, count, claimed_for, is_busy_with, has_busy_task, may_stop}
-use Rattle.journal_model.proofs.Looks.{both, any-append, each_of-append, verdict_of-append}
+use Rattle.journal_model.proofs.Looks.{any-append, each_of-append, verdict_of-append}
 use Rattle.journal_model.proofs.Linking.{why_of-append}
 use Rattle.task_run.specs.TaskRuns.{refused_at}
 use Rattle.link_roles.specs.Alone.{Closes}
 use Rattle.child_start.specs.Greetings.{Greeted, IsReady, IsRefused, HasEnded, IsUnsent, is_greeting_line, is_of_greeting, loses}
 use Rattle.child_start.proofs.Jobs.{idle_on}
 use Rattle.child_start.proofs.Losing.{count_behind, count_before}
-use Rattle.child_start.proofs.Requests.{main_both}
 use Rattle.info_run.specs.Infos.{questions}
 use Rattle.info_run.specs.Askings.{line_to, asked_lines, is_of_asking, AsksFront, IsAnswered, HasFailed}
 use Rattle.special_cli.specs.Endings.{start_in, starts_in}
@@ -32,7 +31,11 @@ use Rattle.lone_rounds.specs.Stints.{main_entry}
 use Rattle.special_cli.specs.Interviews.{IsInterviewed}
 use Rattle.special_cli.proofs.Asked.{greeting_lines, is_early, begins}
 use Rattle.special_cli.proofs.Beginning.{greeted_started, greeted_starts}
-use Rattle.special_cli.proofs.Looking.{or_true, all_weaken, any_none}
+use Rattle.ann_key.proofs.Booleans.{or_neither as either, and_false as off, or_true}
+use Rattle.info_run.proofs.Asked.{greeting_offers as plain_greeting, none_so as any_none}
+use Rattle.std.proofs.lemmas.Bool.{and_parts as both}
+use Rattle.link_roles.proofs.Roles.{by_append as main_both}
+use Rattle.lone_rounds.proofs.Stinting.{all_in as all_weaken}
 
 -- ---- after the greeting
 
@@ -42,20 +45,12 @@ early_greeting c (Ask child job task line) h =
     rw (both (task == 0) (is_greeting_line job line) t.1).1 (or_true (not (child == c)))
 early_greeting c w h = refl
 
-plain_greeting : (c d : ℕ) (w : What) → is_of_greeting c w ≡ true → offers d w ≡ false
-plain_greeting c d (Start child slot offer) h = absurd cc
-plain_greeting c d w h = refl
-
 taskless_greeting : (c : ℕ) (w : What) → is_of_greeting c w ≡ true → is_of_task w ≡ false
 taskless_greeting c (Claim task child) h = absurd cc
 taskless_greeting c (Answered task answer) h = absurd cc
 taskless_greeting c (Noted task chunk count) h = absurd cc
 taskless_greeting c (Again task answer) h = absurd cc
 taskless_greeting c w h = refl
-
-pub off : (b : Bool) → (b && false) ≡ false
-off true = refl
-off false = refl
 
 -- the child was asked the first lines of its greeting
 greeted_lines : (o : Opening) (journal : List Entry) (c : ℕ) → Legal o journal → Greeted [] journal 0 false c → asked_lines journal c ≡ take (length (asked_jobs journal c)) greeting_lines
@@ -148,9 +143,6 @@ no_more_starts c [] h = refl
 no_more_starts c (e ∷ more) h =
     let t = both (is_of_asking c e.what) (list_all (λ (x : Entry). is_of_asking c x.what) more) h in
     rw (startless_asking c e.what t.0, no_more_starts c more t.1) refl
-
-either : (a b : Bool) → a ≡ false → b ≡ false → (a || b) ≡ false
-either a b x y = rw (x, y) refl
 
 pub ready_talked : (o : Opening) (key : Option (List ℕ)) (old mid journal : List Entry) (c d : ℕ) → old ≡ [] → Legal o mid → Greeted old mid 0 false c → IsReady mid c
     → AsksFront (questions key) mid journal c → d ≡ c → IsInterviewed key journal d

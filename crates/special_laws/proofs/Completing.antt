@@ -1,7 +1,7 @@
 -- How a run ends that went well from outside.
 use Rattle.std.proofs.Common.{◌≡◌, ◌∙◌, ◌⊎◌, inl, inr, ℕ, zero, suc, ◌+◌, ◌-◌, ◌≤◌, ◌==◌, Bool, true, false, cond, List, [], ◌∷◌, ◌++◌, length, refl, sym, ap, subst, arith, Some, None, Option, Ok}
 use Rattle.std.specs.Prelude.{◌&&◌, ◌||◌, not, All, is_some, map, slice_get}
-use Rattle.std.proofs.lemmas.Bool.{and_parts}
+use Rattle.std.proofs.lemmas.Bool.{and_parts, ne_eqb as differ, eqb-true as same_number}
 use Rattle.std.proofs.lemmas.List.Elements.{All-head, All-tail}
 use Rattle.std.specs.List.{list_all, list_any, cons_option, range_with_len}
 use Rattle.ann_key.specs.Keys.{is_key, is_sendable, key_reading}
@@ -21,7 +21,6 @@ use Rattle.journal_model.specs.declared.entry.Entry.{Entry}
 use Rattle.journal_model.specs.declared.opening.Opening.{Opening}
 use Rattle.journal_model.specs.Journal.{each_of, first_of}
 use Rattle.journal_model.specs.Legality.{task_of}
-use Rattle.journal_model.proofs.Looks.{differ, same_number}
 use Rattle.keep_desk.specs.declared.writing.KeptWritten.{KeptWritten}
 use Rattle.keep_desk.specs.declared.writing.KeptWritten.TheVariants as W
 use Rattle.run_tasks.specs.Inputs.{InputFlow}
@@ -39,6 +38,7 @@ use Rattle.task_text.specs.TaskLines.{IsTask, has_chunk}
 use Rattle.task_text.specs.declared.task.Task.{Task}
 use Rattle.task_text.specs.declared.task.Work.{Work}
 use Rattle.task_text.specs.declared.task.Work.TheVariants.{Store, Get, Check, Drop, XStore, XGet, XCheck, XDrop, XRename}
+use Rattle.run_tasks.proofs.Kept.{rises}
 
 -- ---- what was written
 
@@ -50,9 +50,6 @@ memory_so : (status : ℕ) (out err : Flow) → (Rose err.faults err.faults' →
 memory_so status out err quiet told = written_so 7 memory_line status err quiet told.0
 
 -- ---- the files of desk 0
-
-rises : (a b : ℕ) → Rose a b → Rose 0 b
-rises a b h = omega (arith, h)
 
 rose_on : (a b : ℕ) → Rose 0 a → a ≤ b → Rose 0 b
 rose_on a b h k = omega (arith, h, k)

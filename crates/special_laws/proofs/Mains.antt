@@ -1,15 +1,12 @@
 -- What one thread makes is the main thread's.
-use Rattle.std.proofs.Common.{◌≡◌, ℕ, List, [], ◌∷◌, refl, Bool, true, false, not}
-use Rattle.std.specs.Prelude.{◌==◌, ◌||◌}
+use Rattle.std.proofs.Common.{◌≡◌, ℕ, List, [], ◌∷◌, refl, true, not}
+use Rattle.std.specs.Prelude.{◌==◌}
 use Rattle.journal_model.specs.declared.entry.Entry.{Entry}
 use Rattle.journal_model.specs.Journal.{is_tagged}
 use Rattle.journal_model.specs.Shares.{are_by, is_of_child}
-use Rattle.journal_model.proofs.Looks.{both}
 use Rattle.child_end.specs.Wires.{is_mains, is_served_alone}
-
-either : (a b : Bool) → b ≡ true → (a || b) ≡ true
-either true b h = refl
-either false b h = h
+use Rattle.ann_key.proofs.Booleans.{or_right as either}
+use Rattle.std.proofs.lemmas.Bool.{and_parts as both}
 
 mains : (journal : List Entry) (c : ℕ) → are_by 0 journal ≡ true → is_mains journal c ≡ true
 mains [] c h = refl

@@ -10,7 +10,9 @@ use Rattle.annex_model.specs.Hearings.{by_answer}
 use Rattle.talk_serial.specs.declared.talk.Heard.{Heard}
 use Rattle.talk_serial.specs.declared.talk.Heard.TheVariants.{Aside, Part, Settled, Foul}
 use Rattle.talk_serial.specs.Hearings.{heard_as, heard, is_taken, are_taken, from_remote, from_host}
-use Rattle.talk_serial.proofs.Lists.{false_true, and_fst, and_snd, awaits_first}
+use Rattle.talk_serial.proofs.Lists.{and_fst, and_snd, awaits_first}
+use Rattle.ann_key.proofs.Options.{none_not, some_is}
+use Rattle.ann_key.proofs.Booleans.{false_is_true as false_true}
 
 -- ---- what a hearing says of the answer
 
@@ -58,14 +60,6 @@ aside_is false o w is = absurd (no_aside o w is)
 plain_heard : (q : HostMessage) (ms : List (Option RemoteMessage)) (m : RemoteMessage) → is_aside m ≡ false
     → heard q ms m ≡ heard_as (by_answer (final_of q (ms ++ Some m ∷ [])) (awaits q (ms ++ Some m ∷ [])))
 plain_heard q ms m plain = ap (λ (b : Bool). if b then Aside else heard_as (by_answer (final_of q (ms ++ Some m ∷ [])) (awaits q (ms ++ Some m ∷ [])))) plain
-
-pub some_is : {X : Type 0} (o : Option X) (x : X) → o ≡ Some x → IsSome o
-some_is (Some y) x h = refl
-some_is None x h = absurd cc
-
-pub none_not : {X : Type 0} (o : Option X) → o ≡ None → IsSome o → ⊥
-none_not (Some y) h s = absurd cc
-none_not None h s = cc
 
 -- ---- one line more in a part
 

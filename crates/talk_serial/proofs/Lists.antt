@@ -4,9 +4,8 @@ use Rattle.std.specs.List.{list_all}
 use Rattle.annex_model.specs.Messages.{RemoteMessage, HostMessage, UnsupportedRequest, Config, Infofield, Infovalue}
 use Rattle.annex_model.specs.Talks.{Shape, OneLine, Configs, Infos, shape_of, is_config, is_configend, is_infofield, is_infovalue, is_infoend, are_configs, are_infos, are_pairs, is_unsupported, is_nothing, may_go_on, done_if, by_shape, final_of, awaits}
 use Rattle.talk_serial.specs.Hearings.{ends_in_field}
-
-pub false_true : {X : Type 0} → false ≡ true → X
-false_true h = absurd cc
+use Rattle.ann_key.proofs.Booleans.{false_is_true as false_true}
+use Rattle.annex_model.proofs.Awaiting.{nothing_goes_on as may_begin}
 
 -- a longer list is not the line UNSUPPORTED-REQUEST alone
 two_lines : (a b : Option RemoteMessage) (ms : List (Option RemoteMessage)) → is_unsupported (a ∷ b ∷ ms) ≡ false
@@ -91,11 +90,6 @@ pairs_go_on (f ∷ v ∷ ms) b h =
     ∙ sym (ap (λ (x : Bool). if x then is_infovalue b else is_infofield b) (ends_behind f v ms value))
 
 -- ---- a beginning is no whole answer
-
-may_begin : (s : Shape) → may_go_on s [] ≡ true
-may_begin OneLine = refl
-may_begin Configs = refl
-may_begin Infos = refl
 
 pub awaits_first : (q : HostMessage) → awaits q [] ≡ true
 awaits_first q = may_begin (shape_of q)

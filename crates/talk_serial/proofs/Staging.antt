@@ -14,8 +14,10 @@ use Rattle.talk_serial.specs.Requests.{message_of}
 use Rattle.talk_serial.specs.Talked.{Talked, is_waiting, is_half, is_last, is_over}
 use Rattle.talk_serial.specs.Hearings.{heard_as, heard, is_taken, ends_in_field, Follows}
 use Rattle.talk_serial.specs.Stages.{line_heard, answer_heard, heard_by, stage_behind, stage_after}
-use Rattle.talk_serial.proofs.Lists.{false_true, more_lines, pushed_is_something, ends_in_pushed, configs_end, configs_go_on, infos_end, pairs_go_on, awaits_no_final}
-use Rattle.talk_serial.proofs.Hearing.{part_waits, settled_final, some_is, none_not, part_plain, settled_plain}
+use Rattle.talk_serial.proofs.Lists.{more_lines, pushed_is_something, ends_in_pushed, configs_end, configs_go_on, infos_end, pairs_go_on, awaits_no_final}
+use Rattle.talk_serial.proofs.Hearing.{part_waits, settled_final, part_plain, settled_plain}
+use Rattle.ann_key.proofs.Booleans.{false_is_true as false_true}
+use Rattle.ann_key.proofs.Options.{some_is, none_not}
 
 -- the first message may be UNSUPPORTED-REQUEST
 first_line : (u : Bool) (o : Option Final) (b : Bool)

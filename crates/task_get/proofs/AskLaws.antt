@@ -10,8 +10,8 @@ use Rattle.task_run.specs.Askers.{Asking}
 use Rattle.task_run.specs.Stops.{is_done}
 use Rattle.task_run.specs.Requests.{AskInOrder, rounds, RoundsAsk}
 use Rattle.task_run.specs.Gets.{item}
-use Rattle.task_get.proofs.LastCalls.{list_all-append}
-use Rattle.task_run.proofs.Texts.{apart}
+use Rattle.ann_key.proofs.Lists.{all_more as list_all-append}
+use Rattle.ann_key.proofs.Booleans.{false_is_true as apart}
 
 -- ---- one round
 

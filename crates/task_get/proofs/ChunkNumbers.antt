@@ -1,17 +1,15 @@
 -- Where chunks begin and end.
-use Rattle.std.proofs.Common.{◌≡◌, ℕ, ◌+◌, ◌-◌, ◌*◌, ◌/◌, ◌<◌, ◌≤◌, ◌==◌, ◌⊎◌, inl, inr, Bool, true, false, cond, refl, ap, add-one, arith}
+use Rattle.std.proofs.Common.{◌≡◌, ℕ, ◌+◌, ◌-◌, ◌*◌, ◌/◌, ◌<◌, ◌≤◌, ◌==◌, ◌⊎◌, inl, inr, Bool, true, false, cond, refl, ap, arith}
 use Rattle.std.specs.List.{range_with_len}
 use Rattle.std.specs.Int.{div_ceil}
-use Rattle.std.proofs.Math.Nat.{zero-mul, suc-mul, mul-le-mul_right, div-mul-le_self}
+use Rattle.std.proofs.Math.Nat.{zero-mul, mul-le-mul_right, div-mul-le_self}
 use Rattle.std.proofs.lemmas.Bool.{cases_lt}
 use Rattle.std.proofs.lemmas.Grind.{div_ceil_times}
 use Rattle.std.proofs.lemmas.List.Sums.{count_by-le-length}
 use Rattle.std.proofs.lemmas.List.FromFn.{length-range_with_len}
 use Rattle.chunk_plan.specs.Layouts.{count_of, from_of, to_of, held_of, is_held}
 use Rattle.chunk_plan.proofs.Counted.{held_some}
-
-times_next : (i chunk : ℕ) → (i + 1) * chunk ≡ i * chunk + chunk
-times_next i chunk = rw add-one (suc-mul i chunk)
+use Rattle.ann_key.proofs.Numbers.{one_more as times_next}
 
 -- a chunk that there is begins within the content
 pub begins_within : (size chunk i : ℕ) → 0 < chunk → i < count_of size chunk → i * chunk ≤ size

@@ -16,7 +16,6 @@ use Rattle.std.proofs.lemmas.List.{drop_all}
 use Rattle.std.proofs.lemmas.List.Folds.{list_all_at}
 use Rattle.std.proofs.lemmas.Bool.Decides.{nat_tests}
 use Rattle.task_run.specs.Askers.{are_layouts}
-use Rattle.task_run.proofs.Texts.{apart}
 use Rattle.task_get.specs.declared.get_chunk.Went.{Went}
 use Rattle.task_get.specs.declared.get_chunk.Went.TheVariants as T
 use Rattle.task_get.proofs.GetChunks.{both_grown}
@@ -29,9 +28,10 @@ use Rattle.task_get.specs.LayoutRuns.{Grown, place_at, LayoutEnd, LayoutRan, Tri
 use Rattle.fetch_copy.proofs.CopyLaws.{gained_nothing}
 use Rattle.task_get.proofs.LastCalls.{after_last-none}
 use Rattle.task_run.proofs.PlainRuns.{of_reading}
-use Rattle.task_get.proofs.GetRuns.{get_task}
+use Rattle.task_get.proofs.GetRuns.{get_task, no_chunks as none_left}
 use Rattle.task_run.proofs.NamedRuns.{nameless, with_names}
 use Rattle.task_text.specs.Works.{has_name}
+use Rattle.ann_key.proofs.Booleans.{false_is_true as apart}
 
 -- nothing was tried
 pub between_first : (p : Place) → Between p [] [] [] p.sizes []
@@ -155,10 +155,6 @@ tries_end setup t key file layouts i now size layout pairs mid later old on new 
     by_result (Ok T.Failed) bad h = absurd (bad refl)
     by_result (Ok (T.Over answer)) bad h = h
     by_result (Err e) bad h = h
-
-none_left : (size : Option ℕ) → chunk_sizes size [] ≡ []
-none_left None = refl
-none_left (Some n) = refl
 
 pub tries_all : (setup : Setup) (t : TaskTurn) (key : Parts) (file : List ℕ) (layouts : List (ℕ × ℕ)) (i now : ℕ) (pairs later : List Asking) (old new : Option Log) → length layouts ≤ i → TriesSoFar setup t key file layouts i now pairs later old new
     → TriesRan setup t key file layouts now pairs later old new (Ok T.Failed)

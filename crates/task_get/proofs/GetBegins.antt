@@ -1,10 +1,8 @@
 -- The begin of a layout of chunks.
-use Rattle.std.proofs.Common.{◌≡◌, ◌∙◌, ℕ, ◌+◌, ◌-◌, ◌*◌, ◌≤◌, ◌<◌, ◌==◌, ◌⊎◌, inl, inr, Bool, true, false, cond, not, List, [], ◌∷◌, ◌++◌, length, map, drop, refl, sym, ap, subst, arith, append_assoc, append-nil, length-append}
+use Rattle.std.proofs.Common.{◌≡◌, ◌∙◌, ℕ, ◌+◌, ◌-◌, ◌≤◌, ◌<◌, ◌==◌, ◌⊎◌, inl, inr, Bool, true, false, not, List, [], ◌∷◌, ◌++◌, length, map, drop, refl, sym, ap, subst, arith, append_assoc, append-nil, length-append}
 use Rattle.std.specs.Prelude.{if◌then◌else◌, bytes_eq, is_some, Option, Some, None, unwrap_or, Result, Ok, Err}
 use Rattle.std.specs.List.{list_all, filter_map, concat, range_with_len}
-use Rattle.std.specs.Int.{div_ceil}
-use Rattle.std.proofs.lemmas.Bool.{cases_lt, eqb-true}
-use Rattle.std.proofs.lemmas.Grind.{div_ceil_times}
+use Rattle.std.proofs.lemmas.Bool.{cases_lt}
 use Rattle.std.proofs.lemmas.List.{drop_at}
 use Rattle.std.proofs.lemmas.List.Elements.{filter_map-append}
 use Rattle.std.proofs.lemmas.List.FromFn.{length-map-range_with_len}
@@ -35,24 +33,20 @@ use Rattle.task_run.specs.Fetching.{Outcome}
 use Rattle.task_get.specs.Fronts.{Place, Turn, first_in, Sound, are_free, Within, Kept, Between, Ended, begin_of}
 use Rattle.task_get.specs.LayoutRuns.{parts_from, parts_between}
 use Rattle.task_get.specs.PartBegins.{Begin, Unlooked, Unmade, Made, Uncut, Unread, Resumed, keep_of, begin_calls, begin_result, BeginIs}
-use Rattle.task_run.proofs.Texts.{apart, same_name}
 use Rattle.task_run.proofs.HeldLaws.{is_looking, holds_more, so_behind, holds_cut}
-use Rattle.task_get.proofs.LastCalls.{list_all-append, after_last-at}
-use Rattle.task_run.proofs.GetCallsLaws.{known_add, known_skip, placed, run_placed, bytes_placed, nat_same}
+use Rattle.task_get.proofs.LastCalls.{after_last-at}
+use Rattle.task_run.proofs.GetCallsLaws.{known_add, known_skip, placed, run_placed, bytes_placed}
 use Rattle.task_get.proofs.GetEnds.{whole_reading, bytes_more, stop_is}
 use Rattle.task_get.proofs.GetFronts.{Fore, ended_memory, ended_stopped}
 use Rattle.task_get.proofs.GetChunks.{whole_of, none_from, first_from}
 use Rattle.task_get.proofs.ChunkNumbers.{held_within, begins_within, from_is, held_most}
 use Rattle.task_get.proofs.GetParts.{OfPart, of_none, of_more, of_size, of_create, of_cut, of_read, sound_part, between_fore}
+use Rattle.chunk_plan.proofs.Joined.{reaches}
+use Rattle.ann_key.proofs.Booleans.{false_is_true as apart}
+use Rattle.ann_key.proofs.Lists.{same_name, all_more as list_all-append}
+use Rattle.ann_key.proofs.Numbers.{same_number as nat_same}
 
 -- ---- what is wanted
-
-reaches : (size chunk : ℕ) → 0 < chunk → size ≤ count_of size chunk * chunk
-reaches size chunk h = go (size == 0) refl
-  where
-    go : (b : Bool) → (size == 0) ≡ b → size ≤ cond b 1 (div_ceil size chunk) * chunk
-    go true e = let none : size ≡ 0 = eqb-true size 0 e in omega arith
-    go false e = (div_ceil_times size chunk h).0
 
 -- the chunks that aren't held begin where the held ones end
 keep_is : (key : Parts) (size chunk k : ℕ) → 0 < chunk → key.size ≡ Some size → k ≤ count_of size chunk → begin_of key (parts_from key size chunk k) ≡ to_of size chunk k

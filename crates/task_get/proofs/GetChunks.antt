@@ -1,5 +1,5 @@
 -- The chunks of a layout, one after the other.
-use Rattle.std.proofs.Common.{◌≡◌, ◌∙◌, ℕ, zero, suc, ◌+◌, ◌-◌, ◌≤◌, ◌<◌, ◌^◌, Bool, List, [], ◌∷◌, ◌++◌, length, map, refl, sym, ap, subst, arith, append_assoc, append-nil, length-append}
+use Rattle.std.proofs.Common.{◌≡◌, ◌∙◌, ℕ, zero, suc, ◌+◌, ◌-◌, ◌≤◌, ◌<◌, ◌^◌, List, [], ◌∷◌, ◌++◌, length, map, refl, sym, ap, subst, arith, append_assoc, append-nil, length-append}
 use Rattle.std.specs.Prelude.{Option, Result, Ok, Err}
 use Rattle.std.specs.List.{range_with_len}
 use Rattle.std.proofs.lemmas.List.{map-append}
@@ -13,7 +13,7 @@ use Rattle.chunk_plan.specs.Layouts.{Part, chunk_part, count_of}
 use Rattle.fetch_copy.specs.Copies.{Checks}
 use Rattle.fetch_copy.proofs.CopyLaws.{gained_nothing, gained_more, checks_nothing, checks_more}
 use Rattle.journal_model.specs.declared.answer.Answer.TheVariants as A
-use Rattle.task_run.specs.Askers.{Asking, IsSameTask}
+use Rattle.task_run.specs.Askers.{Asking}
 use Rattle.task_run.specs.declared.setup.Setup.{Setup}
 use Rattle.task_run.specs.declared.turn.TaskTurn.{TaskTurn}
 use Rattle.task_get.specs.declared.get_chunk.Went.{Went}
@@ -190,6 +190,3 @@ chunks_ended setup t key size chunk held i part first now pairs mid later old on
 }
 
 -- ---- from call to call
-
-pub same_both : (a b d : ℕ) (e f g : Bool) (x y z : List ℕ) → IsSameTask a b e f x y → IsSameTask b d f g y z → IsSameTask a d e g x z
-same_both a b d e f g x y z h k = record { task_is = k.task_is ∙ h.task_is; may_note_is = k.may_note_is ∙ h.may_note_is; loans_are = k.loans_are ∙ h.loans_are }

@@ -3,7 +3,6 @@ use Rattle.std.proofs.Common.{◌≡◌, ◌∙◌, ℕ, ◌+◌, ◌-◌, List,
 use Rattle.std.specs.Prelude.{◌≤◌, ◌||◌, Bool, true, false, ◌&&◌, not, Option, Some, filter, ◌==◌, Ok}
 use Rattle.std.specs.List.{list_all, filter_map, concat}
 use Rattle.std.proofs.lemmas.List.Elements.{filter_map-append, filter-append}
-use Rattle.std.proofs.lemmas.List.Folds.{list_all-append}
 use Rattle.ann_key.specs.Keys.{Parts}
 use Rattle.annex_model.specs.Messages.{HostMessage}
 use Rattle.ann_outside.specs.declared.file_desk.DeskError.{DeskError}
@@ -20,10 +19,11 @@ use Rattle.task_run.specs.Reads.{length_found, lengths_found, bytes_of, is_last,
 use Rattle.task_run.specs.Gets.{fetch_request, begins}
 use Rattle.task_run.specs.Ran.{answered, refusal}
 use Rattle.task_run.specs.Fetching.{Files3}
-use Rattle.task_run.proofs.Texts.{same_name}
 use Rattle.task_run.proofs.HeldLaws.{is_growing}
-use Rattle.task_run.proofs.GetCallsLaws.{Apart, Good, fair_read, known_skip, known_copy, copy_reads, bytes_placed, copy_appends, placed, nat_same}
+use Rattle.task_run.proofs.GetCallsLaws.{Apart, Good, fair_read, known_skip, known_copy, copy_reads, bytes_placed, copy_appends, placed}
 use Rattle.task_get.proofs.GetRuns.{Going, done}
+use Rattle.ann_key.proofs.Lists.{all_more as list_all_more, same_name}
+use Rattle.ann_key.proofs.Numbers.{same_number as nat_same}
 
 -- ---- how it goes on
 
@@ -133,9 +133,6 @@ copy_no_begin part from to at (piece ∷ pieces) = copy_no_begin part from to (a
 copy_grown : (part from to : List ℕ) (at : ℕ) (pieces : List (List ℕ)) → list_all (is_growing part) (copy_calls from to at pieces) ≡ true
 copy_grown part from to at [] = refl
 copy_grown part from to at (piece ∷ pieces) = copy_grown part from to (at + length piece) pieces
-
-list_all_more : {X : Type 0} (p : X → Bool) (xs ys : List X) → list_all p xs ≡ true → list_all p ys ≡ true → list_all p (xs ++ ys) ≡ true
-list_all_more p xs ys a b = rw (list_all-append p xs ys) (rw a b)
 
 pub moved_facts : (file fetch : List ℕ) (past : List Call) (pieces : List (List ℕ)) (ending more : List Call) → Apart file fetch → Tail file fetch past (length (concat pieces)) ending
     → lengths_found fetch more ≡ [] → reads_of fetch more ≡ [] → filter_map (piece_of (part_of file)) more ≡ [] → list_all (λ call. not (begins (part_of file) call)) more ≡ true → list_all (is_growing (part_of file)) more ≡ true

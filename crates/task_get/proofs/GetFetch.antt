@@ -19,14 +19,14 @@ use Rattle.task_run.specs.Discipline.{are_found}
 use Rattle.task_run.specs.Ran.{answered, refusal}
 use Rattle.task_run.specs.Fetching.{if_made}
 use Rattle.task_get.specs.Fronts.{Turn, fetch_at, is_apart, are_free, Ended}
-use Rattle.task_run.proofs.Texts.{same_name}
-use Rattle.task_get.proofs.LastCalls.{list_all-append}
 use Rattle.task_run.proofs.FileNames.{fetch_files_differ}
-use Rattle.task_run.proofs.GetCallsLaws.{Apart, Fair, Good, fair_more, found_more, good_more, fair_read, fair_append, fair_remove_fetch, known_skip, known_copy, copy_good, copy_reads, run_placed, placed, nat_same}
+use Rattle.task_run.proofs.GetCallsLaws.{Apart, Fair, Good, fair_more, found_more, good_more, fair_read, fair_append, fair_remove_fetch, known_skip, known_copy, copy_good, copy_reads, run_placed, placed}
 use Rattle.task_get.proofs.GetTasks.{names_apart}
 use Rattle.task_get.proofs.GetEnds.{Tail, tail_of, stop_is, moved_calls}
 use Rattle.task_get.proofs.GetFronts.{Fore, ended_memory, ended_stopped}
 use Rattle.task_get.proofs.GetWithin.{Segment, Fetching, fetch_fore}
+use Rattle.ann_key.proofs.Lists.{same_name, all_more as list_all-append}
+use Rattle.ann_key.proofs.Numbers.{same_number as nat_same}
 
 -- a part that is being fetched: the request, its number, and the calls before it
 pub record Here : Type 0 where

@@ -1,9 +1,8 @@
 -- What a get may ask so far, and how it ends where it is.
 use Rattle.std.proofs.Common.{◌≡◌, ◌∙◌, ℕ, ◌+◌, ◌-◌, ◌≤◌, min, Bool, true, false, not, List, [], ◌∷◌, ◌++◌, length, map, take, refl, sym, ap, subst, arith, append-nil, length-append}
-use Rattle.std.specs.Prelude.{◌||◌, filter, Option, Some, None, is_none, nat_le, unwrap_or}
+use Rattle.std.specs.Prelude.{◌||◌, filter, Option, Some, None, is_none, unwrap_or}
 use Rattle.std.specs.List.{list_all, filter_map}
-use Rattle.std.proofs.lemmas.Bool.{and_parts}
-use Rattle.std.proofs.lemmas.Bool.Decides.{nat_tests}
+use Rattle.std.proofs.lemmas.Bool.{and_parts, le-leb as le_true}
 use Rattle.std.proofs.lemmas.List.{map-append}
 use Rattle.std.proofs.lemmas.List.Elements.{filter_map-append}
 use Rattle.ann_key.specs.Keys.{Parts}
@@ -23,14 +22,11 @@ use Rattle.task_run.specs.Reads.{is_run}
 use Rattle.task_run.specs.Gets.{fetch_request, lengths_at_begin, wanted, is_failed, failures, asked_last, first_asked, item, parts_last, held_reads, are_read, wrong_lengths, GetAsks, GetAnswers}
 use Rattle.task_run.specs.TaskCalls.{GetCalls}
 use Rattle.task_get.specs.Fronts.{Place, keys_in, is_calm, Tried, Sound, are_free, Ended}
-use Rattle.task_run.proofs.Texts.{apart}
 use Rattle.task_get.proofs.AskLaws.{count_none, count_more, item_behind}
 use Rattle.task_run.proofs.Lists.{all_taken, none_stop, but_last}
+use Rattle.ann_key.proofs.Booleans.{false_is_true as apart}
 
 -- ---- what it asked
-
-pub le_true : (a b : ℕ) → a ≤ b → nat_le a b ≡ true
-le_true a b h = grind (arith, nat_tests)
 
 calm_failed : (xs : List Asking) → list_all is_calm xs ≡ true → list_all is_failed (filter (λ (a : Asking). not (is_done a)) xs) ≡ true
 calm_failed [] h = refl

@@ -26,18 +26,18 @@ use Rattle.task_run.specs.TaskCalls.{fetched_files}
 use Rattle.task_run.specs.Ran.{answered}
 use Rattle.task_run.specs.Fetching.{Outcome, if_made, discarded, settling, settled}
 use Rattle.task_get.specs.Fronts.{Place, Turn, first_in, fetch_at, keys_in, is_calm, is_apart, Sound, Within, Kept, Between, Ended, begin_of}
-use Rattle.task_run.proofs.Texts.{apart, same_name}
 use Rattle.task_run.proofs.HeldLaws.{is_lasting, is_growing, told, holds_more, so_front, holds_grown}
-use Rattle.task_get.proofs.LastCalls.{list_all-append}
 use Rattle.task_get.proofs.AskLaws.{count_all}
 use Rattle.task_run.proofs.GetCallsLaws.{Apart, found_more}
 use Rattle.task_get.proofs.GetEnds.{is_last-snoc, last_call}
 use Rattle.task_run.proofs.Lists.{all_taken}
 use Rattle.task_get.proofs.GetTasks.{names_apart}
-use Rattle.task_get.proofs.ReadLaws.{Sub, sub_cons, names_sub, changes_sub, sizes_sub, begin_lengths, held_run, held_more, appended_more, same_read, same_wrong, same_bytes, same_whole, wrong_taken, right_or}
+use Rattle.task_get.proofs.ReadLaws.{Sub, sub_cons, names_sub, changes_sub, sizes_sub, begin_lengths, held_run, held_more, appended_more, same_read, same_wrong, same_bytes, same_whole, wrong_taken}
 use Rattle.task_get.proofs.GetFronts.{asks_of, Fore, ended_memory, ended_stopped, ended_finished}
 use Rattle.task_get.proofs.GetDecides.{answers_said}
 use Rattle.task_get.proofs.GetWithin.{none_failed, within_order, within_fore}
+use Rattle.ann_key.proofs.Booleans.{false_is_true as apart, or_right as right_or}
+use Rattle.ann_key.proofs.Lists.{same_name, all_more as list_all-append}
 
 pub part_apart : (p : Place) (n : ℕ) → Apart p.file (fetch_at p n)
 part_apart p n = names_apart p.setup p.turn n p.file

@@ -15,7 +15,7 @@ use Rattle.task_run.specs.declared.turn.TaskTurn.{TaskTurn}
 use Rattle.task_run.specs.Names.{part_of, fetch_file}
 use Rattle.task_run.specs.Runs.{RunOf, TaskRun}
 use Rattle.task_run.specs.Ran.{RanGet}
-use Rattle.task_run.proofs.Texts.{other_name, longer_differs}
+use Rattle.task_run.proofs.Texts.{longer_differs}
 use Rattle.task_run.proofs.PlainRuns.{of_reading}
 use Rattle.task_run.proofs.FileNames.{fetch_differs}
 use Rattle.task_run.proofs.GetCallsLaws.{Apart}
@@ -23,6 +23,7 @@ use Rattle.task_get.proofs.GetRuns.{get_task}
 use Rattle.std.proofs.Common.{refl, arith}
 use Rattle.task_run.proofs.NamedRuns.{nameless, with_names}
 use Rattle.task_text.specs.Works.{has_name}
+use Rattle.ann_key.proofs.Lists.{other_name}
 
 pub names_apart : (setup : Setup) (t : TaskTurn) (n : ℕ) (file : List ℕ) → Apart file (fetch_file setup t n)
 names_apart setup t n file = record {

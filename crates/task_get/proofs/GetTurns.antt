@@ -35,16 +35,17 @@ use Rattle.task_run.specs.Fetching.{Outcome, discarded}
 use Rattle.task_get.specs.Fronts.{Turn, first_in, fetch_at, keys_in, is_calm, is_apart, Tried, Sound, are_free, Within, Kept, Between, Ended}
 use Rattle.task_get.specs.ChunkFetches.{over_with, Come, Unmeasured, Misfit, Uncopied, Unremoved, Came, come_calls, come_result, ComeIs, Take, Unmade, Undone, Fetched, undone_went, TakeIs}
 use Rattle.task_get.specs.LayoutRuns.{Grown, PartEnd, NextRan}
-use Rattle.task_run.proofs.Texts.{apart, same_name}
-use Rattle.task_get.proofs.LastCalls.{list_all-append, after_last-at}
+use Rattle.task_get.proofs.LastCalls.{after_last-at}
 use Rattle.task_get.proofs.AskLaws.{round_ended, count_more, count_none, count_all}
 use Rattle.task_run.proofs.GetCallsLaws.{fair_size, fair_remove_part, known_add, known_skip}
 use Rattle.task_get.proofs.GetEnds.{Facts, moved_facts, whole_reading, moved_calls, last_call}
 use Rattle.task_get.proofs.GetFronts.{ended_memory, ended_asked, ended_finished}
-use Rattle.task_get.proofs.ReadLaws.{weaken, begin_lengths, reads_behind, right_or, lengths_behind, same_wrong, none_wrong, wrong_more}
+use Rattle.task_get.proofs.ReadLaws.{begin_lengths, reads_behind, lengths_behind, same_wrong, none_wrong, wrong_more}
 use Rattle.task_get.proofs.GetDecides.{Last, answers_misfit}
 use Rattle.task_get.proofs.GetWithin.{own_apart, none_failed, sound_asked, within_asks, within_fore, within_next, kept_next}
 use Rattle.task_get.proofs.GetFetch.{Here, FetchingAt, file_in, part_in, fetch_in, asked_in, EndedAt, apart_in, others_size, Moving, moving_none, moving_step, segment_of, fore_of, free_of, memory_at, stopped_at, Ready, copies_in, copy_early, copy_refused, tail_in, fetch_unremoved, moving_moved, part_known_moved}
+use Rattle.ann_key.proofs.Booleans.{false_is_true as apart, or_right as right_or}
+use Rattle.ann_key.proofs.Lists.{same_name, all_more as list_all-append, weaken}
 
 -- ---- a layout that failed
 
@@ -56,7 +57,7 @@ one_failed past cur a d f =
     let one : failures (a ∷ []) ≡ 1 = count_all is_failed (a ∷ []) (rw f refl) in
     omega (arith, whole, rest, none, one)
 
-failed_undone : (a : Asking) → is_failed a ≡ true → is_done a ≡ false
+pub failed_undone : (a : Asking) → is_failed a ≡ true → is_done a ≡ false
 failed_undone a h = of a.request a.verdict h
   where
     of : (request : Option HostMessage) (v : Verdict) → is_failed (record { request = request; name = None; verdict = v }) ≡ true → is_done (record { request = request; name = None; verdict = v }) ≡ false

@@ -36,7 +36,6 @@ use Rattle.task_get.specs.Fronts.{Place, Turn, fetch_at, is_apart, is_calm, Trie
 use Rattle.task_get.specs.LayoutRuns.{place_at, WholeRan}
 use Rattle.task_get.specs.WholeFetches.{TakesWhole}
 use Rattle.fetch_copy.proofs.CopyLaws.{gained_nothing}
-use Rattle.task_run.proofs.Texts.{apart, same_name}
 use Rattle.task_run.proofs.HeldLaws.{is_growing, holds_more, holds_grown}
 use Rattle.task_get.proofs.LastCalls.{after_last-at}
 use Rattle.task_get.proofs.AskLaws.{count_all}
@@ -50,6 +49,8 @@ use Rattle.task_get.proofs.GetRuns.{wrong_if}
 use Rattle.task_run.proofs.Lists.{all_taken}
 use Rattle.task_get.proofs.GetTurns.{failed_tried, moving_sized, asked_end, unasked_end, asks_for_part}
 use Rattle.task_get.proofs.GetFetch.{Here, FetchingAt, file_in, part_in, fetch_in, EndedAt, apart_in, Others, others_size, Moving, moving_none, moving_step, fore_of, free_of, memory_at, stopped_at, Ready, copies_in, copy_early, copy_refused, tail_in, fetch_unremoved, moving_moved, part_known_moved}
+use Rattle.ann_key.proofs.Booleans.{false_is_true as apart}
+use Rattle.ann_key.proofs.Lists.{same_name}
 
 -- the whole content, as a part
 abbrev pub whole_part : Parts → Part

@@ -3,6 +3,7 @@ use Rattle.std.proofs.Common.{◌≡◌, ◌⊎◌, inl, inr, ◌+◌, ◌-◌, 
 use Rattle.std.specs.List.{list_all, prefix_len, suffix_len, after_last}
 use Rattle.std.proofs.lemmas.Bool.{and_parts}
 use Rattle.std.proofs.lemmas.List.{drop_at, length-reverse, reverse-append}
+use Rattle.ann_key.proofs.Lists.{all_more as list_all-append}
 
 pub prefix_len-front : {X : Type 0} (p : X → Bool) (xs : List X) (y : X) (ys : List X) → list_all p xs ≡ true → p y ≡ false → prefix_len p (xs ++ y ∷ ys) ≡ length xs
 prefix_len-front p [] y ys all stop = rw stop refl
@@ -11,14 +12,6 @@ prefix_len-front p (x ∷ xs) y ys all stop =
     let rest : prefix_len p (xs ++ y ∷ ys) ≡ length xs = prefix_len-front p xs y ys parts.1 stop in
     let first : p x ≡ true = parts.0 in
     rw (first, rest) (omega arith)
-
-pub list_all-append : {X : Type 0} (p : X → Bool) (xs ys : List X) → list_all p xs ≡ true → list_all p ys ≡ true → list_all p (xs ++ ys) ≡ true
-list_all-append p [] ys h k = k
-list_all-append p (x ∷ xs) ys h k =
-    let parts = and_parts (p x) (list_all p xs) h in
-    let first : p x ≡ true = parts.0 in
-    let rest : list_all p (xs ++ ys) ≡ true = list_all-append p xs ys parts.1 k in
-    rw (first, rest) refl
 
 list_all-reverse : {X : Type 0} (p : X → Bool) (xs : List X) → list_all p xs ≡ true → list_all p (reverse xs) ≡ true
 list_all-reverse p [] h = refl

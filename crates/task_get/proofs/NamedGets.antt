@@ -25,7 +25,6 @@ use Rattle.task_run.specs.Exports.{AsksOfName, fetch_export}
 use Rattle.task_run.specs.Runs.{RunOf}
 use Rattle.task_run.specs.Ran.{RanGet, answered, is_verdict_of, undone_answer}
 use Rattle.task_run.specs.Fetching.{Fetches}
-use Rattle.task_run.proofs.Texts.{apart}
 use Rattle.task_run.proofs.ExportRuns.{with_work, export_run, named, asks_of_name, asks_nothing}
 use Rattle.task_get.specs.Fronts.{Ended}
 use Rattle.task_get.specs.LayoutRuns.{place_at, WholeRan}
@@ -33,6 +32,7 @@ use Rattle.task_get.specs.WholeFetches.{TakesWhole}
 use Rattle.task_get.proofs.GetRuns.{done}
 use Rattle.task_get.proofs.GetAlls.{between_first}
 use Rattle.task_get.proofs.GetWholes.{whole_fetched}
+use Rattle.ann_key.proofs.Booleans.{false_is_true as apart}
 
 abbrev GetRun : Setup → TaskTurn → Task → Parts → List (ℕ × ℕ) → List Asking → List Call → Answer → Type 0
 GetRun setup t task key layouts asked calls answer = RunOf setup t (with_work W.XGet task) key layouts asked calls [] answer

@@ -20,17 +20,10 @@ use Rattle.task_run.specs.Gets.{begins, lengths_at_begin, since_begin, held_read
 use Rattle.task_run.specs.TaskCalls.{fetched_files}
 use Rattle.task_get.specs.Fronts.{is_apart}
 use Rattle.task_get.proofs.LastCalls.{after_last-at, after_last-more, Last, last_of}
-use Rattle.task_run.proofs.Texts.{apart}
+use Rattle.ann_key.proofs.Booleans.{or_right as right_or, or_left as left_or, false_is_true as apart}
+use Rattle.ann_key.proofs.Lists.{nil_back as nil_behind, nil_front, weaken}
 
 -- ---- tests of all
-
-pub weaken : {X : Type 0} (p q : X → Bool) (xs : List X) → ((x : X) → p x ≡ true → q x ≡ true) → list_all p xs ≡ true → list_all q xs ≡ true
-weaken p q [] f h = refl
-weaken p q (x ∷ xs) f h =
-    let parts = and_parts (p x) (list_all p xs) h in
-    let one : q x ≡ true = f x parts.0 in
-    let rest : list_all q xs ≡ true = weaken p q xs f parts.1 in
-    rw (one, rest) refl
 
 -- ---- names among others
 
@@ -40,14 +33,6 @@ Sub xs ys = (name : List ℕ) → is_among xs name ≡ true → is_among ys name
 either : (b c d : Bool) → (b || c) ≡ true → (c ≡ true → d ≡ true) → (b || d) ≡ true
 either true c d h f = refl
 either false c d h f = f h
-
-left_or : (b c : Bool) → b ≡ true → (b || c) ≡ true
-left_or true c h = refl
-left_or false c h = apart h
-
-pub right_or : (b c : Bool) → c ≡ true → (b || c) ≡ true
-right_or true c h = refl
-right_or false c h = h
 
 pub sub_cons : (x : List ℕ) (xs ys : List (List ℕ)) → Sub xs ys → Sub (x ∷ xs) (x ∷ ys)
 sub_cons x xs ys h name e = either (bytes_eq name x) (is_among xs name) (is_among ys name) e (h name)
@@ -250,14 +235,6 @@ wrong_more setup t size calls n (x ∷ xs) ys =
     let e : (n + 1) + length xs ≡ n + length (x ∷ xs) = omega arith in
     ap (λ b. filter (is_wrong size x) (lengths_found (fetch_file setup t n) calls) ++ b) (wrong_more setup t size calls (n + 1) xs ys ∙ ap (λ k. wrong_lengths setup t size calls (n + 1) xs ++ wrong_lengths setup t size calls k ys) e)
     ∙ sym (append_assoc (filter (is_wrong size x) (lengths_found (fetch_file setup t n) calls)) (wrong_lengths setup t size calls (n + 1) xs) (wrong_lengths setup t size calls (n + length (x ∷ xs)) ys))
-
-nil_front : {X : Type 0} (xs ys : List X) → xs ++ ys ≡ [] → xs ≡ []
-nil_front [] ys e = refl
-nil_front (x ∷ xs) ys e = absurd cc
-
-nil_behind : {X : Type 0} (xs ys : List X) → xs ++ ys ≡ [] → ys ≡ []
-nil_behind [] ys e = e
-nil_behind (x ∷ xs) ys e = absurd cc
 
 -- none of the first of them is wrong where none is
 pub wrong_taken : (setup : Setup) (t : TaskTurn) (size : Option ℕ) (calls : List Call) (n k : ℕ) (parts : List Part) → wrong_lengths setup t size calls n parts ≡ [] → wrong_lengths setup t size calls n (take k parts) ≡ []

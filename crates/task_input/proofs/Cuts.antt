@@ -1,10 +1,11 @@
 -- Bytes that are cut into lines and a rest.
 use Rattle.std.proofs.Common.{◌≡◌, ℕ, Bool, true, false, not, cond, List, [], ◌∷◌, ◌++◌, refl, sym, ap, ◌∙◌, append_assoc, append-nil}
 use mathlib.Core.Bool.{false≢true}
-use Rattle.std.specs.Prelude.{◌||◌, ◌&&◌}
+use Rattle.std.specs.Prelude.{◌||◌}
 use Rattle.std.specs.List.{list_all}
 use Rattle.annex_model.specs.Lines.{has_newline, text, Cut}
 use Rattle.task_input.specs.InputLines.{is_end, lines_of, with_byte, with_rest}
+use Rattle.std.proofs.lemmas.Bool.{and_parts as both, not-true as clear}
 
 -- a line and its end stand before the lines of what follows
 ended : (last : Bool) (line more : List ℕ) → has_newline line ≡ false → lines_of last (line ++ 10 ∷ more) ≡ line ∷ lines_of last more
@@ -39,14 +40,6 @@ rest_true (b ∷ c ∷ rest) h = go (is_end b) h (rest_true (c ∷ rest))
         → cond s ([] ∷ lines_of true (c ∷ rest)) (with_byte true b (lines_of true (c ∷ rest))) ≡ (b ∷ c ∷ rest) ∷ []
     go true h next = absurd (false≢true (sym h))
     go false h next = ap (with_byte true b) (next h)
-
-both : (a b : Bool) → (a && b) ≡ true → (a ≡ true) × (b ≡ true)
-both true b h = (refl, h)
-both false b h = absurd (false≢true h)
-
-clear : (b : Bool) → not b ≡ true → b ≡ false
-clear false h = refl
-clear true h = absurd (false≢true h)
 
 pub behind : (last : Bool) (lines : List (List ℕ)) (rest : List ℕ) → list_all (λ line. not (has_newline line)) lines ≡ true
     → lines_of last (text lines ++ rest) ≡ lines ++ lines_of last rest

@@ -9,9 +9,9 @@ use Rattle.task_run.specs.declared.turn.TaskTurn.{TaskTurn}
 use Rattle.task_run.specs.Names.{fetch_file}
 use Rattle.task_run.specs.Reads.{lengths_found, reads_of, bytes_of, is_reading}
 use Rattle.task_run.specs.Gets.{bytes_fetched, is_read_whole, are_read_whole}
-use Rattle.task_run.proofs.Texts.{apart}
 use Rattle.task_run.proofs.HeldLaws.{reads_all}
 use Rattle.task_laws.specs.Contents.{Shows, AreFetched}
+use Rattle.ann_key.proofs.Booleans.{false_is_true as apart}
 
 -- ---- reads of one file
 

@@ -2,8 +2,7 @@
 use Rattle.std.proofs.Common.{◌≡◌, ◌∙◌, ◌⊎◌, inl, inr, ℕ, zero, suc, ◌+◌, ◌<◌, ◌≤◌, ◌==◌, Bool, true, false, List, [], ◌∷◌, ◌++◌, length, take, drop, refl, sym, ap, subst, arith, append_assoc}
 use Rattle.std.specs.Prelude.{◌≢◌, ◌&&◌, ◌||◌, if◌then◌else◌, nat_le, nat_lt, bytes_eq, Option, Some, None, is_none, option_map, unwrap_or, Result, Ok, Err}
 use Rattle.std.specs.List.{list_all}
-use Rattle.std.proofs.lemmas.Bool.{and_from, and_parts, or_left}
-use Rattle.std.proofs.lemmas.Bool.Decides.{eqb_tells, leb_tells}
+use Rattle.std.proofs.lemmas.Bool.{and_from, and_parts, or_left, eq-eqb as eq_test, le-leb as le_test}
 use Rattle.std.proofs.lemmas.Slice.Eq.{bytes_eq-Decides}
 use Rattle.ann_outside.specs.Files.{Files, content, AllStay, OthersStay, SizeIs, CreateDoes, AppendDoes, CutDoes, RenameDoes, RemoveDoes}
 use Rattle.ann_outside.specs.Played.{BytesAre, Does, Played}
@@ -15,18 +14,11 @@ use Rattle.ann_outside.specs.declared.file_desk.Call.TheVariants.{Size, ReadAt, 
 use Rattle.journal_model.specs.declared.answer.Answer.{Answer}
 use Rattle.task_run.specs.Reads.{length_found, read_of, held_after, holds, is_read_of, is_found_so, are_found_so, is_renaming, is_last}
 use Rattle.task_run.specs.Stops.{call_stop}
-use Rattle.task_run.proofs.Texts.{apart, other_name}
+use Rattle.ann_key.proofs.Lists.{equal_bytes as is_name}
+use Rattle.task_run.proofs.HeldLaws.{holds_more as holds_both}
+use Rattle.ann_key.proofs.Booleans.{false_is_true as apart}
 
 -- ---- tests
-
-pub eq_test : (a b : ℕ) → a ≡ b → (a == b) ≡ true
-eq_test a b e = elim (eqb_tells a b) [ inl h ↦ h.0 | inr h ↦ absurd (h.1 e) ]
-
-le_test : (a b : ℕ) → a ≤ b → nat_le a b ≡ true
-le_test a b low = elim (leb_tells a b) [ inl h ↦ h.0 | inr h ↦ absurd (let high = h.1 in omega (arith, low, high)) ]
-
-pub is_name : (a b : List ℕ) → bytes_eq a b ≡ true → a ≡ b
-is_name a b e = (bytes_eq-Decides a b).0 e
 
 pub not_name : (a b : List ℕ) → bytes_eq a b ≡ false → b ≡ a → ⊥
 not_name a b e is = apart (sym e ∙ (bytes_eq-Decides a b).1 (sym is))
@@ -235,10 +227,6 @@ ends_renamed name to (Remove other answer ∷ []) e = apart e
 ends_renamed name to (call ∷ next ∷ more) e =
     let rest : EndsRenamed name to (next ∷ more) = ends_renamed name to (next ∷ more) e in
     record { front = call ∷ rest.front; is = ap (λ (l : List Call). call ∷ l) rest.is }
-
-holds_both : (name : List ℕ) (held : Option (List ℕ)) (xs ys : List Call) → holds name held (xs ++ ys) ≡ holds name (holds name held xs) ys
-holds_both name held [] ys = refl
-holds_both name held (call ∷ more) ys = holds_both name (held_after name held call) more ys
 
 -- Where the last call renamed it to another, and it held these bytes till then, that other holds them.
 pub renamed_holds : (name part to bytes : List ℕ) (calls : List Call) (old new : Files) → GoOn part calls → Played calls old new → is_last (is_renaming name to) calls ≡ true

@@ -29,12 +29,12 @@ use Rattle.task_run.specs.Gets.{asked_last, failures, fetch_request, first_asked
 use Rattle.task_run.specs.Exports.{fetch_export}
 use Rattle.task_run.specs.Runs.{RunOf, WorkAsks, WorkAnswers, TaskRun}
 use Rattle.task_run.specs.RunLaws.{IsGot, is_get, sizes_got}
-use Rattle.task_run.proofs.Texts.{apart}
 use Rattle.task_run.proofs.GotLaws.{got_needs_fit}
 use Rattle.task_get.proofs.LastCalls.{after_last-at, after_last-none}
 use Rattle.task_get.proofs.AskLaws.{count_none}
 use Rattle.task_laws.specs.Kept.{fetch_of}
 use Rattle.task_laws.proofs.LastRounds.{LastAsks, last_asks}
+use Rattle.ann_key.proofs.Booleans.{false_is_true as apart}
 
 abbrev pub is_other : Option Answer → Bool
 is_other None = true

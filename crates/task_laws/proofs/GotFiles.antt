@@ -1,5 +1,5 @@
 -- A get that is answered Got leaves in its file what it checked.
-use Rattle.std.proofs.Common.{◌≡◌, ◌∙◌, List, [], ◌∷◌, ◌++◌, refl, sym, subst}
+use Rattle.std.proofs.Common.{◌≡◌, ◌∙◌, List, [], ◌∷◌, refl, sym, subst}
 use Rattle.std.specs.Prelude.{ℕ, not, Bool, true, false, Option, Some, None, IfSome, unwrap_or}
 use Rattle.std.specs.List.{list_all, filter_map, cons_option}
 use Rattle.std.proofs.lemmas.Bool.{and_parts}
@@ -19,21 +19,18 @@ use Rattle.task_run.specs.Gets.{checked, is_got}
 use Rattle.task_run.specs.Runs.{RunOf, TaskRun, WorkAnswers}
 use Rattle.task_run.specs.RunLaws.{sizes_got}
 use Rattle.task_run.proofs.GotLaws.{get_fits}
-use Rattle.task_run.proofs.Texts.{apart}
 use Rattle.task_laws.specs.FilesKept.{GotHolds, HoldsChecked}
 use Rattle.task_laws.proofs.FileHolds.{GoOn, found_so, renamed_holds}
 use Rattle.task_laws.proofs.GotEnds.{GotEnds, are_other, got_ends, stops_other}
 use Rattle.task_laws.proofs.Keeping.{Decided, decided}
+use Rattle.ann_key.proofs.Lists.{nil_back as nil_behind}
+use Rattle.ann_key.proofs.Booleans.{false_is_true as apart}
 
 -- no stop is Got, so there is none
 unstopped : (stops : List Answer) (Finished : Type 0) → are_other stops ≡ true → AnsweredBy stops A.Got Finished → stops ≡ []
 unstopped [] Finished h r = refl
 unstopped (stop ∷ []) Finished h r = let P : Answer → Type 0 = λ a. not (is_got a) ≡ true in apart (subst P (sym r) (and_parts (not (is_got stop)) true h).0)
 unstopped (stop ∷ another ∷ more) Finished h r = absurd r
-
-nil_behind : {X : Type 0} (xs ys : List X) → xs ++ ys ≡ [] → ys ≡ []
-nil_behind [] ys e = e
-nil_behind (x ∷ xs) ys e = absurd cc
 
 goes_on : (part : List ℕ) (calls : List Call) → filter_map (call_stop part) calls ≡ [] → GoOn part calls
 goes_on part [] e = tt

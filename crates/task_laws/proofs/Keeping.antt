@@ -25,7 +25,6 @@ use Rattle.task_run.specs.Layouts.{chunk_sizes, sizes_tried, parts_of_layout, ke
 use Rattle.task_run.specs.Reads.{lengths_found, reads_of, bytes_of}
 use Rattle.task_run.specs.Gets.{lengths_at_begin, wanted, failures, item, asked_last, first_asked, parts_last, is_plain_last, held_reads, bytes_fetched, checked, is_wrong, is_read_whole, are_read_whole, wrong_lengths, IsChecked, IsFetchKept, DecidesBy, Decides, GetAnswers}
 use Rattle.task_run.specs.RunLaws.{sizes_got}
-use Rattle.task_run.proofs.Texts.{apart}
 use Rattle.task_run.proofs.GotLaws.{never_failed, get_fits}
 use Rattle.task_laws.specs.Contents.{AreFetched}
 use Rattle.task_laws.specs.Kept.{chunk_last, fetch_of, is_afresh, Keeps, GotKeeps}
@@ -34,20 +33,14 @@ use Rattle.task_laws.proofs.LastRounds.{LastAsks}
 use Rattle.task_laws.proofs.WantedParts.{Afresh, HasLength, asks_all, is_there, wanted_few, item_there, item-map}
 use Rattle.task_laws.proofs.FileContents.{fetched_are}
 use Rattle.task_laws.proofs.GotEnds.{GotEnds, got_ends, keys_wanted}
+use Rattle.ann_key.proofs.Lists.{nil_back as nil_behind, nil_front}
+use Rattle.ann_key.proofs.Booleans.{false_is_true as apart}
 
 -- ---- lengths
 
 total : List Part → ℕ
 total [] = 0
 total (part ∷ more) = (part.to - part.from) + total more
-
-nil_front : {X : Type 0} (xs ys : List X) → xs ++ ys ≡ [] → xs ≡ []
-nil_front [] ys e = refl
-nil_front (x ∷ xs) ys e = absurd cc
-
-nil_behind : {X : Type 0} (xs ys : List X) → xs ++ ys ≡ [] → ys ≡ []
-nil_behind [] ys e = e
-nil_behind (x ∷ xs) ys e = absurd cc
 
 right_length : (size : ℕ) (part : Part) (content lengths : List ℕ) (reads : List (ℕ × List ℕ)) → is_read_whole reads lengths ≡ true → list_all (λ n. n == length content) lengths ≡ true → filter (is_wrong (Some size) part) lengths ≡ []
     → length content ≡ part.to - part.from

@@ -6,32 +6,20 @@ use Rattle.std.proofs.lemmas.Bool.{and_parts}
 use Rattle.std.proofs.lemmas.List.Sums.{sum_by-cons}
 use Rattle.ann_key.specs.Keys.{Parts}
 use Rattle.annex_model.specs.Messages.{HostMessage}
-use Rattle.journal_model.specs.declared.verdict.Verdict.{Verdict}
 use Rattle.journal_model.specs.declared.verdict.Verdict.TheVariants as V
 use Rattle.task_run.specs.Askers.{Asking}
-use Rattle.task_run.specs.Stops.{is_done, is_done_at, all_but_last}
+use Rattle.task_run.specs.Stops.{is_done, all_but_last}
 use Rattle.task_run.specs.Requests.{AsksFor, AskInOrder, rounds, RoundsAsk}
 use Rattle.task_run.specs.Gets.{is_failed, failures, asked_last, first_asked, item}
-use Rattle.task_run.proofs.Texts.{apart}
 use Rattle.task_run.proofs.Lists.{all_taken}
 use Rattle.task_get.proofs.LastCalls.{Last, last_of, after_last-at, after_last-none}
 use Rattle.task_get.proofs.AskLaws.{count_none, count_more}
+use Rattle.task_get.proofs.GetTurns.{failed_undone as undone}
+use Rattle.ann_key.proofs.Booleans.{false_is_true as apart}
 
 -- the request was done, or failed
 abbrev pub is_calm : Asking → Bool
 is_calm a = is_done a || is_failed a
-
-undone : (a : Asking) → is_failed a ≡ true → is_done a ≡ false
-undone a h = of_verdict a.verdict h
-  where
-    of_verdict : (v : Verdict) → is_failed (record { request = a.request; name = a.name; verdict = v }) ≡ true → is_done_at v ≡ false
-    of_verdict (V.Failed at) h = refl
-    of_verdict (V.Done at) h = apart h
-    of_verdict (V.Absent at) h = refl
-    of_verdict (V.Unknown at) h = refl
-    of_verdict (V.Unsupported at) h = refl
-    of_verdict (V.Ended why) h = refl
-    of_verdict V.Unsent h = refl
 
 -- a request that is done is the first of its round
 pub record Onto (ask : ℕ → List ℕ → HostMessage) (n : ℕ) (layouts : List (List Parts)) (a : Asking) (more : List (List Asking)) : Type 0 where

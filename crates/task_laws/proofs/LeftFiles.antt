@@ -1,22 +1,17 @@
 -- Calls that leave a file as it is show what it held before them.
-use Rattle.std.proofs.Common.{◌≡◌, ◌∙◌, inl, inr, ℕ, ◌==◌, Bool, true, false, List, [], ◌∷◌, length, refl, sym}
+use Rattle.std.proofs.Common.{◌≡◌, ◌∙◌, inl, inr, ℕ, ◌==◌, Bool, true, List, [], ◌∷◌, length, refl, sym}
 use Rattle.std.specs.Prelude.{◌||◌, not, bytes_eq, Option, Some, None, option_map, unwrap_or, Result, Ok, Err}
 use Rattle.std.specs.List.{list_all, cons_option}
-use Rattle.std.proofs.lemmas.Bool.{and_from, and_parts, or_parts}
+use Rattle.std.proofs.lemmas.Bool.{and_from, and_parts, or_parts, not-true as no_more}
 use Rattle.ann_outside.specs.Files.{Files, content}
 use Rattle.ann_outside.specs.Played.{Does, Played}
 use Rattle.ann_outside.specs.declared.file_desk.DeskError.TheVariants.{Failed, Missing, NoMemory}
 use Rattle.ann_outside.specs.declared.file_desk.Call.{Call}
 use Rattle.ann_outside.specs.declared.file_desk.Call.TheVariants.{Size, ReadAt, Create, Append, Cut, Rename, Remove}
 use Rattle.task_run.specs.Reads.{length_found, read_of, lengths_found, reads_of, is_read_of, is_found_so}
-use Rattle.task_run.proofs.Texts.{apart}
 use Rattle.task_laws.specs.Contents.{Shows}
 use Rattle.task_laws.specs.FilesKept.{leaves, LeftShows}
 use Rattle.task_laws.proofs.FileHolds.{IsKnown, size_found, size_lost, read_found, read_lost, nothing_found, not_name}
-
-no_more : (b : Bool) → not b ≡ true → b ≡ false
-no_more false e = refl
-no_more true e = apart e
 
 module _ (name : List ℕ) (b c : Files) where
   other_than : (other : List ℕ) → not (bytes_eq other name) ≡ true → name ≡ other → ⊥

@@ -1,6 +1,6 @@
 -- Elements of lists.
-use Rattle.std.proofs.Common.{◌≡◌, ◌⊎◌, inl, inr, ℕ, zero, suc, ◌<◌, Bool, true, false, List, [], ◌∷◌, ◌++◌, length, drop, refl, subst, arith}
-use Rattle.std.specs.Prelude.{cond, Contains, Option, Some, None, find, slice_index_or}
+use Rattle.std.proofs.Common.{◌≡◌, ◌⊎◌, inl, inr, ℕ, zero, suc, ◌<◌, Bool, true, List, [], ◌∷◌, ◌++◌, length, drop, subst, arith}
+use Rattle.std.specs.Prelude.{Contains, Option, Some, None, slice_index_or}
 use Rattle.std.specs.List.{list_all, cons_option}
 use Rattle.std.proofs.lemmas.Bool.{and_parts}
 
@@ -43,15 +43,6 @@ pub all_in : {X : Type 0} (p : X → Bool) (xs : List X) (x : X) → list_all p 
 all_in p [] x h k = absurd k
 all_in {X} p (y ∷ ys) x h (inl e) = let P : X → Type 0 = λ z. p z ≡ true in subst P e (and_parts (p y) (list_all p ys) h).0
 all_in p (y ∷ ys) x h (inr k) = all_in p ys x (and_parts (p y) (list_all p ys) h).1 k
-
--- what is found passes the test
-pub found_passes : {X : Type 0} (p : X → Bool) (xs : List X) (x : X) → find p xs ≡ Some x → p x ≡ true
-found_passes p [] x e = absurd (let k : None ≡ Some x = e in cc)
-found_passes {X} p (y ∷ ys) x e = by_test (p y) refl e (found_passes p ys x)
-  where
-    by_test : (b : Bool) → p y ≡ b → cond b (Some y) (find p ys) ≡ Some x → (find p ys ≡ Some x → p x ≡ true) → p x ≡ true
-    by_test true t e more = let k : Some y ≡ Some x = e in let is : y ≡ x = cc in let P : X → Type 0 = λ z. p z ≡ true in subst P is t
-    by_test false t e more = more e
 
 pub in_option : {X : Type 0} (x : X) (o : Option X) (xs : List X) → IsIn x xs → IsIn x (cons_option o xs)
 in_option x None xs h = h

@@ -2,7 +2,7 @@
 use Rattle.std.proofs.Common.{◌≡◌, ◌∙◌, ◌⊎◌, inl, inr, ℕ, zero, suc, ◌+◌, ◌==◌, Bool, true, false, List, [], ◌∷◌, ◌++◌, length, take, refl, sym, ap, subst, arith, length-append}
 use Rattle.std.specs.Prelude.{◌||◌, cond, if◌then◌else◌, not, filter, bytes_eq, Option, Some, None, option_map, Result, Ok, Err}
 use Rattle.std.specs.List.{list_all, filter_map, cons_option}
-use Rattle.std.proofs.lemmas.Bool.{and_from, and_parts, or_right}
+use Rattle.std.proofs.lemmas.Bool.{and_from, and_parts, or_right, eq-eqb as eq_test}
 use Rattle.ann_key.specs.Keys.{Parts, key_reading}
 use Rattle.ann_outside.specs.Files.{Files, content}
 use Rattle.ann_outside.specs.Played.{Does, Played}
@@ -15,11 +15,12 @@ use Rattle.task_run.specs.Stops.{call_stop}
 use Rattle.task_run.specs.Reads.{length_or_none}
 use Rattle.task_run.specs.Gets.{begins, is_plain_last, lengths_at_begin, since_begin}
 use Rattle.task_run.specs.RunLaws.{sizes_got}
-use Rattle.task_run.proofs.Texts.{apart}
 use Rattle.task_get.proofs.LastCalls.{Last, last_of, after_last-at}
 use Rattle.task_laws.specs.FilesKept.{fills, NoPartIsAfresh}
-use Rattle.task_laws.proofs.FileHolds.{GoOn, go_parts, is_name, not_name, eq_test}
+use Rattle.task_laws.proofs.FileHolds.{GoOn, go_parts, not_name}
 use Rattle.task_laws.proofs.GotFiles.{got_goes_on}
+use Rattle.ann_key.proofs.Booleans.{false_is_true as apart}
+use Rattle.ann_key.proofs.Lists.{equal_bytes as is_name}
 
 -- the file is missing or empty
 abbrev IsEmpty : List ℕ → Files → Type 0

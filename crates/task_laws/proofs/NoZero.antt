@@ -19,16 +19,16 @@ use Rattle.journal_model.specs.Shares.{is_closed}
 use Rattle.journal_model.proofs.Looks.{any-append}
 use Rattle.task_run.specs.declared.setup.Setup.{Setup}
 use Rattle.task_run.specs.TaskRuns.{refused_at, refusal_of, or_refusal, ended_answer, gone_answer, unready_answer, failed_start}
-use Rattle.task_run.proofs.Texts.{apart}
 use Rattle.lone_work.specs.Works.{TaskDone}
 use Rattle.lone_rounds.specs.Starting.{is_any_start, is_unclosed, is_spent, is_start_spent, are_spent, up_to}
 use Rattle.lone_rounds.specs.Rounds.{turn_of, start_untaken, ZeroAnswers, HasRun}
 use Rattle.task_laws.specs.LoneWell.{is_no_start, is_refusal, is_unclosed_end, is_muting, ChildrenWell, NoneWithoutChild, IsDeskWell, WentWellAlone, IsDoneWell, LoneSucceeds}
 use Rattle.task_laws.proofs.RunsWell.{one_succeeds}
+use Rattle.ann_key.proofs.Booleans.{false_is_true as apart}
 
 -- ---- of the entries before a place
 
-before : (p : What → Bool) (xs ys : List Entry) → any p (xs ++ ys) ≡ false → any p xs ≡ false
+pub before : (p : What → Bool) (xs ys : List Entry) → any p (xs ++ ys) ≡ false → any p xs ≡ false
 before p [] ys h = refl
 before p (x ∷ xs) ys h =
     let parts = or_parts (p x.what) (any p (xs ++ ys)) h in
@@ -38,7 +38,7 @@ before p (x ∷ xs) ys h =
 
 -- ---- no child is mute, ended unless it was closed, or refused
 
-none_mute : (past : List Entry) (c : ℕ) → any is_muting past ≡ false → is_mute past c ≡ false
+pub none_mute : (past : List Entry) (c : ℕ) → any is_muting past ≡ false → is_mute past c ≡ false
 none_mute [] c h = refl
 none_mute (e ∷ past) c h =
     let parts = or_parts (is_muting e.what) (any is_muting past) h in

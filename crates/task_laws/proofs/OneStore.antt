@@ -31,18 +31,19 @@ use Rattle.task_run.specs.Reads.{holds}
 use Rattle.task_run.specs.Gets.{asked_last, first_asked}
 use Rattle.task_run.specs.Runs.{is_chunked}
 use Rattle.task_run.specs.RunLaws.{sizes_got}
-use Rattle.task_run.proofs.Texts.{apart}
 use Rattle.task_laws.specs.Changes.{Request, request_in, requests, requests_from, changes_key, is_storing, last_change, is_done_by, Retrieves}
 use Rattle.task_laws.specs.Faithful.{Told, file_named, is_chunking, sent, IsStoredFor, AreStoredFor}
 use Rattle.task_laws.specs.Kept.{chunk_last, fetch_of, Keeps}
 use Rattle.task_laws.specs.Retrieval.{StoredInChunks, KeepsStoredContent}
 use Rattle.task_laws.specs.Sent.{IsRangeSent}
-use Rattle.task_laws.proofs.Members.{IsIn, is_in, found_passes, in_option}
+use Rattle.task_laws.proofs.Members.{IsIn, is_in, in_option}
 use Rattle.task_laws.proofs.WithinRuns.{within_run, in_reversed, found_in, in_front}
 use Rattle.task_laws.proofs.Sending.{chunk_ranges, store_asks, content_long}
 use Rattle.task_run.specs.Stores.{ChunkStoreAsks}
 use Rattle.task_laws.proofs.Keeping.{some_part}
 use Rattle.task_laws.proofs.Retrieving.{keeps_stored, ran_in}
+use Rattle.ann_key.proofs.Booleans.{false_is_true as apart}
+use Rattle.ann_key.proofs.Lists.{found_so as found_passes}
 
 -- ---- what stored a key
 
@@ -186,7 +187,7 @@ same_range k l c d p q base some hp hq e = by_q (part_is l d q hq)
 -- ---- one store
 
 -- tasks are numbered from 1
-task_above : (o : Opening) (u : ℕ) (task : Task) → task_of o u ≡ Some task → 0 < u
+pub task_above : (o : Opening) (u : ℕ) (task : Task) → task_of o u ≡ Some task → 0 < u
 task_above o zero task e = absurd (let k : None ≡ Some task = e in cc)
 task_above o (suc u) task e = omega arith
 

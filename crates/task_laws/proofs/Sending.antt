@@ -25,11 +25,11 @@ use Rattle.task_run.specs.Reads.{length_found, lengths_found, reads_of, reads_be
 use Rattle.task_run.specs.Checks.{present_request}
 use Rattle.task_run.specs.Stores.{is_size, fits_length, chunk_request, questions, found, transfers, missing_parts, is_front, is_copied, copied_length, part_length, is_filled, are_whole, PlainStoreAsks, ChunkStoreAsks}
 use Rattle.task_run.specs.Runs.{RunOf, TaskRun, is_chunked, WorkAsks}
-use Rattle.task_run.proofs.Texts.{apart}
 use Rattle.task_run.proofs.HeldLaws.{reads_front}
 use Rattle.task_laws.specs.Contents.{Shows}
 use Rattle.task_laws.specs.Sent.{IsRangeSent, ChunksAreRanges}
 use Rattle.task_laws.proofs.Members.{IsIn, is_in, contained, in_split, in_dropped, all_in}
+use Rattle.ann_key.proofs.Booleans.{false_is_true as apart}
 
 -- ---- no question stores
 

@@ -8,7 +8,7 @@ use Rattle.ann_key.specs.Keys.{Parts}
 use Rattle.chunk_plan.specs.Layouts.{Part, count_of, from_of, to_of, is_held, held_of}
 use Rattle.task_run.specs.Layouts.{parts_of_layout}
 use Rattle.task_run.specs.Gets.{parts_wanted, wanted, item}
-use Rattle.task_run.proofs.Texts.{apart}
+use Rattle.ann_key.proofs.Booleans.{false_is_true as apart}
 
 -- ---- nothing is held of nothing
 

@@ -33,19 +33,12 @@ use Rattle.task_run.specs.Gets.{failures, asked_last, parts_last, lengths_at_beg
 use Rattle.task_run.specs.Ran.{is_of_content}
 use Rattle.task_run.specs.Runs.{RunOf, is_chunked, WorkAnswers}
 use Rattle.task_run.specs.Exports.{DoneOrFailed}
-use Rattle.task_run.proofs.Texts.{apart}
 use Rattle.task_run.proofs.Lists.{none_stop}
 use Rattle.task_laws.specs.WentWell.{is_told, is_asked_well, error_of, is_borne, is_called_well, is_read_within, IsFileWhole, IsSentWell, IsFoundWell, WentWell, success_of, IsSuccess, WellIsSuccess, WellUnlessRefused}
+use Rattle.ann_key.proofs.Lists.{weaken}
+use Rattle.ann_key.proofs.Booleans.{false_is_true as apart}
 
 -- ---- tests of all
-
-pub weaken : {X : Type 0} (p q : X → Bool) (xs : List X) → ((x : X) → p x ≡ true → q x ≡ true) → list_all p xs ≡ true → list_all q xs ≡ true
-weaken p q [] f h = refl
-weaken p q (x ∷ xs) f h =
-    let parts = and_parts (p x) (list_all p xs) h in
-    let one : q x ≡ true = f x parts.0 in
-    let rest : list_all q xs ≡ true = weaken p q xs f parts.1 in
-    rw (one, rest) refl
 
 pub dropped : {X : Type 0} (p : X → Bool) (k : ℕ) (xs : List X) → list_all p xs ≡ true → list_all p (drop k xs) ≡ true
 dropped p zero xs h = h

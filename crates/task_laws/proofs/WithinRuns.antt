@@ -17,11 +17,11 @@ use Rattle.journal_model.specs.Legality.{Legal, may_come, claims, renews, answer
 use Rattle.journal_model.proofs.Growing.{Near, Legal-induction}
 use Rattle.journal_model.proofs.Holding.{claimed_append, held_busy, held_near}
 use Rattle.journal_model.proofs.Looks.{entry}
-use Rattle.journal_model.proofs.Working.{ask_work, count-append, due_untasked, takes, unclaimed_in, worker}
+use Rattle.journal_model.proofs.Working.{ask_work, count-append, due_untasked, takes, unclaimed_in, worker, claims_of as claims_task}
 use Rattle.task_run.specs.Askings.{TaskStretch, closing, past_claim}
-use Rattle.task_run.proofs.Texts.{apart}
 use Rattle.task_laws.specs.Changes.{Request, request_in, requests, requests_from}
 use Rattle.task_laws.proofs.Members.{IsIn, in_split}
+use Rattle.ann_key.proofs.Booleans.{false_is_true as apart}
 
 -- those that were asked within a run of task t, of any task
 abbrev pub run_requests : {journal : List Entry} → {t : ℕ} → TaskStretch journal t → List Request
@@ -133,10 +133,6 @@ none_free u past (e ∷ xs) h =
     let one : claims u e.what ≡ false = parts.0 in
     let rest : are_free u (past ++ e ∷ []) xs ≡ true = none_free u (past ++ e ∷ []) xs parts.1 in
     rw (one, rest) refl
-
-claims_task : (u : ℕ) (w : What) → claims u w ≡ true → is_of_task u w ≡ true
-claims_task u (Claim task child) h = h
-claims_task u w h = absurd cc
 
 pub all_free : (o : Opening) (journal : List Entry) (u : ℕ) → 0 < u → Legal o journal → are_free u [] journal ≡ true
 all_free o journal u pos legal = Legal-induction o (λ p. are_free u [] p ≡ true) refl (λ past e l before may. step past e.by e.what before may) journal legal

@@ -1,13 +1,12 @@
 -- Groups, and which task is the next of one.
 use Rattle.std.proofs.Common.{◌≡◌, ◌∙◌, ℕ, zero, suc, ◌+◌, ◌-◌, ◌<◌, ◌≤◌, ◌⊎◌, List, [], ◌∷◌, refl, sym, ap, subst, Bool, true, false, Option, Some, None, length, set, min, arith, inl, inr}
 use Rattle.std.specs.Prelude.{◌==◌, bytes_eq, is_some, option_map, slice_get}
-use Rattle.std.proofs.lemmas.Bool.{cases_eq, cases_lt}
+use Rattle.std.proofs.lemmas.Bool.{cases_eq, cases_lt, ne_eqb as differ}
 use Rattle.std.proofs.lemmas.List.{get_or_past, length-set}
 use Rattle.std.proofs.lemmas.Slice.Eq.{bytes_eq-Decides}
 use Rattle.task_text.specs.declared.task.Task.{Task}
 use Rattle.journal_model.specs.declared.opening.Opening.{Opening}
 use Rattle.journal_model.specs.Legality.{both_conflict, task_of}
-use Rattle.journal_model.proofs.Looks.{differ}
 use Rattle.task_queue.specs.Groups.{AreChained, AreFirsts, AreGroups, AreNext, AreWithin, IsFirst, is_set, key_of, number_at}
 use Rattle.task_queue.proofs.Places.{at_set, beyond, down_other, still_down}
 

@@ -2,7 +2,6 @@
 use Rattle.std.proofs.Common.{◌≡◌, ℕ, List, [], ◌∷◌, ◌++◌, refl, sym, ap, subst, ◌∙◌, append_assoc, Bool, true, false, not, ◌==◌, cond, Some, None, Option}
 use Rattle.std.specs.Prelude.{◌||◌, option_map, filter}
 use Rattle.std.specs.List.{list_any, cons_option}
-use Rattle.std.specs.Option.{option_or}
 use Rattle.std.proofs.lemmas.List.{append-nil}
 use Rattle.journal_model.specs.declared.verdict.Verdict.{Verdict}
 use Rattle.annex_model.specs.Messages.{HostMessage, host_reading}
@@ -11,9 +10,14 @@ use Rattle.journal_model.specs.declared.entry.What.TheVariants.{Ask, Lost}
 use Rattle.journal_model.specs.declared.entry.Entry.{Entry}
 use Rattle.journal_model.specs.Journal.{any, each_of, asked_jobs, asks, is_settled, is_open, verdict_of, why_of, addressed}
 use Rattle.journal_model.specs.Legality.{job_for, has_open_job}
-use Rattle.journal_model.proofs.Looks.{entry, is_asked, same, same_number, either_left, either_right, true_not_false, verdict_of-append, unsettled}
+use Rattle.journal_model.proofs.Looks.{entry, is_asked}
 use Rattle.task_run.specs.TaskRuns.{Asking, asking_of, askings_from, askings, lost_verdict}
 use Rattle.task_run.specs.Askings.{name_before}
+use Rattle.ann_key.proofs.Booleans.{or_right, or_left, left_false as either_left, right_false as either_right}
+use Rattle.ann_key.proofs.Lists.{cons_option-append}
+use Rattle.journal_model.proofs.Working.{asked_behind, asked_first, kept_verdict as kept}
+use Rattle.ann_key.proofs.Numbers.{same_number as same}
+use Rattle.std.proofs.lemmas.Bool.{eqb-true as same_number}
 
 -- the entry is a request of task t, or stands for one
 abbrev pub asks_for : ℕ → What → Bool
@@ -22,10 +26,6 @@ asks_for t (Lost child task) = task == t
 asks_for t _ = false
 
 -- ---- along the list
-
-cons_option-append : {X : Type 0} (o : Option X) (xs ys : List X) → cons_option o xs ++ ys ≡ cons_option o (xs ++ ys)
-cons_option-append None xs ys = refl
-cons_option-append (Some x) xs ys = refl
 
 pub askings_from-append : (journal : List Entry) (t : ℕ) (past xs ys : List Entry)
     → askings_from journal t past (xs ++ ys) ≡ askings_from journal t past xs ++ askings_from journal t (past ++ xs) ys
@@ -85,25 +85,9 @@ abbrev AllAsked : List Entry → List (ℕ × ℕ) → Type 0
 AllAsked past [] = Unit {0}
 AllAsked past (q ∷ qs) = (is_asked past q.0 q.1 ≡ true) × AllAsked past qs
 
-or_right : (a b : Bool) → b ≡ true → (a || b) ≡ true
-or_right true b h = refl
-or_right false b h = h
-
-or_left : (a b : Bool) → a ≡ true → (a || b) ≡ true
-or_left true b h = refl
-or_left false b h = absurd cc
-
-asked_behind : (o : Option ℕ) (ks : List ℕ) (j : ℕ) → list_any (λ k. k == j) ks ≡ true → list_any (λ k. k == j) (cons_option o ks) ≡ true
-asked_behind None ks j h = h
-asked_behind (Some k) ks j h = or_right (k == j) (list_any (λ k. k == j) ks) h
-
 all_behind : (by : ℕ) (w : What) (xs : List Entry) (qs : List (ℕ × ℕ)) → AllAsked xs qs → AllAsked (entry by w ∷ xs) qs
 all_behind by w xs [] h = tt
 all_behind by w xs (q ∷ qs) h = (asked_behind (asks q.0 w) (asked_jobs xs q.0) q.1 h.0, all_behind by w xs qs h.1)
-
-asked_first : (by child job task : ℕ) (line : List ℕ) (xs : List Entry) → is_asked (entry by (Ask child job task line) ∷ xs) child job ≡ true
-asked_first by child job task line xs =
-    rw (same child) (or_left (job == job) (list_any (λ k. k == job) (asked_jobs xs child)) (same job))
 
 all_asked : (t : ℕ) (xs : List Entry) → AllAsked xs (each_of (job_for t) xs)
 all_asked t [] = tt
@@ -136,13 +120,6 @@ unsettled_open past c j (k ∷ ks) a h = by_number (k == j) refl a (λ b. unsett
             → list_any (λ k. k == j) (cond (not b) (k ∷ filter (λ k. not (is_settled past c k)) ks) (filter (λ k. not (is_settled past c k)) ks)) ≡ true
         go true r = r
         go false r = or_right (k == j) (list_any (λ k. k == j) (filter (λ k. not (is_settled past c k)) ks)) r
-
-kept : (past more : List Entry) (c j : ℕ) → is_asked past c j ≡ true → is_open past c j ≡ false → verdict_of (past ++ more) c j ≡ verdict_of past c j
-kept past more c j a h = verdict_of-append c j past more ∙ by_verdict (verdict_of past c j) refl
-  where
-    by_verdict : (o : Option Verdict) → verdict_of past c j ≡ o → option_or o (verdict_of more c j) ≡ o
-    by_verdict (Some v) e = refl
-    by_verdict None e = true_not_false (is_open past c j) (unsettled_open past c j (asked_jobs past c) a (unsettled past c j e)) h
 
 all_kept : (past more : List Entry) (qs : List (ℕ × ℕ)) → AllAsked past qs → list_any (λ q. is_open past q.0 q.1) qs ≡ false
     → SameVerdicts (past ++ more) past qs

@@ -19,7 +19,7 @@ use Rattle.task_run.specs.Requests.{AsksFor, key_named}
 use Rattle.task_run.specs.Exports.{AsksOfName}
 use Rattle.task_run.specs.Runs.{RunOf, TaskRun}
 use Rattle.task_run.proofs.PlainRuns.{of_reading}
-use Rattle.task_run.proofs.Texts.{apart}
+use Rattle.ann_key.proofs.Booleans.{false_is_true as apart}
 
 abbrev pub with_work : Work → Task → Task
 with_work work task = record { work = work; key = task.key; file = task.file; name = task.name; onto = task.onto }

@@ -12,7 +12,8 @@ use Rattle.ann_key.proofs.Unique.{own_numbers}
 use Rattle.task_run.specs.declared.setup.Setup.{Setup}
 use Rattle.task_run.specs.declared.turn.TaskTurn.{TaskTurn}
 use Rattle.task_run.specs.Names.{request_file, chunk_file, fetch_file, part_of, turn_text}
-use Rattle.task_run.proofs.Texts.{other_name, apart}
+use Rattle.ann_key.proofs.Lists.{other_name}
+use Rattle.ann_key.proofs.Booleans.{false_is_true as apart}
 
 abbrev pub last_in : List ℕ → ℕ
 last_in [] = 0

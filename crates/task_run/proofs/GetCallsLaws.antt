@@ -1,9 +1,8 @@
 -- The calls of a get in the plain layout, one by one.
-use Rattle.std.proofs.Common.{◌≡◌, ◌∙◌, ℕ, ◌+◌, List, [], ◌∷◌, ◌++◌, length, refl, ap, arith, append-nil, append_assoc, add-zero, length-append, eq-eqb}
-use Rattle.std.specs.Prelude.{◌==◌, Bool, true, false, ◌&&◌, ◌||◌, bytes_eq, Option, Some, None, is_none, Result, Ok}
+use Rattle.std.proofs.Common.{◌≡◌, ◌∙◌, ℕ, ◌+◌, List, [], ◌∷◌, ◌++◌, length, refl, ap, arith, append-nil, append_assoc, add-zero, length-append}
+use Rattle.std.specs.Prelude.{Bool, true, false, ◌&&◌, ◌||◌, bytes_eq, Option, Some, None, is_none, Result, Ok}
 use Rattle.std.specs.List.{list_all, filter_map, concat}
 use Rattle.std.proofs.lemmas.List.Elements.{filter_map-append}
-use Rattle.std.proofs.lemmas.List.Folds.{list_all-append}
 use Rattle.ann_outside.specs.declared.file_desk.DeskError.{DeskError}
 use Rattle.ann_outside.specs.declared.file_desk.Call.{Call}
 use Rattle.ann_outside.specs.declared.file_desk.Call.TheVariants.{Size, ReadAt, Create, Append, Rename, Remove}
@@ -13,8 +12,10 @@ use Rattle.task_run.specs.Names.{part_of}
 use Rattle.task_run.specs.Reads.{length_or_none, reads_of, is_run, is_known, known_by, last_is_true, bytes_of, read_of, piece_of}
 use Rattle.task_run.specs.Discipline.{name_only, changes_as_result, size_of_only, size_among, are_found, are_among, names_in, needed_by}
 use Rattle.task_run.specs.Fetching.{Outcome}
-use Rattle.task_run.proofs.Texts.{same_name, apart}
 use Rattle.task_run.proofs.HeldLaws.{is_lasting}
+use Rattle.ann_key.proofs.Lists.{all_more, same_name}
+use Rattle.ann_key.proofs.Numbers.{same_number as nat_same}
+use Rattle.ann_key.proofs.Booleans.{false_is_true as apart}
 
 -- the fetched file is not part, and part is not the file
 pub record Apart (file fetch : List ℕ) : Type 0 where
@@ -31,9 +32,6 @@ pub record Fair (file fetch : List ℕ) (calls : List Call) : Type 0 where
   pub no_length : filter_map (length_or_none (part_of file)) calls ≡ []
   pub no_read : reads_of (part_of file) calls ≡ []
   pub lasting : list_all (is_lasting (part_of file)) calls ≡ true
-
-all_more : {X : Type 0} (p : X → Bool) (xs ys : List X) → list_all p xs ≡ true → list_all p ys ≡ true → list_all p (xs ++ ys) ≡ true
-all_more p xs ys a b = rw (list_all-append p xs ys) (rw a b)
 
 none_more : {X Y : Type 0} (f : X → Option Y) (xs ys : List X) → filter_map f xs ≡ [] → filter_map f ys ≡ [] → filter_map f (xs ++ ys) ≡ []
 none_more f xs ys a b = rw (filter_map-append f xs ys) (rw a b)
@@ -217,9 +215,6 @@ placed at (piece ∷ pieces) = (at, piece) ∷ placed (at + length piece) pieces
 pub copy_reads : (from to : List ℕ) (at : ℕ) (pieces : List (List ℕ)) → reads_of from (copy_calls from to at pieces) ≡ placed at pieces
 copy_reads from to at [] = refl
 copy_reads from to at (piece ∷ pieces) = rw (same_name from) (ap (λ l. (at, piece) ∷ l) (copy_reads from to (at + length piece) pieces))
-
-pub nat_same : (n : ℕ) → (n == n) ≡ true
-nat_same n = eq-eqb n n refl
 
 pub run_placed : (at : ℕ) (pieces : List (List ℕ)) (more : List (ℕ × List ℕ)) → is_run (at + length (concat pieces)) more ≡ true → is_run at (placed at pieces ++ more) ≡ true
 run_placed at [] more h = rw (add-zero at) at h

@@ -32,7 +32,7 @@ use Rattle.task_run.specs.Gets.{checked, failures, is_got, IsChecked, DecidesBy,
 use Rattle.task_run.specs.Exports.{DoneOrFailed}
 use Rattle.task_run.specs.Runs.{RunOf, is_chunked, WorkAnswers}
 use Rattle.task_run.specs.RunLaws.{is_get, IsGot, GotNeedsFit}
-use Rattle.task_run.proofs.Texts.{apart}
+use Rattle.ann_key.proofs.Booleans.{false_is_true as apart}
 
 -- ---- no stop is Got
 

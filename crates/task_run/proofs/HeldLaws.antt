@@ -2,7 +2,7 @@
 use Rattle.std.proofs.Common.{◌≡◌, ◌∙◌, ℕ, ◌+◌, ◌-◌, ◌≤◌, ◌==◌, Bool, true, false, not, List, [], ◌∷◌, ◌++◌, length, take, drop, refl, sym, ap, subst, arith, append_assoc, append-nil, length-append}
 use Rattle.std.specs.Prelude.{◌||◌, if◌then◌else◌, nat_le, nat_lt, min, bytes_eq, Option, Some, None, is_some, option_map, unwrap_or, Ok, Err}
 use Rattle.std.specs.List.{list_all, filter_map, concat, cons_option}
-use Rattle.std.proofs.lemmas.Bool.{and_parts, eqb-true, leb-true}
+use Rattle.std.proofs.lemmas.Bool.{and_parts, eqb-true, leb-true, not-true as untrue}
 use Rattle.std.proofs.lemmas.List.{take-append-drop, take_all, drop_all, drop-drop, length-take}
 use Rattle.std.proofs.lemmas.Slice.Eq.{bytes_eq-Decides}
 use Rattle.std.proofs.Math.Seq.{take-add}
@@ -10,7 +10,8 @@ use Rattle.ann_outside.specs.declared.file_desk.Call.{Call}
 use Rattle.ann_outside.specs.declared.file_desk.Call.TheVariants.{Size, ReadAt, Create, Append, Cut, Rename, Remove}
 use Rattle.task_run.specs.Reads.{reads_of, read_of, length_found, bytes_of, is_run, is_at_end, is_reading, appended, piece_of, held_after, holds, is_read_of, is_found_so, are_found_so}
 use Rattle.task_run.specs.Fetching.{Outcome}
-use Rattle.task_run.proofs.Texts.{apart, same_name}
+use Rattle.ann_key.proofs.Booleans.{false_is_true as apart}
+use Rattle.ann_key.proofs.Lists.{same_name}
 
 -- ---- after others
 
@@ -65,10 +66,6 @@ told name (Some bytes) (call ∷ more) h k =
 told name None (call ∷ more) h k = apart k
 
 -- ---- it grows
-
-untrue : (t : Bool) → not t ≡ true → t ≡ false
-untrue true h = apart h
-untrue false h = refl
 
 -- the call leaves what the file holds, or appends to it
 abbrev pub is_growing : List ℕ → Call → Bool

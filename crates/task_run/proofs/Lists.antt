@@ -4,7 +4,7 @@ use Rattle.std.specs.Prelude.{Bool, true, false, ◌&&◌, Option, Some, None, i
 use Rattle.std.specs.List.{list_all, filter_map, cons_option}
 use Rattle.std.proofs.Math.Seq.{take-append_seam}
 use Rattle.task_run.specs.Stops.{all_but_last}
-use Rattle.task_run.proofs.Texts.{apart}
+use Rattle.ann_key.proofs.Booleans.{false_is_true as apart}
 
 pub all_taken : {X : Type 0} (p : X → Bool) (k : ℕ) (xs : List X) → list_all p xs ≡ true → list_all p (take k xs) ≡ true
 all_taken p zero xs h = refl

@@ -10,7 +10,7 @@ use Rattle.journal_model.specs.declared.verdict.Verdict.{Verdict}
 use Rattle.journal_model.specs.declared.verdict.Verdict.TheVariants as V
 use Rattle.journal_model.specs.Projection.{IsNamed}
 use Rattle.task_run.specs.Ran.{is_verdict_of}
-use Rattle.task_run.proofs.Texts.{apart}
+use Rattle.ann_key.proofs.Booleans.{false_is_true as apart}
 
 -- what an answer to such a request may be
 abbrev is_change : Final → Bool

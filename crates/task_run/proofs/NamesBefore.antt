@@ -14,9 +14,12 @@ use Rattle.journal_model.specs.Journal.{addressed, open_jobs}
 use Rattle.journal_model.specs.Due.{due_after, due_by, due_by_got, made_by}
 use Rattle.journal_model.specs.Legality.{Legal, MayStand}
 use Rattle.journal_model.proofs.Growing.{is_lead, groups_from, Led, Steps}
-use Rattle.journal_model.proofs.Looks.{entry, both, same}
+use Rattle.journal_model.proofs.Looks.{entry}
 use Rattle.journal_model.proofs.Soft.{is_soft, is_soft_why, soft_got, soft_mute, soft_verdicts}
 use Rattle.task_run.specs.Askings.{name_before, name_in, name_said}
+use Rattle.ann_key.proofs.Lists.{last_or-append}
+use Rattle.std.proofs.lemmas.Bool.{and_parts as both}
+use Rattle.ann_key.proofs.Numbers.{same_number as same}
 
 -- the last entry, if there is one, says no name
 abbrev pub is_unnamed : Option Entry → Bool
@@ -25,10 +28,6 @@ is_unnamed (Some e) = not (is_lead e.what)
 
 abbrev none_lead : List Entry → Bool
 none_lead xs = list_all (λ e. not (is_lead e.what)) xs
-
-pub last_or-append : {A : Type 0} (o : Option A) (xs ys : List A) → last_or o (xs ++ ys) ≡ last_or (last_or o xs) ys
-last_or-append o [] ys = refl
-last_or-append o (x ∷ xs) ys = last_or-append (Some x) xs ys
 
 soft_none_lead : (by : ℕ) (ws : List What) → list_all is_soft ws ≡ true → none_lead (made_by by ws) ≡ true
 soft_none_lead by [] h = refl

@@ -13,6 +13,7 @@ use Rattle.ann_key.specs.Keys.{is_key, is_sendable}
 use Rattle.annex_model.specs.Messages.{is_sent_key}
 use Rattle.task_text.specs.TaskLines.{is_task_key, has_chunk}
 use Rattle.task_run.specs.Checks.{present_request}
+use Rattle.ann_key.proofs.Booleans.{false_is_true as no_way}
 
 -- what holds of every reading of a key holds where there is one
 pub of_reading : (text : List ℕ) (P : Parts → Type 0) → ((key : Parts) → key_reading text ≡ Some key → P key) → IfSome (key_reading text) P
@@ -26,12 +27,6 @@ pub asks_for_check : (text : List ℕ) (key : Parts) (request : Option HostMessa
     → KeepsRequest (Checkpresent text) request v → AsksFor present_request n key (record { request = request; name = None; verdict = v })
 asks_for_check text key None v n e k = k
 asks_for_check text key (Some q) v n e k = rw k (refl, e)
-
-no_way : {A : Type 0} → false ≡ true → A
-no_way e = absurd (apart e)
-  where
-    apart : false ≡ true → ⊥
-    apart e = cc
 
 -- ---- keys that can be sent
 

@@ -9,18 +9,10 @@ use Rattle.ann_key.specs.Keys.{Parts, IsKey, IsField, IsChunkField, key_reading,
 use Rattle.ann_key.proofs.Spelling.{spelled_of_read, read_of_spelled}
 use Rattle.std.proofs.lemmas.Bool.{and_parts}
 use Rattle.annex_model.specs.Messages.{is_sent_key}
-use Rattle.task_run.proofs.Texts.{apart}
+use Rattle.ann_key.proofs.Booleans.{left_false as front_of, right_false as rest_of, false_is_true as apart}
 
 abbrev has_space : List ℕ → Bool
 has_space text = list_any (λ b. b == 32) text
-
-front_of : (a b : Bool) → (a || b) ≡ false → a ≡ false
-front_of true b e = apart (sym e)
-front_of false b e = refl
-
-rest_of : (a b : Bool) → (a || b) ≡ false → b ≡ false
-rest_of true b e = apart (sym e)
-rest_of false b e = e
 
 none_front : (xs ys : List ℕ) → has_space (xs ++ ys) ≡ false → has_space xs ≡ false
 none_front xs ys h = front_of (has_space xs) (has_space ys) (sym (list_any-append (λ b. b == 32) xs ys) ∙ h)

@@ -22,17 +22,16 @@ use Rattle.task_run.specs.Stores.{is_next_copied, chunk_request, found, transfer
 use Rattle.task_run.specs.Runs.{RunOf}
 use Rattle.task_run.specs.TaskCalls.{StoreCalls}
 use Rattle.task_store.specs.ChunkStoring.{chunk_keys}
-use Rattle.task_run.proofs.Texts.{same_name}
 use Rattle.task_run.proofs.Lists.{but_last, all_taken}
-use Rattle.task_store.proofs.ChunkStoreCalls.{lt_true, all_more}
 use Rattle.task_store.proofs.ChunkStoreRuns.{Going, with_size}
 use Rattle.task_store.proofs.ChunkStoreParts.{Chunked, chunk_parts, parts_many, Split, split_of, there_questions, found_there, no_more_found, next_of, drop_range}
-use Rattle.task_store.proofs.ChunkStoreCalls.{lt_false}
 use Rattle.task_store.proofs.ChunkStoreEnds.{Missing, store_task, all_done_free, end_memory, calls_of, chunked_is, sought_free, sought_length, sought_split, pieces_of, asks_of, the_note, run_finished}
 use Rattle.task_run.specs.Stores.{stored}
 use Rattle.task_run.specs.Ran.{behind_more}
 use Rattle.task_store.proofs.ChunkStoreTasks.{answers_stored, fits_is, stored_is, all_counted}
 use Rattle.task_store.proofs.ChunkStoreEnds.{Pieces, run_memory, run_asking_stop}
+use Rattle.ann_key.proofs.Lists.{same_name, all_more}
+use Rattle.std.proofs.lemmas.Bool.{lt-ltb as lt_true, le-ltb as lt_false}
 
 -- ---- after the last chunk
 

@@ -4,10 +4,8 @@ use Rattle.std.specs.Prelude.{Bool, true, false, ◌&&◌, ◌||◌, nat_le, nat
 use Rattle.std.specs.List.{list_all, list_any, filter_map, concat, range_with_len}
 use Rattle.std.proofs.Math.Seq.{take-append_seam}
 use Rattle.std.proofs.lemmas.List.Elements.{filter_map-append}
-use Rattle.std.proofs.lemmas.List.Folds.{list_all-append}
-use Rattle.std.proofs.lemmas.Bool.{and_parts}
+use Rattle.std.proofs.lemmas.Bool.{and_parts, le-leb as le_true}
 use Rattle.std.proofs.lemmas.Bool.Decides.{nat_tests}
-use Rattle.std.proofs.lemmas.Slice.Eq.{bytes_eq-Decides}
 use Rattle.ann_outside.specs.declared.file_desk.Call.{Call}
 use Rattle.ann_outside.specs.declared.file_desk.Call.TheVariants as K
 use Rattle.ann_outside.specs.declared.file_desk.Call.TheVariants.{Size, ReadAt, Create, Append, Cut, Rename, Remove}
@@ -21,37 +19,13 @@ use Rattle.task_run.specs.Reads.{reads_of, read_of, bytes_of, is_run, piece_of, 
 use Rattle.task_run.specs.Discipline.{are_among, names_in, changed_by, size_among, are_found}
 use Rattle.task_run.specs.Stores.{is_size_call, is_front}
 use Rattle.task_store.specs.ChunkStoring.{cut_calls}
-use Rattle.task_run.proofs.Texts.{same_name, apart}
 use Rattle.task_run.proofs.GetCallsLaws.{known_skip, known_add, copy_reads, copy_appends, placed, run_placed, bytes_placed}
-
-pub lt_true : (a b : ℕ) → a < b → nat_lt a b ≡ true
-lt_true a b h = grind (arith, nat_tests)
-
-pub le_true : (a b : ℕ) → a ≤ b → nat_le a b ≡ true
-le_true a b h = grind (arith, nat_tests)
-
-pub le_of : (a b : ℕ) → nat_le a b ≡ true → a ≤ b
-le_of a b h = grind (arith, nat_tests)
+use Rattle.ann_key.proofs.Lists.{all_more, equal_bytes as same_text, same_name}
+use Rattle.task_run.proofs.HeldLaws.{holds_more as holds_both}
+use Rattle.ann_key.proofs.Booleans.{false_is_true as apart}
 
 pub lt_of : (a b : ℕ) → nat_lt a b ≡ true → a < b
 lt_of a b h = grind (arith, nat_tests)
-
-pub lt_false : (a b : ℕ) → b ≤ a → nat_lt a b ≡ false
-lt_false a b h = grind (arith, nat_tests)
-
-pub same_text : (a b : List ℕ) → bytes_eq a b ≡ true → a ≡ b
-same_text a b h = (bytes_eq-Decides a b).0 h
-
-pub all_imp : {X : Type 0} (p q : X → Bool) → ((x : X) → p x ≡ true → q x ≡ true) → (xs : List X) → list_all p xs ≡ true → list_all q xs ≡ true
-all_imp p q h [] k = refl
-all_imp p q h (x ∷ xs) k =
-    let parts = and_parts (p x) (list_all p xs) k in
-    let first : q x ≡ true = h x parts.0 in
-    let rest : list_all q xs ≡ true = all_imp p q h xs parts.1 in
-    rw (first, rest) refl
-
-pub all_more : {X : Type 0} (p : X → Bool) (xs ys : List X) → list_all p xs ≡ true → list_all p ys ≡ true → list_all p (xs ++ ys) ≡ true
-all_more p xs ys a b = rw (list_all-append p xs ys) (rw (a, b) refl)
 
 all_both : {X : Type 0} (p q : X → Bool) (xs : List X) → list_all p xs ≡ true → list_all q xs ≡ true → list_all (λ x. p x && q x) xs ≡ true
 all_both p q [] a b = refl
@@ -299,10 +273,6 @@ cutting_removed file name from to calls r c = record {
     wrote = ap concat (filter_map-append (piece_of name) calls (Remove name r ∷ []) ∙ append-nil (filter_map (piece_of name) calls))
 
 -- ---- what the files hold
-
-pub holds_both : (name : List ℕ) (held : Option (List ℕ)) (xs ys : List Call) → holds name held (xs ++ ys) ≡ holds name (holds name held xs) ys
-holds_both name held [] ys = refl
-holds_both name held (x ∷ xs) ys = holds_both name (held_after name held x) xs ys
 
 -- another file holds what it held
 pub own_held : (file name other : List ℕ) (from : ℕ) (held : Option (List ℕ)) → bytes_eq name other ≡ false → (xs : List Call) → list_all (own file name from) xs ≡ true → holds other held xs ≡ held

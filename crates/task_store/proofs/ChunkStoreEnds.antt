@@ -3,7 +3,7 @@ use Rattle.std.proofs.Common.{◌≡◌, ◌≢◌, ◌∙◌, ℕ, ◌+◌, ◌
 use Rattle.std.specs.Prelude.{Bool, true, false, ◌&&◌, ◌||◌, not, nat_lt, count_by, Some, is_some, is_none}
 use Rattle.std.specs.List.{list_all, list_any, range_with_len}
 use Rattle.std.proofs.lemmas.List.Elements.{filter_map-append}
-use Rattle.std.proofs.lemmas.Bool.{and_parts}
+use Rattle.std.proofs.lemmas.Bool.{and_parts, lt-ltb as lt_true}
 use Rattle.ann_key.specs.Keys.{Parts, with_chunk}
 use Rattle.chunk_plan.specs.Layouts.{Part, chunk_part, count_of}
 use Rattle.journal_model.specs.declared.verdict.Verdict.{Verdict}
@@ -26,12 +26,12 @@ use Rattle.task_run.specs.Stores.{is_size_call, are_whole, are_removed, is_next_
 use Rattle.task_run.specs.Runs.{RunOf, WorkAnswers, is_chunked}
 use Rattle.task_run.specs.TaskCalls.{StoreCalls}
 use Rattle.task_store.specs.ChunkStoring.{chunk_keys, is_missing_at, IsSought}
-use Rattle.task_run.proofs.Texts.{same_name, apart}
-use Rattle.task_run.proofs.GetCallsLaws.{nat_same}
 use Rattle.task_run.proofs.Lists.{but_last, all_taken, none_stop}
-use Rattle.task_store.proofs.ChunkStoreCalls.{lt_true, all_imp, all_more}
 use Rattle.task_store.proofs.ChunkStoreRuns.{Front, with_size, is_free}
 use Rattle.task_store.proofs.ChunkStoreParts.{Chunked, chunk_parts, keys_are, missing_are, parts_many, Split, split_of, there_questions, all_questions, order_front, found_there, no_more_found, done_stays, missing_stays, missing_undone, are_whole_from, are_removed_from, next_of, drop_range}
+use Rattle.ann_key.proofs.Lists.{same_name, all_still as all_imp, all_more}
+use Rattle.ann_key.proofs.Booleans.{false_is_true as apart}
+use Rattle.ann_key.proofs.Numbers.{same_number as nat_same}
 
 -- ---- what is asked, for any questions and what follows them
 

@@ -13,7 +13,6 @@ use Rattle.task_run.specs.Stops.{verdict_stop, is_done, is_done_at}
 use Rattle.task_run.specs.Requests.{AsksFor, AskInOrder}
 use Rattle.task_run.specs.Checks.{present_request}
 use Rattle.task_store.specs.ChunkStoring.{AsksOneFor, is_missing_at, chunk_keys, Seeks}
-use Rattle.task_store.proofs.ChunkStoreCalls.{all_more}
 use Rattle.task_store.proofs.ChunkStoreRuns.{order_more, Going, going_none, with_size}
 use Rattle.std.specs.Prelude.{is_some}
 use Rattle.journal_model.specs.declared.verdict.Verdict.TheVariants.{Done, Failed, Absent, Unknown, Unsupported, Ended, Unsent}
@@ -28,7 +27,6 @@ use Rattle.task_run.specs.Names.{chunk_file}
 use Rattle.task_run.specs.Ran.{undone_answer, behind_more, answered}
 use Rattle.task_run.specs.Runs.{RunOf}
 use Rattle.task_store.specs.ChunkStoring.{Chunk, NotMade, NotCopied, CutShort, Unasked, Undone, Settled, chunk_calls, chunk_asked, chunk_result, ChunkIs, StoresChunk, StoresFrom, NotesChunks, IsSought, is_settled_at, so_far, removal_result}
-use Rattle.task_run.proofs.Texts.{apart}
 use Rattle.task_store.proofs.ChunkStoreParts.{Chunked}
 use Rattle.task_store.proofs.ChunkStoreEnds.{store_task, the_note, Missing as Missed}
 use Rattle.task_store.proofs.ChunkStoreTasks.{chunk_goes, chunk_ends}
@@ -37,6 +35,8 @@ use Rattle.task_store.proofs.ChunkStoreParts.{order_front}
 use Rattle.task_store.specs.ChunkStoring.{StoresSized}
 use Rattle.std.proofs.Common.{zero, suc}
 use Rattle.std.proofs.lemmas.Bool.{ne_eqb}
+use Rattle.ann_key.proofs.Lists.{all_more}
+use Rattle.ann_key.proofs.Booleans.{false_is_true as apart}
 
 -- ---- questions
 

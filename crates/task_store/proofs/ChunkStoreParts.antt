@@ -23,9 +23,9 @@ use Rattle.task_run.specs.Reads.{is_removed}
 use Rattle.task_run.specs.Checks.{present_request}
 use Rattle.task_run.specs.Stores.{is_copied, are_whole, are_removed, is_next_copied, questions, found, transfers}
 use Rattle.task_store.specs.ChunkStoring.{chunk_keys, is_missing_at}
-use Rattle.task_run.proofs.Texts.{apart}
-use Rattle.task_store.proofs.ChunkStoreCalls.{all_imp}
 use Rattle.task_store.proofs.ChunkStoreRuns.{WholeAt, with_size}
+use Rattle.ann_key.proofs.Booleans.{false_is_true as apart}
+use Rattle.ann_key.proofs.Lists.{all_still as all_imp}
 
 -- ---- layouts
 

@@ -26,11 +26,13 @@ use Rattle.task_run.specs.Runs.{RunOf, TaskRun, is_chunked}
 use Rattle.task_run.specs.TaskCalls.{StoreCalls}
 use Rattle.task_run.specs.Ran.{RanStore, IsInChunks, answered, refusal}
 use Rattle.task_store.specs.ChunkStoring.{StoresSized}
-use Rattle.task_run.proofs.Texts.{same_name, other_name, longer_differs, apart}
+use Rattle.task_run.proofs.Texts.{longer_differs}
 use Rattle.task_run.proofs.PlainRuns.{of_reading}
 use Rattle.task_store.proofs.ChunkStoreEnds.{store_task}
 use Rattle.task_run.proofs.NamedRuns.{nameless, with_names}
 use Rattle.task_text.specs.Works.{has_name}
+use Rattle.ann_key.proofs.Lists.{same_name, other_name}
+use Rattle.ann_key.proofs.Booleans.{false_is_true as apart}
 
 as_store : (task : Task) → task.work ≡ W.Store → nameless task ≡ store_task task.key task.file
 as_store task e = ap (λ w. record { work = w; key = task.key; file = task.file; name = []; onto = [] }) e

@@ -5,7 +5,7 @@ use Rattle.std.specs.List.{list_all, list_any, filter_map, concat, range_with_le
 use Rattle.std.proofs.Math.Nat.{mul-le-mul_right}
 use Rattle.std.proofs.lemmas.List.Elements.{filter_map-append, filter-append}
 use Rattle.std.proofs.lemmas.List.Folds.{list_any-append}
-use Rattle.std.proofs.lemmas.Bool.{and_parts}
+use Rattle.std.proofs.lemmas.Bool.{and_parts, lt-ltb as lt_true, leb-true as le_of, le-ltb as lt_false}
 use Rattle.std.proofs.lemmas.Bool.Decides.{nat_tests}
 use Rattle.ann_key.specs.Keys.{Parts, with_chunk}
 use Rattle.annex_model.specs.Messages.{HostMessage}
@@ -22,11 +22,13 @@ use Rattle.task_run.specs.Reads.{read_of, reads_of, reads_between, is_last, take
 use Rattle.task_run.specs.Discipline.{name_only, change_only, size_of_only, are_among, names_in, changed_by, size_among, are_found}
 use Rattle.task_run.specs.Stores.{is_size_call, is_copied, copied_length, part_length, is_filled, chunk_request}
 use Rattle.task_store.specs.ChunkStoring.{chunk_keys}
-use Rattle.task_run.proofs.Texts.{same_name}
-use Rattle.task_run.proofs.GetCallsLaws.{found_more, nat_same}
+use Rattle.task_run.proofs.GetCallsLaws.{found_more}
 use Rattle.task_run.proofs.Lists.{but_last}
 use Rattle.task_run.proofs.FileNames.{chunk_files_differ}
-use Rattle.task_store.proofs.ChunkStoreCalls.{lt_true, le_of, lt_of, lt_false, all_imp, all_more, all_kept, own, own_named, own_changed, own_length, own_no_size, own_pieces, own_calls, own_reads, Cutting, holds_both, own_held, Fills, chunk_among}
+use Rattle.task_store.proofs.ChunkStoreCalls.{lt_of, all_kept, own, own_named, own_changed, own_length, own_no_size, own_pieces, own_calls, own_reads, Cutting, own_held, Fills, chunk_among}
+use Rattle.ann_key.proofs.Lists.{same_name, all_still as all_imp, all_more}
+use Rattle.ann_key.proofs.Numbers.{same_number as nat_same}
+use Rattle.task_run.proofs.HeldLaws.{holds_more as holds_both}
 
 -- ---- ranges
 

@@ -17,9 +17,6 @@ use Rattle.task_run.specs.Requests.{AsksFor}
 use Rattle.task_run.specs.Reads.{is_removed}
 use Rattle.task_run.specs.Discipline.{are_found}
 use Rattle.task_run.specs.Stores.{chunk_request}
-use Rattle.task_run.proofs.Texts.{same_name, apart}
-use Rattle.task_run.proofs.GetCallsLaws.{nat_same}
-use Rattle.task_store.proofs.ChunkStoreCalls.{all_more}
 use Rattle.task_store.proofs.ChunkStoreRuns.{Front, Going, with_size, is_free}
 use Rattle.std.specs.List.{concat}
 use Rattle.std.specs.Int.{div_ceil}
@@ -29,12 +26,16 @@ use Rattle.fetch_copy.specs.Copies.{copy_calls, EndsWhole, EndsEarly}
 use Rattle.fetch_copy.specs.CopiesOut.{reads_before}
 use Rattle.task_run.specs.Reads.{is_known, piece_of, appended, held_after, holds}
 use Rattle.std.specs.Prelude.{nat_le}
-use Rattle.task_run.proofs.Texts.{other_name}
 use Rattle.task_run.proofs.FileNames.{chunk_not_part}
 use Rattle.task_run.proofs.GetCallsLaws.{found_more, known_skip, known_add, known_copy}
-use Rattle.task_store.proofs.ChunkStoreCalls.{le_true, lt_of, Cutting, Ending, cutting_cut, cutting_removed, cut_appends, holds_both, copy_held, Fills, fills_removed, known_created, known_removed, copy_found, copy_free}
+use Rattle.task_store.proofs.ChunkStoreCalls.{lt_of, Cutting, Ending, cutting_cut, cutting_removed, cut_appends, copy_held, Fills, fills_removed, known_created, known_removed, copy_found, copy_free}
 use Rattle.task_store.proofs.ChunkStoreRuns.{front_asked, still_removed, removed_last, reads_later, fresh_later}
 use Rattle.task_store.specs.ChunkStoring.{cut_calls}
+use Rattle.ann_key.proofs.Lists.{same_name, all_more, other_name}
+use Rattle.ann_key.proofs.Booleans.{false_is_true as apart}
+use Rattle.ann_key.proofs.Numbers.{same_number as nat_same}
+use Rattle.std.proofs.lemmas.Bool.{le-leb as le_true}
+use Rattle.task_run.proofs.HeldLaws.{holds_more as holds_both}
 
 -- ---- a read after the pieces
 

@@ -3,7 +3,7 @@ use Rattle.std.proofs.Common.{◌≡◌, ◌∙◌, ℕ, zero, suc, ◌+◌, ◌
 use Rattle.std.specs.Prelude.{Bool, true, false, ◌&&◌, nat_lt, ◌==◌, bytes_eq, count_by, Option, Some, None, is_some, is_none, Ok, Err}
 use Rattle.std.specs.List.{list_all, filter_map, last_or}
 use Rattle.std.proofs.lemmas.List.Elements.{filter_map-append}
-use Rattle.std.proofs.lemmas.Bool.{and_parts}
+use Rattle.std.proofs.lemmas.Bool.{and_parts, lt-ltb as lt_true, le-leb as le_true}
 use Rattle.std.proofs.lemmas.Bool.Decides.{nat_tests}
 use Rattle.ann_key.specs.Keys.{Parts, with_chunk}
 use Rattle.annex_model.specs.Messages.{HostMessage}
@@ -27,10 +27,7 @@ use Rattle.task_run.specs.Discipline.{are_found}
 use Rattle.task_run.specs.Stores.{are_removed, chunk_request, questions, found, transfers, parts_left, fits_length, ChunkStoreAnswers}
 use Rattle.task_run.specs.Runs.{RunOf}
 use Rattle.task_store.specs.ChunkStoring.{is_missing_at, IsSought}
-use Rattle.task_run.proofs.Texts.{same_name, apart}
-use Rattle.task_run.proofs.GetCallsLaws.{nat_same}
 use Rattle.task_run.proofs.Lists.{none_stop}
-use Rattle.task_store.proofs.ChunkStoreCalls.{lt_true, all_imp, all_more}
 use Rattle.task_store.proofs.ChunkStoreRuns.{Front, Going, with_size, is_free}
 use Rattle.task_store.proofs.ChunkStoreParts.{Chunked, chunk_parts, missing_are, parts_many, Split, are_removed_from, count_front, drop_range}
 use Rattle.std.specs.List.{concat}
@@ -40,10 +37,9 @@ use Rattle.fetch_copy.specs.Copies.{copy_calls, EndsWhole, RefusedBy}
 use Rattle.fetch_copy.specs.CopiesOut.{reads_before}
 use Rattle.task_run.specs.Reads.{is_known, piece_of, appended, reads_of, bytes_of, is_at_end}
 use Rattle.std.specs.Prelude.{nat_le}
-use Rattle.task_run.proofs.Texts.{other_name}
 use Rattle.task_run.proofs.FileNames.{chunk_not_part}
 use Rattle.task_run.proofs.GetCallsLaws.{found_more, placed, bytes_placed}
-use Rattle.task_store.proofs.ChunkStoreCalls.{le_true, own, Cutting, cutting_removed, Fills, fills_removed, cutting_create, cut_reads, cut_appends, bytes_more}
+use Rattle.task_store.proofs.ChunkStoreCalls.{own, Cutting, cutting_removed, Fills, fills_removed, cutting_create, cut_reads, cut_appends, bytes_more}
 use Rattle.task_store.proofs.ChunkStoreRuns.{front_same, front_asked, still_removed}
 use Rattle.task_store.specs.ChunkStoring.{from_file, Cut, Chunk, NotMade, NotCopied, CutShort, Unasked, Undone, Settled, cut_calls, chunk_calls, chunk_asked, chunk_result, ChunkIs, is_settled_at}
 use Rattle.task_store.proofs.ChunkStoreEnds.{Missing, store_task, are_free, all_done_free, end_memory, end_call, end_asking, calls_of, front_asks, chunked_is, sought_free, sought_length, sought_split, run_finished}
@@ -56,6 +52,9 @@ use Rattle.task_store.specs.ChunkStoring.{ended, so_far}
 use Rattle.task_store.proofs.ChunkStoreRuns.{between_only, appended_only}
 use Rattle.task_run.specs.Stops.{error_stop}
 use Rattle.task_store.proofs.ChunkStoreSteps.{Copied, copied_of, last_read, whole_read, early_read, going_stored, removal_of, Removal, full_range}
+use Rattle.ann_key.proofs.Lists.{same_name, all_still as all_imp, all_more, other_name}
+use Rattle.ann_key.proofs.Booleans.{false_is_true as apart}
+use Rattle.ann_key.proofs.Numbers.{same_number as nat_same}
 
 -- ---- answers
 

@@ -29,9 +29,9 @@ use Rattle.task_run.specs.Checks.{present_request}
 use Rattle.task_run.specs.Ran.{is_verdict_of, undone_answer}
 use Rattle.task_run.specs.Fetching.{Outcome, if_made}
 use Rattle.task_store.specs.ChunkStoring.{AsksNext, AsksOneFor, from_file, NotMade, NotCopied, CutShort, Unasked, Undone, Settled, cut_calls, StoresChunk, NotWhole, CopiesChunk, SettlesChunk, is_settled_at, removal_result}
-use Rattle.task_run.proofs.Texts.{apart}
 use Rattle.task_run.proofs.PlainRuns.{asks_for_check}
 use Rattle.task_run.proofs.Gains.{gained_remove}
+use Rattle.ann_key.proofs.Booleans.{false_is_true as apart}
 
 -- ---- requests
 

@@ -24,8 +24,10 @@ use Rattle.task_run.specs.Stores.{is_size}
 use Rattle.task_run.specs.Exports.{AsksOfName, ExportStoreAsks, store_export}
 use Rattle.task_run.specs.Runs.{RunOf}
 use Rattle.task_run.specs.Ran.{RanGet, answered, is_verdict_of, change_answer, refusal}
-use Rattle.task_run.proofs.Texts.{same_name, other_name, longer_differs, apart}
+use Rattle.task_run.proofs.Texts.{longer_differs}
 use Rattle.task_run.proofs.ExportRuns.{with_work, export_run, named, asks_of_name, asks_nothing}
+use Rattle.ann_key.proofs.Lists.{same_name, other_name}
+use Rattle.ann_key.proofs.Booleans.{false_is_true as apart}
 
 abbrev StoreRun : Setup → TaskTurn → Task → Parts → List (ℕ × ℕ) → List Asking → List Call → Answer → Type 0
 StoreRun setup t task key layouts asked calls answer = RunOf setup t (with_work W.XStore task) key layouts asked calls [] answer

@@ -29,10 +29,12 @@ use Rattle.task_run.specs.Runs.{RunOf, TaskRun, is_chunked}
 use Rattle.task_run.specs.TaskCalls.{StoreCalls}
 use Rattle.task_run.specs.Ran.{RanPlain, answered, is_verdict_of, change_answer, refusal}
 use Rattle.std.specs.Prelude.{unwrap_or}
-use Rattle.task_run.proofs.Texts.{same_name, other_name, longer_differs, apart}
+use Rattle.task_run.proofs.Texts.{longer_differs}
 use Rattle.task_run.proofs.PlainRuns.{of_reading}
 use Rattle.task_run.proofs.NamedRuns.{nameless, with_names}
 use Rattle.task_text.specs.Works.{has_name}
+use Rattle.ann_key.proofs.Lists.{same_name, other_name}
+use Rattle.ann_key.proofs.Booleans.{false_is_true as apart}
 
 asks_for_store : (text file : List ℕ) (key : Parts) (request : Option HostMessage) (v : Verdict) (n : ℕ) → key_reading text ≡ Some key
     → KeepsRequest (Transfer true text file) request v → AsksFor (store_request file) n key (record { request = request; name = None; verdict = v })

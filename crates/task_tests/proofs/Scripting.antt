@@ -1,8 +1,7 @@
 -- A verdict that the asker gives is one that some answer ends with, and it keeps what it was asked.
 use Rattle.std.proofs.Common.{◌≡◌, ℕ, List, [], ◌∷◌, ◌++◌, refl}
-use Rattle.std.specs.Prelude.{Bool, true, false, bytes_eq, Option, Some, None, map}
+use Rattle.std.specs.Prelude.{Bool, true, false, Option, Some, None, map}
 use Rattle.std.proofs.lemmas.List.{map-append}
-use Rattle.std.proofs.lemmas.Slice.Eq.{bytes_eq-Decides}
 use Rattle.annex_model.specs.Messages.{HostMessage, Transfer, Checkpresent, Remove, Transferexport, Checkpresentexport, Removeexport, Renameexport, TransferSuccess, CheckpresentFailure, RemoveSuccess, RenameexportSuccess}
 use Rattle.annex_model.specs.Talks.{is_same}
 use Rattle.journal_model.specs.declared.verdict.Verdict.{Verdict}
@@ -12,9 +11,7 @@ use Rattle.talk_serial.specs.declared.request.Request.{Request}
 use Rattle.talk_serial.specs.Requests.{message_of, name_of}
 use Rattle.task_run.specs.Askers.{said_with, AsksOne}
 use Rattle.task_tests.specs.Scripts.{can_have, pair_of}
-
-same_bytes : (bytes : List ℕ) → bytes_eq bytes bytes ≡ true
-same_bytes bytes = (bytes_eq-Decides bytes bytes).1 refl
+use Rattle.ann_key.proofs.Lists.{same_name as same_bytes}
 
 same_way : (store : Bool) → is_same store store ≡ true
 same_way true = refl

@@ -1,19 +1,12 @@
 -- A list cut at its first space or byte 9: the first element that passes p, where p passes nothing but the mark m.
-use Rattle.std.proofs.Common.{◌≡◌, ℕ, suc, ◌+◌, ◌<◌, ◌||◌, Bool, true, false, not, cond, List, [], ◌∷◌, ◌++◌, length, take, drop, refl, sym, ap, ◌∙◌, arith, ⊎_elim}
+use Rattle.std.proofs.Common.{◌≡◌, ℕ, suc, ◌+◌, ◌<◌, Bool, true, false, not, cond, List, [], ◌∷◌, ◌++◌, length, take, drop, refl, ap, ◌∙◌, arith, ⊎_elim}
 use Rattle.std.specs.List.{list_any, position_or_len, before_first, after_first}
-use Rattle.std.proofs.lemmas.Bool.{false≢true, cases_lt, eqb-true, or_from}
+use Rattle.std.proofs.lemmas.Bool.{cases_lt, eqb-true, or_from}
 use Rattle.std.proofs.lemmas.List.{take_at, drop_all}
 use Rattle.std.proofs.Math.Seq.{drop-append-add}
 use Rattle.std.proofs.lemmas.List.Sums.{passes_at_first, split_at_first}
 use Rattle.task_text.specs.TaskLines.{is_space, is_tab}
-
-later_lacks : (b c : Bool) → (b || c) ≡ false → c ≡ false
-later_lacks true c h = absurd (false≢true (sym h))
-later_lacks false c h = h
-
-one_more : (b c : Bool) (m n : ℕ) → (b || c) ≡ false → m ≡ n → cond (not b) (1 + m) 0 ≡ suc n
-one_more true c m n h e = absurd (false≢true (sym h))
-one_more false c m n h e = omega arith
+use Rattle.ann_key.proofs.Booleans.{one_more, right_false as later_lacks}
 
 mark_behind : (p : ℕ → Bool) (m : ℕ) → p m ≡ true → (word rest : List ℕ) → list_any p word ≡ false
     → position_or_len p (word ++ m ∷ rest) ≡ length word

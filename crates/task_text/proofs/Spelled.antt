@@ -1,6 +1,6 @@
 -- Lines that spell tasks.
 use Rattle.std.proofs.Common.{◌≡◌, ℕ, ◌==◌, ◌&&◌, Bool, true, false, not, cond, List, [], ◌∷◌, ◌++◌, length, Option, Some, None, Result, Ok, Err, refl, sym, ap, subst, ◌∙◌, arith, if◌then◌else◌}
-use Rattle.std.specs.Prelude.{find, nat_lt, MatchResult}
+use Rattle.std.specs.Prelude.{nat_lt, MatchResult}
 use Rattle.std.specs.Str.{bytes_eq}
 use Rattle.std.specs.List.{list_any, before_first, after_first}
 use Rattle.std.proofs.lemmas.Bool.{and_parts, not-true, not-false, and_from, or_from, or_parts, eqb-true}
@@ -16,15 +16,12 @@ use Rattle.task_text.specs.declared.error.TaskError.{TaskError}
 use Rattle.task_text.specs.declared.error.TaskError.TheVariants.{Word, Key, Unsendable, ChunkKey, File, Name, NoMemory}
 use Rattle.task_text.proofs.Marks.{before_space, after_space, split_at_space}
 use Rattle.task_text.proofs.Parts.{AreParts, parts_of_rest, whole_rest, some_rest, file_right, name_right, onto_right, file_apart, file_wanted, name_wanted, onto_wanted, lacks_none}
+use Rattle.ann_key.proofs.Lists.{found_so as find_some}
 
 found_here : {X : Type 0} (p : X → Bool) (y x : X) (o : Option X) (b : Bool) → p y ≡ b → (o ≡ Some x → p x ≡ true)
     → cond b (Some y) o ≡ Some x → p x ≡ true
 found_here p y x o true e later h = let same : y ≡ x = cc in subst (λ z. p z ≡ true) same e
 found_here p y x o false e later h = later h
-
-find_some : {X : Type 0} (p : X → Bool) (xs : List X) (x : X) → find p xs ≡ Some x → p x ≡ true
-find_some p [] x h = cc
-find_some p (y ∷ ys) x h = found_here p y x (find p ys) (p y) refl (find_some p ys x) h
 
 -- the word of the work that a word names
 pub word_named : (word : List ℕ) (work : Work) → work_of word ≡ Some work → word ≡ word_of work

@@ -1,10 +1,10 @@
 -- Runs of checks, layout by layout.
-use Rattle.std.proofs.Common.{◌≡◌, ◌∙◌, ℕ, zero, suc, ◌+◌, ◌-◌, ◌<◌, ◌≤◌, List, [], ◌∷◌, ◌++◌, length, map, take, drop, get_or, refl, sym, ap, subst, arith, append_assoc, append-nil, length-append, add-one}
+use Rattle.std.proofs.Common.{◌≡◌, ◌∙◌, ℕ, ◌+◌, ◌-◌, ◌<◌, ◌≤◌, List, [], ◌∷◌, ◌++◌, length, map, take, drop, get_or, refl, sym, ap, subst, arith, append_assoc, append-nil, length-append, add-one}
 use Rattle.std.specs.Prelude.{Bool, true, false, ◌&&◌, ◌||◌, ◌==◌, not, Option, Some, None, IfSome, Result, Ok, Err, unwrap_or, is_none, is_some, count_by, cond}
 use Rattle.std.specs.List.{list_all, list_any, filter_map, zip, cons_option}
 use Rattle.std.proofs.lemmas.List.Folds.{list_all-append}
 use Rattle.std.proofs.lemmas.List.Elements.{filter_map-append}
-use Rattle.std.proofs.Math.Seq.{take-append_seam, drop-cons, take-suc}
+use Rattle.std.proofs.Math.Seq.{drop-cons, take-suc}
 use Rattle.std.proofs.lemmas.List.{map-append, take-append-drop, take_all}
 use Rattle.std.proofs.lemmas.Bool.{eq-eqb}
 use Rattle.std.proofs.lemmas.List.Sums.{sum_by-append, sum_by-cons}
@@ -20,7 +20,7 @@ use Rattle.task_run.specs.Askers.{Asking}
 use Rattle.task_run.specs.declared.setup.Setup.{Setup}
 use Rattle.task_run.specs.declared.turn.TaskTurn.{TaskTurn}
 use Rattle.task_works.specs.declared.layouts.Query.TheVariants as Q
-use Rattle.task_run.specs.Stops.{is_done, is_done_at, verdict_stop, all_but_last, AnsweredBy}
+use Rattle.task_run.specs.Stops.{is_done, is_done_at, verdict_stop, AnsweredBy}
 use Rattle.task_run.specs.Layouts.{chunk_sizes, keys_of_layout, layouts_tried, sizes_tried}
 use Rattle.task_run.specs.Requests.{AskInOrder, rounds, RoundsAsk}
 use Rattle.task_run.specs.Checks.{present_request, is_there, unknown_at, not_there, first_or, CheckAnswers}
@@ -28,10 +28,12 @@ use Rattle.task_run.specs.Runs.{RunOf, TaskRun}
 use Rattle.task_run.specs.Ran.{RanAsking, answered, may_follow_refusal}
 use Rattle.task_run.specs.TaskRuns.{check_answer}
 use Rattle.task_works.specs.Rounds.{RoundAsks, joined, Ended, EachEnded, Missed, missing_more}
-use Rattle.task_run.proofs.Texts.{apart}
 use Rattle.task_works.proofs.RoundLaws.{length_keys, some_keys}
 use Rattle.task_run.proofs.NamedRuns.{nameless, with_names}
 use Rattle.task_text.specs.Works.{has_name}
+use Rattle.task_get.proofs.AskLaws.{round_done as rounds_found}
+use Rattle.task_run.proofs.Lists.{all_taken as all_take, but_last}
+use Rattle.ann_key.proofs.Booleans.{false_is_true as apart}
 
 -- ---- askings that end nothing
 
@@ -55,18 +57,6 @@ all_done_go_on (a ∷ more) h = by_test (is_done a) refl h (all_done_go_on more)
     by_test true e h next = rw (done_goes_on a.verdict e, next h) refl
     by_test false e h next = apart h
 
-pub all_take : {X : Type 0} (p : X → Bool) (n : ℕ) (xs : List X) → list_all p xs ≡ true → list_all p (take n xs) ≡ true
-all_take p zero xs h = refl
-all_take p (suc n) [] h = refl
-all_take p (suc n) (x ∷ xs) h = by_test (p x) refl h (all_take p n xs)
-  where
-    by_test : (t : Bool) → p x ≡ t → (t && list_all p xs) ≡ true → (list_all p xs ≡ true → list_all p (take n xs) ≡ true) → (p x && list_all p (take n xs)) ≡ true
-    by_test true e h next = rw (e, next h) refl
-    by_test false e h next = apart h
-
-pub but_last : {X : Type 0} (xs : List X) (x : X) → all_but_last (xs ++ x ∷ []) ≡ xs
-but_last xs x = let e : length (xs ++ x ∷ []) - 1 ≡ length xs = omega (arith, length-append xs (x ∷ [])) in rw e (take-append_seam xs (x ∷ []))
-
 -- what goes on is stopped by none
 pub none_stops : (asked : List Asking) → list_all goes_on asked ≡ true → filter_map (λ (a : Asking). verdict_stop false a.verdict) asked ≡ []
 none_stops [] h = refl
@@ -85,18 +75,6 @@ rounds_ended (b ∷ front) a rest h k = by_test (is_done b) refl (λ more. round
   where
     by_test : (t : Bool) → is_done b ≡ t → (list_all is_done front ≡ true → rounds (front ++ a ∷ rest) ≡ (front ++ a ∷ []) ∷ rounds rest)
         → rounds (b ∷ (front ++ a ∷ rest)) ≡ (b ∷ (front ++ a ∷ [])) ∷ rounds rest
-    by_test true e next = rw e (rw (next (rw e at h)) refl)
-    by_test false e next = apart (rw e at h)
-
-rounds_found : (b : Asking) (front : List Asking) → list_all is_done (b ∷ front) ≡ true → rounds (b ∷ front) ≡ (b ∷ front) ∷ []
-rounds_found b [] h = by_test (is_done b) refl
-  where
-    by_test : (t : Bool) → is_done b ≡ t → rounds (b ∷ []) ≡ (b ∷ []) ∷ []
-    by_test true e = rw e refl
-    by_test false e = rw e refl
-rounds_found b (c ∷ front) h = by_test (is_done b) refl (λ more. rounds_found c front more)
-  where
-    by_test : (t : Bool) → is_done b ≡ t → (list_all is_done (c ∷ front) ≡ true → rounds (c ∷ front) ≡ (c ∷ front) ∷ []) → rounds (b ∷ c ∷ front) ≡ (b ∷ c ∷ front) ∷ []
     by_test true e next = rw e (rw (next (rw e at h)) refl)
     by_test false e next = apart (rw e at h)
 

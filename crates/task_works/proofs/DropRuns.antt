@@ -3,7 +3,7 @@ use Rattle.std.proofs.Common.{◌≡◌, ◌∙◌, ℕ, ◌+◌, ◌-◌, ◌<�
 use Rattle.std.specs.Prelude.{Bool, true, false, ◌&&◌, ◌==◌, nat_le, nat_lt, Option, Some, None, IfSome, Result, Ok, Err, count_by, cond, if◌then◌else◌, ◌⊎◌}
 use Rattle.std.specs.List.{list_all, filter_map, last_or}
 use Rattle.std.proofs.Math.Seq.{take-append_seam, take-length}
-use Rattle.std.proofs.lemmas.Bool.{eq-eqb, eqb-true}
+use Rattle.std.proofs.lemmas.Bool.{eq-eqb, eqb-true, le-leb as le_test}
 use Rattle.std.proofs.lemmas.Bool.Decides.{nat_tests}
 use Rattle.std.proofs.lemmas.List.{map-append, take_all}
 use Rattle.std.proofs.lemmas.List.Concat.{flat_map-append}
@@ -30,10 +30,12 @@ use Rattle.task_run.specs.Drops.{remove_request, keys_dropped, drop_notes, DropA
 use Rattle.task_run.specs.Runs.{RunOf, TaskRun}
 use Rattle.task_run.specs.Ran.{answered, behind_more, is_verdict_of, may_follow_refusal, undone_answer}
 use Rattle.task_works.specs.Rounds.{RoundAsks, Removed, RanNoting, notes_none}
-use Rattle.task_run.proofs.Texts.{apart}
-use Rattle.task_works.proofs.CheckRuns.{goes_on, all_done_go_on, but_last, all_take, none_stops, take_next}
+use Rattle.task_works.proofs.CheckRuns.{goes_on, all_done_go_on, none_stops, take_next}
 use Rattle.task_run.proofs.NamedRuns.{nameless, with_names}
 use Rattle.task_text.specs.Works.{has_name}
+use Rattle.task_store.proofs.ChunkStoreTasks.{all_counted as count_all}
+use Rattle.ann_key.proofs.Booleans.{false_is_true as apart}
+use Rattle.task_run.proofs.Lists.{but_last, all_taken as all_take}
 
 -- ---- what a drop notes
 
@@ -94,9 +96,6 @@ notes_later key behind n x xs h = by_test (x == 0) (rest xs)
         sum_by-cons (λ (note : Noting). cond (nat_lt note.behind n) 1 0) (record { chunk = x; count = 0; behind = behind + length (keys_of_layout key x) }) (drop_notes key (behind + length (keys_of_layout key x)) xs)
         ∙ rw (late (behind + length (keys_of_layout key x)) h, next) refl
 
-le_test : (a b : ℕ) → a ≤ b → nat_le a b ≡ true
-le_test a b h = grind (arith, nat_tests)
-
 not_equal : (a b : ℕ) → (a ≡ b → ⊥) → (a == b) ≡ false
 not_equal a b h = by_test (a == b) refl
   where
@@ -122,14 +121,6 @@ order_fits : (ask : ℕ → List ℕ → HostMessage) (n : ℕ) (keys : List Par
 order_fits ask n keys [] o = omega arith
 order_fits ask n [] (a ∷ asked) o = absurd o
 order_fits ask n (k ∷ keys) (a ∷ asked) o = omega (arith, order_fits ask (n + 1) keys asked o.1)
-
-count_all : (asked : List Asking) → list_all is_done asked ≡ true → count_by is_done asked ≡ length asked
-count_all [] h = refl
-count_all (a ∷ more) h = sum_by-cons (λ (a : Asking). cond (is_done a) 1 0) a more ∙ by_test (is_done a) h (count_all more)
-  where
-    by_test : (t : Bool) → (t && list_all is_done more) ≡ true → (list_all is_done more ≡ true → count_by is_done more ≡ length more) → cond t 1 0 + count_by is_done more ≡ length (a ∷ more)
-    by_test true h next = omega (arith, next h)
-    by_test false h next = apart h
 
 -- ---- a drop so far
 

@@ -18,8 +18,8 @@ use Rattle.task_run.specs.TaskRuns.{check_answer}
 use Rattle.task_run.specs.Exports.{AsksOfName, check_export, remove_export, rename_export}
 use Rattle.task_run.specs.Runs.{RunOf}
 use Rattle.task_run.specs.Ran.{RanAsking, is_verdict_of, change_answer, may_follow_refusal}
-use Rattle.task_run.proofs.Texts.{apart}
 use Rattle.task_run.proofs.ExportRuns.{with_work, export_run, named, asks_of_name, asks_nothing}
+use Rattle.ann_key.proofs.Booleans.{false_is_true as apart}
 
 abbrev AskRun : Work → Setup → TaskTurn → Task → Parts → List (ℕ × ℕ) → List Asking → Answer → Type 0
 AskRun work setup t task key layouts asked answer = RunOf setup t (with_work work task) key layouts asked [] [] answer
@@ -110,15 +110,6 @@ rename_none task t layouts pairs e w = none_ran W.XRename task t layouts pairs e
     (λ key setup. record { asked_till_stop = refl; calls_till_stop = refl; found = refl; work = (asks_nothing _ _ task.name, refl, refl); answered = tt })
 
 -- ---- their answers tell of no call of a desk
-
-pub check_quiet : (v : Verdict) (answer : Answer) → Some answer ≡ check_answer v → may_follow_refusal (Ok answer) ≡ false
-check_quiet (V.Done at) answer e = let s : answer ≡ A.Present = cc in rw s refl
-check_quiet (V.Absent at) answer e = let s : answer ≡ A.Absent = cc in rw s refl
-check_quiet (V.Unknown at) answer e = let s : answer ≡ A.Unknown at = cc in rw s refl
-check_quiet (V.Unsupported at) answer e = let s : answer ≡ A.Unsupported = cc in rw s refl
-check_quiet (V.Ended why) answer e = let s : answer ≡ A.Ended why = cc in rw s refl
-check_quiet V.Unsent answer e = let s : answer ≡ A.Unsent = cc in rw s refl
-check_quiet (V.Failed at) answer e = cc
 
 pub change_quiet : (success : Answer) (v : Verdict) (answer : Answer) → may_follow_refusal (Ok success) ≡ false → Some answer ≡ change_answer success v → may_follow_refusal (Ok answer) ≡ false
 change_quiet success (V.Done at) answer q e = let s : answer ≡ success = cc in rw s q

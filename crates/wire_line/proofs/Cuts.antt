@@ -1,5 +1,5 @@
 -- What stands first in bytes, by the lines that they are cut into.
-use Rattle.std.proofs.Common.{◌≡◌, ℕ, ◌+◌, ◌<◌, ◌==◌, Bool, true, false, not, cond, ◌||◌, suc, List, [], ◌∷◌, ◌++◌, IsTrue, length, take, refl, sym, ap, subst, ◌∙◌, arith, ⊎_elim, append_assoc}
+use Rattle.std.proofs.Common.{◌≡◌, ℕ, ◌+◌, ◌<◌, ◌==◌, true, false, not, List, [], ◌∷◌, ◌++◌, IsTrue, length, take, refl, sym, ap, subst, ◌∙◌, arith, ⊎_elim, append_assoc}
 use Rattle.std.proofs.lemmas.Bool.{false≢true, cases_lt, and_parts, not-true}
 use Rattle.std.proofs.lemmas.List.{take_at, length-append}
 use Rattle.std.proofs.lemmas.List.Folds.{list_any_at}
@@ -10,14 +10,7 @@ use Rattle.wire_line.specs.Nexts.{IsNext, IsNextOfLines, NextOfLines}
 use Rattle.wire_line.specs.declared.splitter.Next.{Next}
 use Rattle.wire_line.specs.declared.splitter.Next.TheVariants.{Line, Long, More}
 use Rattle.wire_line.proofs.Firsts.{end_of, ends_within, has_line_at}
-
-later_lacks : (b c : Bool) → (b || c) ≡ false → c ≡ false
-later_lacks true c h = absurd (false≢true (sym h))
-later_lacks false c h = h
-
-one_more : (b c : Bool) (m n : ℕ) → (b || c) ≡ false → m ≡ n → cond (not b) (1 + m) 0 ≡ suc n
-one_more true c m n h e = absurd (false≢true (sym h))
-one_more false c m n h e = omega arith
+use Rattle.ann_key.proofs.Booleans.{one_more, right_false as later_lacks}
 
 line_end : (line after : List ℕ) → has_newline line ≡ false → end_of (line ++ 10 ∷ after) ≡ length line
 line_end [] after none = refl

@@ -8,10 +8,7 @@ use Rattle.std.proofs.lemmas.List.Sums.{position_or_len_is, fails_before_first, 
 use Rattle.annex_model.specs.Lines.{has_newline, text}
 use Rattle.wire_line.specs.HeldBytes.{has_line, first_line, after_line, TakesLine}
 use Rattle.memchr.specs.Find.{IsFirstByte, is_byte}
-
-no_true : (b : Bool) → (b ≡ true → ⊥) → b ≡ false
-no_true true h = absurd (h refl)
-no_true false h = refl
+use Rattle.ann_key.proofs.Booleans.{never_true as no_true}
 
 -- the place of the first byte 10, or the length
 abbrev pub end_of : List ℕ → ℕ
@@ -43,7 +40,7 @@ ends_within limit bytes has =
       ⊎_elim (λ early. early) (λ none. absurd (no (λ k a b. omega arith))) (cases_lt (end_of bytes) (length bytes)),
     )
 
-no_newline_before : (bytes : List ℕ) → has_newline (first_line bytes) ≡ false
+pub no_newline_before : (bytes : List ℕ) → has_newline (first_line bytes) ≡ false
 no_newline_before bytes = take_lacks (end_of bytes) bytes (λ k a b. a)
 
 -- the bytes are the first line, its byte 10 and what stands behind

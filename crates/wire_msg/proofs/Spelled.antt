@@ -3,9 +3,7 @@ use Rattle.std.proofs.Common.{◌≡◌, ℕ, List, Some, None, Option, sym, ◌
 use Rattle.std.specs.Prelude.{MatchOption, option_map}
 use Rattle.annex_model.specs.Tags.{Tagged, untag}
 use Rattle.annex_model.proofs.TagReadings.{read_of_tagged, tagged_of_read}
-
-none_some : {A : Type 0} {x : A} → None ≡ Some x → ⊥
-none_some e = cc
+use Rattle.ann_key.proofs.Options.{none_some}
 
 -- what a reading shows spells the line, and nothing does where it is None
 module _ {A M : Type 0} (shown : A → M) (Spells : M → Type 0) where

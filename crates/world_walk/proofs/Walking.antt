@@ -7,7 +7,6 @@ use Rattle.std.proofs.lemmas.List.Sums.{fold-append}
 use Rattle.annex_model.specs.Messages.{HostMessage}
 use Rattle.journal_model.specs.Journal.{is_ended, unsent}
 use Rattle.journal_model.specs.Legality.{is_empty}
-use Rattle.journal_model.proofs.Looks.{same_number}
 use Rattle.host_core.specs.declared.event.Reply.{Reply}
 use Rattle.pair_world.specs.declared.answer.Answer.{Answer}
 use Rattle.pair_world.specs.declared.step.Move.{Move}
@@ -21,6 +20,7 @@ use Rattle.pair_world.specs.Worlds.{WorldValue}
 use Rattle.pair_world.specs.Moves.{Moves, IsMade, DoesEvent, DoesWrite, DoesToKit, DoesWork, DoesToHost, DoesHear, DoesEnd, is_barred, is_odd, reply_to, is_amiss, is_silent, is_unended}
 use Rattle.pair_world.specs.Stored.{ChangesFiles, filed}
 use Rattle.world_walk.specs.Walks.{AllRest, AreMade, MakesCandidate, MakesOne, Rests, Tries, TriesAll, Walks, candidate, place, was_made}
+use Rattle.std.proofs.lemmas.Bool.{eqb-true as same_number}
 
 -- ---- where a move begins
 

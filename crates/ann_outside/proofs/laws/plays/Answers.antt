@@ -4,8 +4,8 @@ use Rattle.ann_outside.specs.Files.{content}
 use Rattle.ann_outside.specs.Played.{Does}
 use Rattle.ann_outside.specs.PlayRows.{holding}
 use Rattle.ann_outside.specs.declared.file_desk.Call.TheVariants.{Size, ReadAt}
-use Rattle.ann_outside.proofs.FileLaws.{other_name}
 use Rattle.ann_outside.proofs.laws.plays.Goals as goal
+use Rattle.ann_key.proofs.Lists.{other_name}
 
 -- another file isn't there, whatever this one holds
 away : (bytes other : List ℕ) → (other ≡ codes "o" → ⊥) → content other (holding bytes) ≡ None

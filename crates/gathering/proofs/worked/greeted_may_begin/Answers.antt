@@ -4,9 +4,10 @@ use Rattle.std.specs.Prelude.{take}
 use Rattle.journal_model.specs.Journal.{is_open}
 use Rattle.journal_model.specs.Legality.{is_busy}
 use Rattle.journal_model.specs.Rows.{tagged_greeting}
-use Rattle.journal_model.proofs.Looks.{same_number, true_not_false}
 use Rattle.journal_model.proofs.Testing.{by_either}
 use Rattle.gathering.proofs.worked.greeted_may_begin.Goals as goal
+use Rattle.std.proofs.lemmas.Bool.{eqb-true as same_number}
+use Rattle.ann_key.proofs.Booleans.{true_and_false as true_not_false}
 
 pub returns-clause-at_rest : goal.returns-clause-at_rest
 returns-clause-at_rest f = record {

@@ -3,8 +3,8 @@ use Rattle.std.specs.Prelude.{◌&&◌}
 use Rattle.std.specs.Str.{is_utf8}
 use Rattle.std.proofs.lemmas.Str.{IsUtf8-from_is_utf8, is_utf8-from_IsUtf8}
 use Rattle.annex_model.specs.Lines.{has_newline}
-use Rattle.journal_scan.proofs.Parted.{is_false}
 use Rattle.host_core.proofs.requests.is_text.Goals as goal
+use Rattle.ann_key.proofs.Booleans.{never_true as is_false}
 
 with_utf8 : (u n : Bool) → u ≡ true → not n ≡ (u && not n)
 with_utf8 true n h = refl

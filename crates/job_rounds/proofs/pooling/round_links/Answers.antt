@@ -3,9 +3,10 @@ use Rattle.std.specs.Prelude.{reverse}
 use Rattle.std.proofs.lemmas.List.{length-map, length-reverse}
 use Rattle.crew_rounds.specs.Tagged.{link_of}
 use Rattle.lone_work.specs.Works.{desk_tells}
-use Rattle.job_rounds.proofs.PoolLinks.{link_same}
-use Rattle.job_rounds.proofs.PoolServing.{if_done, if_kept, round_beside}
+use Rattle.job_rounds.proofs.PoolServing.{round_beside}
 use Rattle.job_rounds.proofs.pooling.round_links.Goals as goal
+use Rattle.pool_rounds.proofs.Backs.{links_still as link_same}
+use Rattle.crew_rounds.proofs.Closing.{if_done, if_kept}
 
 pub put_back-requires : goal.put_back-requires
 put_back-requires g c = record {

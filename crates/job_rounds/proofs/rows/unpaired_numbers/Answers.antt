@@ -2,11 +2,11 @@ use Rattle.std.proofs.Common.{◌≡◌, [], ◌∷◌, ◌++◌, refl, sym, ◌
 use Rattle.std.specs.Prelude.{codes}
 use Rattle.journal_model.specs.declared.answer.Answer.TheVariants.{Present}
 use Rattle.journal_model.specs.declared.entry.What.TheVariants.{Claim, Got, Answer as Answered}
-use Rattle.journal_model.proofs.Looks.{same_number}
-use Rattle.journal_model.proofs.Testing.{or_false}
 use Rattle.job_rounds.specs.PostRows.{made_by, two_children, two_workers}
 use Rattle.job_rounds.proofs.Unpaired.{posted_at, refused}
 use Rattle.job_rounds.proofs.rows.unpaired_numbers.Goals as goal
+use Rattle.std.proofs.lemmas.Bool.{eqb-true as same_number}
+use Rattle.ann_key.proofs.Booleans.{or_false}
 
 pub returns-clause-hears : goal.returns-clause-hears
 returns-clause-hears f = λ h.

@@ -10,8 +10,9 @@ use Rattle.lone_work.specs.Works.{DeskTells, desk_tells}
 use Rattle.lone_rounds.proofs.Ending.{cores_both, kept_begin, left_nothing, left_some}
 use Rattle.job_rounds.proofs.Between.{at_err, at_ok, at_rest, jobs_begin}
 use Rattle.job_rounds.proofs.Objects.{wires_many}
-use Rattle.job_rounds.proofs.Steps.{broken_kept, broken_started, next_job_start, one_more}
+use Rattle.job_rounds.proofs.Steps.{broken_kept, broken_started, next_job_start}
 use Rattle.job_rounds.proofs.starting.start_children.Goals as goal
+use Rattle.ann_key.proofs.Numbers.{one_more}
 
 pub children-init : goal.children-init
 children-init g c = record {

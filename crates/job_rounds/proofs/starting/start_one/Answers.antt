@@ -19,11 +19,12 @@ use Rattle.lone_rounds.proofs.Stinting.{greeting_rests, greeting_started}
 use Rattle.lone_rounds.proofs.Unready.{away_stint, fault_rests, fault_stint, unready_ended, unready_refused, unready_unsent}
 use Rattle.job_rounds.specs.Servings.{FirstServed}
 use Rattle.job_rounds.specs.Starts.{OneJobStart}
-use Rattle.job_rounds.proofs.Firsts.{first_err, first_ok, ok_no_err}
+use Rattle.job_rounds.proofs.Firsts.{first_err, first_ok}
 use Rattle.job_rounds.proofs.Objects.{one_all}
 use Rattle.job_rounds.proofs.PoolStretch.{greeted_count, greeted_pool, greeted_slot, greeted_unclaimed}
 use Rattle.job_rounds.proofs.Stretching.{away_idle, away_quiet, can_be_served, fault_idle, fault_quiet, job_start, more_than, quiet_none, stint_any}
 use Rattle.job_rounds.proofs.starting.start_one.Goals as goal
+use Rattle.ann_key.proofs.Numbers.{ok_no_err}
 
 pub serve_child-bench-requires-clause-can : goal.serve_child-bench-requires-clause-can
 serve_child-bench-requires-clause-can g c = λ κs fresh.

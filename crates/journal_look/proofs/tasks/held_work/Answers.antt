@@ -1,8 +1,9 @@
 use Rattle.std.proofs.Common.{sym}
 use Rattle.journal_model.specs.Legality.{may_work}
 use Rattle.journal_look.specs.declared.held.Held.{Held}
-use Rattle.journal_look.proofs.Working.{found_so, none_found}
+use Rattle.journal_look.proofs.Working.{none_found}
 use Rattle.journal_look.proofs.tasks.held_work.Goals as goal
+use Rattle.ann_key.proofs.Lists.{found_so}
 
 pub returns-in-Some-clause-some : goal.returns-in-Some-clause-some
 returns-in-Some-clause-some c =

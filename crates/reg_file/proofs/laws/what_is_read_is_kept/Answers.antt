@@ -1,8 +1,8 @@
 use Rattle.std.proofs.Common.{refl, [], nat_lt, length, ◌&&◌, List, ℕ}
 use Rattle.reg_file.specs.Registers.{is_line, is_word, is_key_word}
-use Rattle.reg_file.proofs.LinkLists.{both}
 use Rattle.reg_file.proofs.Readings.{read_passes, second_passes, urls_pass, lines_fit}
 use Rattle.reg_file.proofs.laws.what_is_read_is_kept.Goals as goal
+use Rattle.std.proofs.lemmas.Bool.{and_parts as both}
 
 pub returns-clause-config : goal.returns-clause-config
 returns-clause-config c = λ r name kept. read_passes is_word is_line [] refl name r.config kept.config_texts

@@ -7,12 +7,12 @@ use Rattle.ann_outside.specs.declared.file_desk.Call.TheVariants.{Size, ReadAt, 
 use Rattle.task_run.specs.Reads.{holds, are_found_so}
 use Rattle.task_run.specs.Rows.{sized, moved, renamed, fetched_1, fetched_2_1, resumed_ten, ten_bytes}
 use Rattle.task_run.proofs.HeldLaws.{holds_more, so_front, so_behind, holds_cut}
-use Rattle.task_run.proofs.Texts.{same_name}
 use Rattle.task_run.proofs.run_laws.fitting_runs.Goals as goal
 use Rattle.std.specs.Prelude.{Option, Some, Ok, unwrap_or, ◌∷◌, ℕ, IsTrue, ◌==◌, List, slice_index, ◌≡◌, ◌++◌, Bool, true, false, if◌then◌else◌, [], codes}
 use Rattle.ann_digest.specs.declared.hash_kind.HashKind.{HashKind}
 use Rattle.ann_digest.specs.declared.hash_kind.HashKind.TheVariants.{Md5, Sha1, Sha224, Sha256, Sha384, Sha512}
 use Rattle.ann_digest.specs.HashKinds.{backend_of}
+use Rattle.ann_key.proofs.Lists.{same_name}
 
 -- two contents that differ
 not_all : (a b : List ℕ) → bytes_eq a b ≡ false → Some a ≡ Some b → ⊥

@@ -1,8 +1,9 @@
 use Rattle.std.proofs.lemmas.Result.{err_from_is_err_and}
 use Rattle.task_run.proofs.ExportRuns.{name_in_line}
 use Rattle.task_run.proofs.PlainRuns.{task_key_sent}
-use Rattle.task_works.proofs.NameRuns.{check_ran, check_none, check_quiet}
+use Rattle.task_works.proofs.NameRuns.{check_ran, check_none}
 use Rattle.task_works.proofs.exports.check_export.Goals as goal
+use Rattle.task_works.proofs.CheckRuns.{quiet_check as check_quiet}
 
 pub present_named-requires-clause-key : goal.present_named-requires-clause-key
 present_named-requires-clause-key g c = rw c.view-key.ensures (task_key_sent c.args.task.now.key c.requires.task.key_class)

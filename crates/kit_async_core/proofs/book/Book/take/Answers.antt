@@ -7,10 +7,10 @@ use Rattle.kit_async_model.specs.Books.{BookValue, Took}
 use Rattle.kit_async_model.specs.Events.{take_step, work_in, waiting}
 use Rattle.kit_async_model.specs.Legality.{is_idle, is_free, is_turn_of}
 use Rattle.kit_async_model.specs.Standings.{Standing}
-use Rattle.kit_async_model.proofs.Fronts.{both}
 use Rattle.kit_async_model.proofs.Places.{found_place, found_none, read_is}
-use Rattle.kit_async_core.proofs.Calls.{not_false, turn_took, waiting_took, none_begun, none_free, take_took}
+use Rattle.kit_async_core.proofs.Calls.{turn_took, waiting_took, none_begun, none_free, take_took}
 use Rattle.kit_async_core.proofs.book.Book.take.Goals as goal
+use Rattle.std.proofs.lemmas.Bool.{and_parts as both, not-true as not_false}
 
 pub returns-in-Some-clause-ok : goal.returns-in-Some-clause-ok
 returns-in-Some-clause-ok c =

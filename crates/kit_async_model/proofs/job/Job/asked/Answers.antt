@@ -5,8 +5,9 @@ use Rattle.ann_key.specs.KeyRefs.{text_of}
 use Rattle.annex_model.specs.Messages.{HostMessage}
 use Rattle.kit_core.specs.Kits.{asked_by}
 use Rattle.kit_async_model.specs.Jobs.{due_in, request_due, next_name}
-use Rattle.kit_async_model.proofs.Dues.{not_asked, untold, is_false}
+use Rattle.kit_async_model.proofs.Dues.{not_asked, untold}
 use Rattle.kit_async_model.proofs.job.Job.asked.Goals as goal
+use Rattle.ann_key.proofs.Booleans.{never_true as is_false}
 
 pub returns-in_default : goal.returns-in_default
 returns-in_default c = sym (not_asked c.due.result (due_in c.args.setup.now c.args.self.now) c.due.ensures c.in_default.not-Call)

@@ -4,12 +4,12 @@ use Rattle.link_roles.proofs.Roles.{moved_both, moved_from, same_both}
 use Rattle.link_roles.proofs.Hearing.{ear_gives_up, turn_over, untaken, ear_fed, turn_fed}
 use Rattle.annex_model.specs.Lines.{has_newline}
 use Rattle.journal_model.specs.Journal.{is_started, is_ended}
-use Rattle.link_roles.proofs.Firsts.{line_whole}
 use Rattle.link_roles.proofs.Ears.{ear_on}
 use Rattle.link_roles.proofs.Turns.{turn_on}
 use Rattle.link_roles.proofs.Replying.{over_by, started_then}
 use Rattle.link_roles.proofs.ear.Ear.feed.Goals as goal
 use Rattle.link_roles.proofs.Hearing.{ends_behind, unfed_came, fed_came}
+use Rattle.wire_line.proofs.Firsts.{no_newline_before as line_whole}
 
 pub got-requires-clause-line : goal.got-requires-clause-line
 got-requires-clause-line g c = ap has_newline c.requires.line.1 ∙ line_whole c.args.self.now.held

@@ -7,9 +7,9 @@ use Rattle.kit_core.proofs.Fields.{spelled_fields}
 use Rattle.pair_world.specs.declared.taken.Taken.{Taken}
 use Rattle.pair_world.specs.Works.{request_with, last_said}
 use Rattle.pair_world.specs.Pairs.{PairValue}
-use Rattle.pair_world.proofs.Lines.{first_whole}
 use Rattle.pair_world.proofs.Taking.{work_done, of_some, whole_ends, pair_is}
 use Rattle.pair_world.proofs.pair.Pair.work.Goals as goal
+use Rattle.wire_line.proofs.Firsts.{no_newline_before as first_whole}
 
 pub step_kit-requires-clause-lines : goal.step_kit-requires-clause-lines
 step_kit-requires-clause-lines c =
