@@ -219,10 +219,6 @@ backend_error bytes at h = go (nat_lt 0 n) refl
         let d : first_is (λ b. b == 45) R ≡ false = no_first_dash (n == 0) refl e in
         rw (no_dash 115 R d, no_dash 109 R d, no_dash 83 R d, no_dash 45 R d) refl
 
-none_left : (o : Option ℕ) → is_some o ≡ false → o ≡ None
-none_left None e = refl
-none_left (Some n) e = absurd cc
-
 -- a number ends, and neither a digit nor a dash follows
 stops_after : (key : Parts) (rest : List ℕ) → ends_in_number (Fields key) ≡ true → first_is (λ b. b == 45 || is_digit b) rest ≡ false → Stops key rest
 stops_after key rest some e = record {

@@ -12,3 +12,4 @@ pub mod Strange
 pub mod TagReadings
 pub mod TalksGrow
 pub mod Words
+pub mod Across

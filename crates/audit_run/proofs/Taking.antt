@@ -19,12 +19,9 @@ use Rattle.audit_run.specs.declared.limits.Limits.{Limits}
 use Rattle.audit_run.specs.declared.error.AuditError.{AuditError}
 use Rattle.audit_run.specs.declared.error.AuditError.TheVariants.{Entry, Cut as CutText, Failed, NoMemory}
 use Rattle.audit_run.proofs.Limiting.{passes_bytes, within_bytes, passes_lines, within_lines, all_are, passes_none, within_none}
+use Rattle.journal_look.proofs.Across.{text_line as text_more}
 
 -- ---- lines and a rest, one byte longer
-
-text_more : (lines : List (List ℕ)) (line : List ℕ) → text (lines ++ line ∷ []) ≡ text lines ++ (line ++ 10 ∷ [])
-text_more [] line = refl
-text_more (first ∷ lines) line = ap (λ (t : List ℕ). first ++ 10 ∷ t) (text_more lines line) ∙ sym (append_assoc first (10 ∷ text lines) (line ++ 10 ∷ []))
 
 module _ (bytes : List ℕ) (lines : List (List ℕ)) (rest : List ℕ) (cut : Cut bytes lines rest) where
   cut_byte : (b : ℕ) → Cut (bytes ++ b ∷ []) lines (rest ++ b ∷ [])

@@ -1,8 +1,7 @@
 -- A child that was started just now has begun: it has said nothing and was asked nothing, and its link is wired to it.
-use Rattle.std.proofs.Common.{◌≡◌, ◌≢◌, ℕ, ◌+◌, ◌<◌, List, [], ◌∷◌, ◌++◌, refl, sym, ap, subst, ◌∙◌, length, length-append, append-nil, arith, Bool, true, false, ◌==◌, None, Option}
-use Rattle.std.specs.Prelude.{◌&&◌, ◌||◌, filter, IfSome, is_some}
+use Rattle.std.proofs.Common.{◌≡◌, ◌≢◌, ℕ, ◌+◌, ◌<◌, List, [], ◌∷◌, ◌++◌, refl, sym, ap, subst, ◌∙◌, append-nil, arith, Bool, true, false, ◌==◌, None, Option}
+use Rattle.std.specs.Prelude.{◌&&◌, ◌||◌, IfSome, is_some}
 use Rattle.std.specs.List.{list_all}
-use Rattle.std.proofs.lemmas.List.Elements.{filter-append}
 use Rattle.std.proofs.lemmas.List.Folds.{list_all-append}
 use Rattle.journal_model.specs.declared.verdict.Verdict.TheVariants.{Ended}
 use Rattle.journal_model.specs.declared.entry.What.{What}
@@ -31,6 +30,7 @@ use Rattle.ann_key.proofs.Booleans.{or_neither as neither, or_true, or_false}
 use Rattle.journal_model.proofs.Versions.{none_spoke as silent_said}
 use Rattle.std.proofs.lemmas.Bool.{and_parts as both, eqb-true as same_number, ne_eqb as differ}
 use Rattle.ann_key.proofs.Numbers.{same_number as same}
+use Rattle.journal_model.proofs.Across.{count-append}
 
 -- ---- what is due is no start
 
@@ -109,10 +109,6 @@ soft_starts c (e ∷ more) h =
     step : (w : What) → is_soft w ≡ true → is_started more c ≡ false → (starts c w || is_started more c) ≡ false
     step (Start child slot offer) s r = absurd cc
     step w s r = r
-
-count-append : (past more : List Entry) → count is_start (past ++ more) ≡ count is_start past + count is_start more
-count-append past more =
-    ap length (filter-append (λ (e : Entry). is_start e.what) past more) ∙ length-append (filter (λ (e : Entry). is_start e.what) past) (filter (λ (e : Entry). is_start e.what) more)
 
 -- the group of an entry that may come starts no child of a later number
 group_starts : (o : Opening) (past : List Entry) (c by : ℕ) (w : What) → may_come o past by w ≡ true

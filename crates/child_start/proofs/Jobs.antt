@@ -1,5 +1,5 @@
 -- What a child's jobs are as the journal grows by its link's entries, or by one request.
-use Rattle.std.proofs.Common.{◌≡◌, ℕ, List, [], ◌∷◌, ◌++◌, refl, sym, ap, subst, ◌∙◌, append-nil, Bool, true, false, not, ◌==◌, cond, Some, None, ◌⊎◌, inl, inr}
+use Rattle.std.proofs.Common.{◌≡◌, ℕ, List, [], ◌∷◌, ◌++◌, refl, ap, subst, ◌∙◌, append-nil, Bool, true, false, not, ◌==◌, cond, Some, None, ◌⊎◌, inl, inr}
 use Rattle.std.specs.Prelude.{◌||◌, filter}
 use Rattle.std.specs.List.{list_all, cons_option}
 use Rattle.std.proofs.lemmas.List.Elements.{filter-append}
@@ -10,15 +10,17 @@ use Rattle.journal_model.specs.declared.entry.What.{What}
 use Rattle.journal_model.specs.declared.entry.What.TheVariants.{Start, Ask, Lost}
 use Rattle.journal_model.specs.declared.entry.Entry.{Entry}
 use Rattle.journal_model.specs.declared.opening.Opening.{Opening}
-use Rattle.journal_model.specs.Journal.{any, asks, offers, settles, is_settled, asked_jobs, open_jobs, verdict_of, on_wire}
+use Rattle.journal_model.specs.Journal.{any, asks, offers, is_settled, asked_jobs, open_jobs, on_wire}
 use Rattle.journal_model.specs.Legality.{offered_names}
-use Rattle.journal_model.proofs.Looks.{any-append, each_of-append, settled_none}
+use Rattle.journal_model.proofs.Looks.{any-append, each_of-append}
 use Rattle.host_core.specs.Steps.{group_of, next_job}
 use Rattle.journal_model.specs.Shares.{by_link}
 use Rattle.link_roles.specs.Alone.{GoesOn, AskedAlone, IsSettled, IsLost}
 use Rattle.ann_key.proofs.Booleans.{or_false}
 use Rattle.std.proofs.lemmas.Bool.{and_parts as both}
 use Rattle.ann_key.proofs.Numbers.{same_number as same}
+use Rattle.host_core.proofs.Across.{settled_on, verdict_settles as verdict_settled}
+use Rattle.journal_model.proofs.Across.{none_left}
 
 -- ---- a link's own entries
 
@@ -58,30 +60,6 @@ goes_names old new c g =
     ap names_of (
     ap (any (offers c)) g.is ∙ any-append (offers c) old g.more ∙ ap (λ (b : Bool). any (offers c) old || b) (link_offers_none c g.more g.quiet) ∙ or_false (any (offers c) old)
     )
-
--- ---- settled jobs
-
-pub settled_on : (old more : List Entry) (c k : ℕ) → is_settled old c k ≡ true → is_settled (old ++ more) c k ≡ true
-settled_on old more c k h = any-append (settles c k) old more ∙ ap (λ (b : Bool). b || is_settled more c k) h
-
--- a job with a verdict is settled
-pub verdict_settled : (past : List Entry) (c k : ℕ) (v : Verdict) → verdict_of past c k ≡ Some v → is_settled past c k ≡ true
-verdict_settled past c k v h = go (is_settled past c k) refl
-  where
-    go : (b : Bool) → is_settled past c k ≡ b → is_settled past c k ≡ true
-    go true e = e
-    go false e = absurd (let bad : None ≡ Some v = sym (settled_none past c k e) ∙ h in cc)
-
-none_left : (old new : List Entry) (c : ℕ) (ks : List ℕ) → ((k : ℕ) → is_settled old c k ≡ true → is_settled new c k ≡ true)
-    → filter (λ k. not (is_settled old c k)) ks ≡ [] → filter (λ k. not (is_settled new c k)) ks ≡ []
-none_left old new c [] keep h = refl
-none_left old new c (k ∷ ks) keep h = go (is_settled old c k) refl h (none_left old new c ks keep)
-  where
-    go : (b : Bool) → is_settled old c k ≡ b → cond (not b) (k ∷ filter (λ k. not (is_settled old c k)) ks) (filter (λ k. not (is_settled old c k)) ks) ≡ []
-        → (filter (λ k. not (is_settled old c k)) ks ≡ [] → filter (λ k. not (is_settled new c k)) ks ≡ [])
-        → filter (λ k. not (is_settled new c k)) (k ∷ ks) ≡ []
-    go true e h r = rw (keep k e) (r h)
-    go false e h r = absurd cc
 
 -- ---- an idle child
 

@@ -23,11 +23,12 @@ use Rattle.child_start.specs.declared.greeting.Mode.{Mode}
 use Rattle.child_start.specs.declared.greeting.Mode.TheVariants.{Serve, Init}
 use Rattle.child_start.specs.Greetings.{is_greeting_line, is_of_greeting, is_of_greeting_for, is_refusal, loses, IsReadyFor, HasEnded, IsUnsent}
 use Rattle.child_start.specs.Stages.{is_greeting, is_asked_for, last_request, HasBegun, IsMain, MayAsk, GreetsOn, IsGoneNext, AsksNext, IsGoneUnready, Prepares}
-use Rattle.child_start.proofs.Jobs.{goes_jobs, goes_names, verdict_settled}
+use Rattle.child_start.proofs.Jobs.{goes_jobs, goes_names}
 use Rattle.child_start.proofs.Losing.{links_unlost, unlost_more, unlost_on}
 use Rattle.child_start.proofs.Requests.{none_later, greets_goes, greets_both}
 use Rattle.std.proofs.lemmas.Bool.{and_from as two_true, and_parts as both, eqb-true as same_number}
 use Rattle.ann_key.proofs.Booleans.{or_true}
+use Rattle.host_core.proofs.Across.{verdict_settles as verdict_settled}
 
 all_three : (a b c : Bool) → a ≡ true → b ≡ true → c ≡ true → (a && b && c) ≡ true
 all_three a b c h k l = rw (h, k, l) refl

@@ -1,14 +1,12 @@
 -- The keys that are not refused.
-use Rattle.std.proofs.Common.{◌≡◌, ℕ, List, [], ◌∷◌, Bool, true, false, not, ◌==◌, cond, Some, None, Option, refl}
-use Rattle.std.specs.Prelude.{◌&&◌, nat_lt, is_some}
-use Rattle.std.specs.List.{list_any}
+use Rattle.std.proofs.Common.{◌≡◌, ℕ, List, Bool, true, false, not, cond, Some, None, Option, refl}
+use Rattle.std.specs.Prelude.{is_some}
 use Rattle.annex_model.specs.Messages.{is_sent_key}
 use Rattle.ann_key.specs.Keys.{Parts, key_reading, is_sendable}
 use Rattle.ann_key.proofs.Spelling.{read_of_spelled, spelled_of_read}
 use Rattle.cli_words.specs.declared.refusals.Reason.TheVariants.{Unsendable, ChunkKey}
 use Rattle.cli_words.specs.Refusals.{IsTaskKey, reason_refused, refusal_in}
-use Rattle.journal_model.proofs.Beginning.{above}
-use Rattle.std.proofs.lemmas.Bool.{and_parts as both}
+use Rattle.ann_key.proofs.Across.{no_space as spaceless}
 
 pub not_refused : (bytes : List ℕ) → IsTaskKey bytes → reason_refused bytes ≡ None
 not_refused bytes k = rw (read_of_spelled bytes k.parts k.key) (rw k.sendable (rw k.whole refl))
@@ -27,12 +25,6 @@ task_key bytes h = go (key_reading bytes) refl h
         by_bytes true s None w h = record { parts = parts; key = spelled_of_read bytes parts e; sendable = s; whole = w }
 
 -- ---- a key that can stand in a request
-
-spaceless : (bytes : List ℕ) → is_sendable bytes ≡ true → list_any (λ b. b == 32) bytes ≡ false
-spaceless [] h = refl
-spaceless (b ∷ bs) h =
-    let t = both (nat_lt 32 b && not (b == 127)) (is_sendable bs) h in
-    rw (above b t.0, spaceless bs t.1) refl
 
 -- a sendable key holds no space
 pub sent_key : (bytes : List ℕ) → reason_refused bytes ≡ None → is_sent_key bytes ≡ true

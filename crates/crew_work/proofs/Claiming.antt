@@ -23,13 +23,14 @@ use Rattle.host_core.specs.Steps.{Step, step_of, claim, closing as closing_of, o
 use Rattle.link_roles.specs.Doors.{Made, Passed, Stepped}
 use Rattle.lone_work.specs.AtTasks.{AtTask, SameTask}
 use Rattle.lone_work.proofs.Pairs.{passed}
-use Rattle.gathering.proofs.Laboring.{prepared_lasts, started_lasts}
+use Rattle.gathering.proofs.Laboring.{started_lasts}
 use Rattle.lone_work.proofs.Claiming.{free_unclaimed}
 use Rattle.crew_work.specs.Crews.{CrewBegun, CanServe, Given, HasClaimed, claimed_of}
 use Rattle.task_run.specs.declared.turn.TaskTurn.{TaskTurn}
 use Rattle.std.proofs.lemmas.Bool.{ne_eqb as differ}
 use Rattle.ann_key.proofs.Numbers.{same_number as same}
 use Rattle.ann_key.proofs.Booleans.{or_true}
+use Rattle.task_run.proofs.Across.{prepared_on as prepared_lasts}
 
 pub can_on : {o : Opening} {c : ℕ} (old more : List Entry) {new : List Entry} → new ≡ old ++ more → Legal o new → CanServe o c old → CanServe o c new
 can_on {o} {c} old more is legal can = record {

@@ -154,24 +154,6 @@ module _ (a : Option Log) (name fresh text : List ℕ) (other : fresh ≡ new_na
 
 -- ---- what is told of files
 
-pub where_same : (P : Files → Files → Type 0) (told : Option Files) → ((files : Files) → P files files) → WhereTold told told P
-where_same P None f = tt
-where_same P (Some files) f = f files
-
-pub where_then : (P Q R : Files → Files → Type 0) (a b c : Option Files) → ((x y z : Files) → P x y → Q y z → R x z) → WhereTold a b P → WhereTold b c Q → WhereTold a c R
-where_then P Q R None None None f p q = tt
-where_then P Q R None None (Some z) f p q = absurd q
-where_then P Q R None (Some y) c f p q = absurd p
-where_then P Q R (Some x) None c f p q = absurd p
-where_then P Q R (Some x) (Some y) None f p q = absurd q
-where_then P Q R (Some x) (Some y) (Some z) f p q = f x y z p q
-
-pub where_so : (P R : Files → Files → Type 0) (a b : Option Files) → ((x y : Files) → P x y → R x y) → WhereTold a b P → WhereTold a b R
-where_so P R None None f p = tt
-where_so P R None (Some y) f p = absurd p
-where_so P R (Some x) None f p = absurd p
-where_so P R (Some x) (Some y) f p = f x y p
-
 option_none : {A B : Type 0} (f : A → B) (o : Option A) → option_map f o ≡ None → o ≡ None
 option_none f None e = refl
 option_none f (Some x) e = absurd cc

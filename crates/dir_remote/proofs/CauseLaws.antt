@@ -1,7 +1,6 @@
 -- What the desk's counts say of a copy and of a store.
 use Rattle.std.proofs.Common.{◌≡◌, ◌∙◌, ◌≤◌, ℕ, refl, ap, subst, arith, inl, inr}
 use Rattle.std.specs.Prelude.{Bool, false, Result, Ok, Err}
-use Rattle.ann_outside.specs.Causes.{Rose}
 use Rattle.ann_outside.specs.DeskCauses.{Counts, HasCauses, LeavesOther}
 use Rattle.ann_outside.specs.declared.file_desk.DeskError.{DeskError}
 use Rattle.ann_outside.specs.declared.file_desk.DeskError.TheVariants.{Failed, Missing, NoMemory}
@@ -10,9 +9,7 @@ use Rattle.dir_remote.specs.Copies.{HasCopyCauses}
 use Rattle.dir_remote.specs.Outcomes.{HasOutcomeCauses, refusal_of}
 use Rattle.dir_remote.specs.declared.outcome.Outcome.{Outcome}
 use Rattle.dir_remote.specs.declared.outcome.Outcome.TheVariants as O
-
-pub rose_on : (a b c : ℕ) → Rose a b → b ≤ c → Rose a c
-rose_on a b c h low = omega (arith, h, low)
+use Rattle.ann_outside.proofs.Across.{rose_on}
 
 same_error : (x y : DeskError) → ◌≡◌ {A = Result (Unit {0}) DeskError} (Err x) (Err y) → x ≡ y
 same_error x y q = cc

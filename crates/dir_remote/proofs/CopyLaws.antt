@@ -7,8 +7,9 @@ use Rattle.ann_outside.specs.Files.{Files, content, WhereTold, OthersStay, ReadI
 use Rattle.ann_outside.specs.declared.file_desk.DeskError.{DeskError}
 use Rattle.ann_outside.specs.declared.file_desk.DeskError.TheVariants.{Failed, Missing, NoMemory}
 use Rattle.dir_remote.specs.Copies.{PieceDoes, Copying, CopyDoes}
-use Rattle.dir_remote.proofs.Telling.{told_refl, told_both, told_map, told_and, told_same}
+use Rattle.dir_remote.proofs.Telling.{told_and}
 use Rattle.ann_key.proofs.Lists.{map_nil}
+use Rattle.ann_outside.proofs.Across.{told_refl, where_then as told_both, where_so as told_map, told_same}
 
 some_none : (l : List ℕ) → Some l ≡ None → ⊥
 some_none l e = cc

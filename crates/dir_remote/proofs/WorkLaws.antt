@@ -14,8 +14,8 @@ use Rattle.dir_remote.specs.Outcomes.{HasOutcomeCauses, IsUnnamed, refusal_of}
 use Rattle.dir_remote.specs.declared.outcome.Outcome.{Outcome}
 use Rattle.dir_remote.specs.declared.outcome.Outcome.TheVariants as O
 use Rattle.dir_remote.proofs.PlaceLaws.{content_name_unique, content_names_differ, temporary_name_differs, content_name_inside, temporary_name_inside}
-use Rattle.dir_remote.proofs.Telling.{told_refl, told_both, told_map, told_and, told_same}
-use Rattle.dir_remote.proofs.CauseLaws.{rose_on}
+use Rattle.dir_remote.proofs.Telling.{told_and}
+use Rattle.ann_outside.proofs.Across.{told_refl, where_then as told_both, where_so as told_map, told_same, rose_on}
 
 -- ---- causes
 

@@ -1,21 +1,14 @@
 -- A digest is that of its bytes.
 use Rattle.std.proofs.Common.{◌≡◌, ℕ, ◌<◌, ◌≤◌, ◌⊎◌, inl, inr, List, length, take, get_or, sym, ap, ◌∙◌, arith, length-append, length-drop, drop}
-use Rattle.std.specs.Prelude.{replicate, slice_index}
+use Rattle.std.specs.Prelude.{replicate}
 use Rattle.std.proofs.lemmas.Grind.{get_or_default_zero}
 use Rattle.std.proofs.lemmas.List.{get_or-take, length-take, length-replicate, get_or_append_left, take_all, same_lists}
 use Rattle.std.proofs.lemmas.Bool.{cases_lt}
-use denote.Struct.Props.{props}
 use Rattle.ann_digest.specs.Digests.{digest_bytes}
 use Rattle.ann_digest.specs.declared.digest.Digest.{Digest}
 use Rattle.entry_lines.specs.Digits.{digest_of, padded}
 use Rattle.ann_digest.proofs.Zeros.{get_or-zeros}
 use Rattle.journal_model.proofs.SameDigest.{same_digest as digest_same}
-
-short_prop : (n : ℕ) → IsProp (n ≤ 64)
-short_prop n = hlevel props
-
-blank_prop : (n : ℕ) (bytes : List ℕ) → IsProp ((k : ℕ) → n ≤ k → k < 64 → slice_index bytes k ≡ 0)
-blank_prop n bytes = hlevel props
 
 apart : (a b : ℕ) → (a ≤ b) ⊎ (b < a)
 apart a b = turned (cases_lt b a)

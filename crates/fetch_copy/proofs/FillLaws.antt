@@ -13,8 +13,9 @@ use Rattle.fetch_copy.specs.declared.copied.Copied.{Copied}
 use Rattle.fetch_copy.specs.declared.copied.Copied.TheVariants.{Done, Fault, Missing}
 use Rattle.fetch_copy.specs.Copies.{refusal_of}
 use Rattle.fetch_copy.specs.FilesAfter.{bytes_in, FileGrows, PieceGrows, GrownSoFar, IsWholeCopy, LeavesFront, LeavesMade, HoldsRange, IsUnmade}
-use Rattle.fetch_copy.proofs.Telling.{told_still, told_both, told_map, told_same}
+use Rattle.fetch_copy.proofs.Telling.{told_still}
 use Rattle.ann_key.proofs.Lists.{map_nil, option_twice as map_both}
+use Rattle.ann_outside.proofs.Across.{where_then as told_both, where_so as told_map, told_same}
 
 -- ---- nothing, and one behind the other
 

@@ -1,22 +1,20 @@
 -- A worker goes on: while others make their entries, by a claim, and by what closes its run.
-use Rattle.std.proofs.Common.{◌≡◌, ℕ, ◌<◌, List, [], ◌∷◌, ◌++◌, refl, sym, ap, subst, ◌∙◌, Bool, true, false, not, ◌==◌, Some, None, Option, length, drop, append_assoc}
+use Rattle.std.proofs.Common.{◌≡◌, ℕ, ◌<◌, List, [], ◌∷◌, ◌++◌, refl, sym, ap, subst, ◌∙◌, Bool, true, false, not, ◌==◌, None, Option, length, drop, append_assoc}
 use Rattle.std.specs.Prelude.{◌||◌}
-use Rattle.std.specs.Option.{option_or}
 use Rattle.hall.specs.Passes.{seen_of}
-use Rattle.journal_model.specs.declared.verdict.Verdict.{Verdict}
 use Rattle.journal_model.specs.declared.holder.Holder.{Holder}
 use Rattle.journal_model.specs.declared.answer.Answer.{Answer}
 use Rattle.journal_model.specs.declared.entry.What.{What}
 use Rattle.journal_model.specs.declared.entry.What.TheVariants.{Claim, Answer as Answered, Again}
 use Rattle.journal_model.specs.declared.entry.Entry.{Entry}
 use Rattle.journal_model.specs.declared.opening.Opening.{Opening}
-use Rattle.journal_model.specs.Journal.{any, starts, is_started, verdict_of}
-use Rattle.journal_model.specs.Legality.{Legal, is_claimed_by, is_held_by, holder, turned_by, is_done, is_prepared, prepares, turn_of_task}
+use Rattle.journal_model.specs.Journal.{any, starts, is_started}
+use Rattle.journal_model.specs.Legality.{Legal, is_claimed_by, is_held_by, holder, turned_by, is_prepared, turn_of_task}
 use Rattle.journal_model.specs.Makers.{is_of_task}
 use Rattle.journal_model.specs.Shares.{are_others, makes_only}
 use Rattle.journal_model.proofs.Holders.{others_unheld, others_apart, turn_stays}
 use Rattle.journal_model.proofs.Holding.{holder_append}
-use Rattle.journal_model.proofs.Looks.{entry, any-append, verdict_of-append}
+use Rattle.journal_model.proofs.Looks.{entry, any-append}
 use Rattle.journal_model.proofs.Testing.{by_either, all-join, only_others}
 use Rattle.journal_model.proofs.Working.{holder_apart, unrenewed_in}
 use Rattle.task_run.specs.Askings.{closing}
@@ -29,24 +27,9 @@ use Rattle.gathering.proofs.Turning.{claim_turns, is_turn, others_turns, takes_t
 use Rattle.std.proofs.lemmas.Bool.{and_parts as both, eqb-true as same_number}
 use Rattle.ann_key.proofs.Numbers.{same_number as same}
 use Rattle.ann_key.proofs.Booleans.{true_and_false as true_not_false, or_left, or_false}
+use Rattle.task_run.proofs.Across.{prepared_on as prepared_lasts}
 
 -- ---- what lasts
-
-pub prepared_lasts : (past more : List Entry) (c : ℕ) → is_prepared past c ≡ true → is_prepared (past ++ more) c ≡ true
-prepared_lasts past more c h = rw (done, asked) refl
-  where
-    s : (is_done (verdict_of past c 1) ≡ true) × (any (prepares c) past ≡ true)
-    s = both (is_done (verdict_of past c 1)) (any (prepares c) past) h
-
-    go : (v : Option Verdict) → is_done v ≡ true → is_done (option_or v (verdict_of more c 1)) ≡ true
-    go None h = absurd cc
-    go (Some v) h = h
-
-    done : is_done (verdict_of (past ++ more) c 1) ≡ true
-    done = ap is_done (verdict_of-append c 1 past more) ∙ go (verdict_of past c 1) s.0
-
-    asked : any (prepares c) (past ++ more) ≡ true
-    asked = any-append (prepares c) past more ∙ or_left (any (prepares c) past) (any (prepares c) more) s.1
 
 pub started_lasts : (past more : List Entry) (c : ℕ) → is_started past c ≡ true → is_started (past ++ more) c ≡ true
 started_lasts past more c h = any-append (starts c) past more ∙ or_left (is_started past c) (is_started more c) h

@@ -11,3 +11,4 @@ pub mod Answered
 pub mod Noting
 pub mod Running
 pub mod Queueing
+pub mod Across

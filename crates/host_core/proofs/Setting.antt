@@ -1,6 +1,6 @@
 -- What a group sets is what stands in its first line, where replies are due after it.
 use Rattle.std.proofs.Common.{◌≡◌, ◌∙◌, ℕ, ◌<◌, List, [], ◌∷◌, ◌++◌, refl, sym, ap, subst, Bool, true, false, not, cond, Option, Some, None, length, map, append-nil, inl, inr}
-use Rattle.std.specs.Prelude.{◌&&◌, ◌==◌, ◌^◌, fold, filter, IsTrue}
+use Rattle.std.specs.Prelude.{◌&&◌, ◌^◌, fold, filter, IsTrue}
 use Rattle.annex_model.specs.Lines.{has_newline}
 use Rattle.std.specs.List.{cons_option, list_all}
 use Rattle.annex_model.specs.Messages.{RemoteMessage, remote_reading, Version, Extensions, UnsupportedRequest, Error, Progress, Debug, Info, Setconfig, Setcreds, Setwanted, Setstate, Seturlpresent, Seturlmissing}
@@ -73,12 +73,6 @@ and_second true false d h = absurd cc
 and_second false b d h = absurd cc
 
 -- ---- the end of a child at a line
-
-end_here : (past : List Entry) (by c : ℕ) (rest : List What) → ends_at c (length past) (made_by by (End c (VersionFault (length past)) ∷ rest)) ≡ true
-end_here past by c rest =
-    let a : (c == c) ≡ true = same c in
-    let b : (length past == length past) ≡ true = same (length past) in
-    rw (a, b) refl
 
 puts_end_none : (past : List Entry) (by c j n : ℕ) (lines : List (List ℕ)) → ends_at c n (made_by by (replying past c j lines)) ≡ false
 puts_end_none past by c j n [] = refl

@@ -16,7 +16,7 @@ use Rattle.journal_model.specs.declared.entry.What.TheVariants.{Start, Ask, End,
 use Rattle.journal_model.specs.declared.entry.Entry.{Entry}
 use Rattle.journal_model.specs.declared.opening.Opening.{Opening}
 use Rattle.journal_model.specs.Journal.{any, each_of, starts, ends, mutes, end_why, offers, is_started, is_ended, is_mute, is_tagged, on_wire, open_jobs, asked_jobs, verdict_of, why_of}
-use Rattle.journal_model.specs.Legality.{Legal, count, prepares, is_prepared, is_done, is_empty, is_greeted, is_in_turn, may_work}
+use Rattle.journal_model.specs.Legality.{Legal, count, is_prepared, is_empty, is_greeted, is_in_turn, may_work}
 use Rattle.journal_model.specs.Projection.{final_in}
 use Rattle.journal_model.proofs.Looks.{any-append, each_of-append, verdict_of-append}
 use Rattle.journal_model.proofs.Linking.{why_is_end}
@@ -37,23 +37,10 @@ use Rattle.child_start.proofs.Requests.{not_lost}
 use Rattle.std.proofs.lemmas.Bool.{and_parts as both}
 use Rattle.ann_key.proofs.Numbers.{same_number as same}
 use Rattle.link_roles.proofs.Roles.{by_append as main_both}
+use Rattle.task_run.proofs.Across.{prepared_on}
+use Rattle.journal_model.proofs.Across.{all_in as all_so, none_so}
 
 -- ---- one fact of each entry
-
--- what holds of an entry where it is of a kind, of each entry of a list
-all_so : (p r : What → Bool) → ((w : What) → p w ≡ true → r w ≡ true) → (es : List Entry)
-    → list_all (λ (e : Entry). p e.what) es ≡ true → list_all (λ (e : Entry). r e.what) es ≡ true
-all_so p r so [] h = refl
-all_so p r so (e ∷ es) h =
-    let t = both (p e.what) (list_all (λ (x : Entry). p x.what) es) h in
-    rw (so e.what t.0, all_so p r so es t.1) refl
-
-pub none_so : (p r : What → Bool) → ((w : What) → p w ≡ true → r w ≡ false) → (es : List Entry)
-    → list_all (λ (e : Entry). p e.what) es ≡ true → any r es ≡ false
-none_so p r so [] h = refl
-none_so p r so (e ∷ es) h =
-    let t = both (p e.what) (list_all (λ (x : Entry). p x.what) es) h in
-    rw (so e.what t.0, none_so p r so es t.1) refl
 
 nothing_so : {X : Type 0} (p : What → Bool) (f : What → Option X) → ((w : What) → p w ≡ true → f w ≡ None) → (es : List Entry)
     → list_all (λ (e : Entry). p e.what) es ≡ true → each_of f es ≡ []
@@ -182,17 +169,6 @@ all_answered_on old more c [] j h = refl
 all_answered_on old more c (q ∷ qs) j h =
     let t = both (is_answered old c j) (are_answered old c qs (j + 1)) h in
     rw (answered_on old more c j t.0, all_answered_on old more c qs (j + 1) t.1) refl
-
-prepared_on : (old more : List Entry) (c : ℕ) → is_prepared old c ≡ true → is_prepared (old ++ more) c ≡ true
-prepared_on old more c h =
-    let t = both (is_done (verdict_of old c 1)) (any (prepares c) old) h in
-    let done : is_done (verdict_of (old ++ more) c 1) ≡ true = ap is_done (verdict_of-append c 1 old more) ∙ go (verdict_of old c 1) t.0 in
-    let asked : any (prepares c) (old ++ more) ≡ true = any-append (prepares c) old more ∙ ap (λ (b : Bool). b || any (prepares c) more) t.1 in
-    rw (done, asked) refl
-  where
-    go : (v : Option Verdict) → is_done v ≡ true → is_done (option_or v (verdict_of more c 1)) ≡ true
-    go (Some v) h = h
-    go None h = absurd cc
 
 -- no question has a lead, so no name was said before it
 question_leads : (q : HostMessage) → is_question q ≡ true → has_lead q ≡ false

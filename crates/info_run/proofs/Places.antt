@@ -1,5 +1,5 @@
 -- A journal place by place.
-use Rattle.std.proofs.Common.{◌≡◌, ◌∙◌, ℕ, zero, suc, ◌+◌, ◌-◌, ◌<◌, ◌≤◌, List, [], ◌∷◌, ◌++◌, refl, ap, Option, Some, None, length, take, drop, arith, length-append}
+use Rattle.std.proofs.Common.{◌≡◌, ◌∙◌, ℕ, zero, suc, ◌+◌, ◌-◌, ◌<◌, ◌≤◌, List, [], ◌++◌, refl, ap, Option, Some, None, length, arith}
 use Rattle.std.specs.Prelude.{option_and_then, filter_map}
 use Rattle.std.specs.List.{cons_option, range_with_len}
 use Rattle.annex_model.specs.Messages.{RemoteMessage}
@@ -9,20 +9,7 @@ use Rattle.journal_model.specs.Parts.{part, item_at, part_by_places}
 use Rattle.host_core.proofs.Replaying.{part_places as from_places}
 use Rattle.annex_model.proofs.FrontsTalk.{said-append}
 
--- ---- what stands before a place, at it, and after it
-
-take_front : {X : Type 0} (xs ys : List X) → take (length xs) (xs ++ ys) ≡ xs
-take_front [] ys = refl
-take_front {X = X} (z ∷ xs) ys = ap (λ (zs : List X). z ∷ zs) (take_front xs ys)
-
-drop_past : {X : Type 0} (xs : List X) (x : X) (ys : List X) → drop (suc (length xs)) (xs ++ x ∷ ys) ≡ ys
-drop_past [] x ys = refl
-drop_past (z ∷ xs) x ys = drop_past xs x ys
-
 -- ---- all places from one on
-
-length_next : (past : List Entry) (e : Entry) → length (past ++ e ∷ []) ≡ length past + 1
-length_next past e = length-append past (e ∷ [])
 
 -- the part is the same, place by place
 pub places_are_part : (journal : List Entry) (c j : ℕ) → part journal c j ≡ part_by_places journal c j

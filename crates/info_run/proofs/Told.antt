@@ -17,7 +17,7 @@ use Rattle.wire_msg.specs.declared.host.HostMsg.{HostMsg}
 use Rattle.wire_msg.specs.Shown.{host_shown}
 use Rattle.info_run.specs.Infos.{lines_from, lines_of, questions_from, unready_lines}
 use Rattle.info_run.proofs.Places.{said_from, said_next}
-use Rattle.journal_model.proofs.Linking.{text-append}
+use Rattle.annex_model.proofs.Across.{text-append}
 
 -- lines that are printed before others
 pub joined : (xs ys : List (List ℕ)) (a b : List ℕ) → b ≡ a ++ text xs → a ++ text (xs ++ ys) ≡ b ++ text ys

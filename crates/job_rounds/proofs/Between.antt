@@ -26,7 +26,7 @@ use Rattle.lone_rounds.proofs.Apart.{ended_on, ready_same}
 use Rattle.lone_rounds.proofs.Growing.{SaysStart, says_start}
 use Rattle.lone_rounds.proofs.Losing.{lost_both}
 use Rattle.lone_rounds.proofs.Nexts.{next_both, next_first}
-use Rattle.lone_rounds.proofs.Tests.{any_none, any_same, children_up_to, neither_nor, offers_both}
+use Rattle.lone_rounds.proofs.Tests.{any_same, children_up_to, neither_nor, offers_both}
 use Rattle.lone_rounds.proofs.Unready.{and_true}
 use Rattle.pool_starts.specs.Slots.{AllInTurn, AreSpent, IsManned, StandsInTurn, are_spent, in_pool, is_first_start, offers_tags, spends}
 use Rattle.gathering.specs.Rounds.{IsAtRest}
@@ -45,6 +45,7 @@ use Rattle.ann_key.proofs.Booleans.{or_neither as neither, or_left, or_right, an
 use Rattle.journal_model.proofs.Working.{count-append, count_none}
 use Rattle.pool_starts.proofs.Own.{shut_open}
 use Rattle.pool_starts.proofs.SlotLaws.{turn_both}
+use Rattle.journal_model.proofs.Across.{none_so as any_none}
 
 -- ---- the numbers of the children
 

@@ -33,11 +33,6 @@ claims_both k past (e ∷ xs) ys =
     (claims_both k (past ++ e ∷ []) xs ys ∙ ap (λ (p : List Entry). claims_for k (past ++ e ∷ []) xs ++ claims_for k p ys) (append_assoc past (e ∷ []) xs))
     ∙ cons_both (claimed_for k past e.by e.what) (claims_for k (past ++ e ∷ []) xs) (claims_for k (past ++ e ∷ xs) ys)
 
--- entries that claim nothing
-unclaimed : (k by : ℕ) (past : List Entry) (w : What) → claimed_turn past w ≡ None → claimed_for k past by w ≡ None
-unclaimed k by past (Claim task child) h = absurd cc
-unclaimed k by past w h = refl
-
 pub claims_none : (k : ℕ) (past xs : List Entry) → each_of claimed xs ≡ [] → claims_for k past xs ≡ []
 claims_none k past [] h = refl
 claims_none k past (e ∷ xs) h = go e.what h (claims_none k (past ++ e ∷ []) xs)

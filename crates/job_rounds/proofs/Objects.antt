@@ -15,11 +15,12 @@ use Rattle.child_end.specs.Programs.{AddsAll, ProgramsValue, RoseBy, is_failed_s
 use Rattle.child_end.specs.Wires.{WireValue, came, came_in}
 use Rattle.lone_rounds.specs.Starting.{is_any_start}
 use Rattle.lone_rounds.specs.Stints.{AreLinked, AreUpTo, IsLinked, Kept, StartsOne, main_entry}
-use Rattle.lone_rounds.proofs.Leaving.{adds_both, linked_both, linked_on, none_told, rose_both, failed_start_is, as_many}
+use Rattle.lone_rounds.proofs.Leaving.{linked_both, linked_on, none_told, rose_both, failed_start_is, as_many}
 use Rattle.lone_rounds.proofs.Tests.{none_came}
 use Rattle.job_rounds.specs.Starts.{StartsAll}
 use Rattle.pool_starts.proofs.Seating.{shifted}
 use Rattle.journal_model.proofs.Working.{count-append, count_none}
+use Rattle.child_end.proofs.Across.{adds_both}
 
 -- ---- counts of faults
 
@@ -49,8 +50,6 @@ linked_shifted old mid told_so journal k a e at (Some c ∷ cs) (w ∷ ws) h =
       subst (λ (m : ℕ). IsLinked old journal m w) z (one_shifted old mid told_so journal k (at + 1) w a e h.1),
       subst (λ (m : ℕ). AreLinked old journal m cs ws) z (linked_shifted old mid told_so journal k a e (at + 1) cs ws h.2),
     )
-
--- ---- told and came
 
 -- ---- one start alone
 

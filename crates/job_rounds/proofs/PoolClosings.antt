@@ -24,7 +24,7 @@ use Rattle.lone_rounds.specs.Starting.{is_any_start}
 use Rattle.lone_rounds.proofs.Apart.{ended_on}
 use Rattle.lone_rounds.proofs.Losing.{loses_task}
 use Rattle.lone_rounds.proofs.Stinting.{Closing, closing, of_closing}
-use Rattle.lone_rounds.proofs.Tests.{any_none, each_none}
+use Rattle.lone_rounds.proofs.Tests.{each_none}
 use Rattle.pool_starts.specs.Pools.{changes_claim}
 use Rattle.pool_starts.specs.Slots.{in_pool}
 use Rattle.job_rounds.specs.PoolSteps.{ClosesAll}
@@ -32,6 +32,7 @@ use Rattle.std.proofs.lemmas.Bool.{and_parts as both, ne_eqb as differ, eqb-true
 use Rattle.ann_key.proofs.Numbers.{same_number as same}
 use Rattle.ann_key.proofs.Booleans.{or_right}
 use Rattle.pool_starts.proofs.Own.{rest_shut, shut_open}
+use Rattle.journal_model.proofs.Across.{none_so as any_none}
 
 -- ---- what closings append
 

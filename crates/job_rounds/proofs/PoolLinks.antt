@@ -21,7 +21,6 @@ use Rattle.lone_work.specs.Works.{CanWork, DeskTells}
 use Rattle.lone_rounds.specs.Stints.{HasServed, in_stint}
 use Rattle.lone_rounds.proofs.Apart.{apart_in}
 use Rattle.lone_rounds.proofs.Stinting.{may_close}
-use Rattle.lone_rounds.proofs.Tests.{any_none}
 use Rattle.crew_rounds.specs.PoolChildren.{MayServe, PoolCan}
 use Rattle.pool_starts.specs.Pools.{OverBy, SeatValue, Serves}
 use Rattle.job_rounds.specs.PoolSteps.{AreLaid, AreSettled, ClosesAll, serving}
@@ -31,6 +30,7 @@ use Rattle.ann_key.proofs.Lists.{no_items}
 use Rattle.std.proofs.lemmas.Bool.{ne_eqb as differ}
 use Rattle.gathering.proofs.Laboring.{started_lasts as started_then}
 use Rattle.pool_starts.proofs.Own.{rest_shut}
+use Rattle.journal_model.proofs.Across.{none_so as any_none}
 
 -- ---- lists that are mapped
 
@@ -208,11 +208,3 @@ closes_one_more link ls i x old mid new lt is closed next =
 pub stays_same : (a : Option Starts) → Stays a a
 stays_same None = tt
 stays_same (Some xs) = refl
-
-pub stays_both : (a b c : Option Starts) → Stays a b → Stays b c → Stays a c
-stays_both None None None h k = tt
-stays_both None None (Some zs) h k = absurd k
-stays_both None (Some ys) c h k = absurd h
-stays_both (Some xs) None c h k = absurd h
-stays_both (Some xs) (Some ys) None h k = absurd k
-stays_both (Some xs) (Some ys) (Some zs) h k = k ∙ h

@@ -41,7 +41,6 @@ use Rattle.lone_rounds.proofs.Losing.{lost_others, lost_tasks, loses_task}
 use Rattle.lone_rounds.proofs.Runs.{done_same, gained_nothing, worker_runs}
 use Rattle.lone_rounds.proofs.Served.{all_unclosed, worker_unclosed as worker_ends}
 use Rattle.lone_rounds.proofs.Stinting.{Closing, Part, closing, closing_claims, closing_loses, closing_part, closing_rests, of_closing, part_both, worker_loses, worker_part}
-use Rattle.lone_rounds.proofs.Tests.{any_none}
 use Rattle.crew_rounds.specs.PoolChildren.{MayServe, PoolCan}
 use Rattle.pool_rounds.specs.Pool.{AreSameLinks, PoolLeaves}
 use Rattle.pool_starts.specs.Pools.{changes_claim}
@@ -59,8 +58,9 @@ use Rattle.job_rounds.proofs.RoundDid.{any_round_did, in_range, lost_unclosed}
 use Rattle.job_rounds.proofs.Shutting.{AreShut, shut_next}
 use Rattle.std.proofs.lemmas.Bool.{and_parts as both, ne_eqb as differ, eqb-true as same_number}
 use Rattle.ann_key.proofs.Booleans.{left_false as either_left, or_left, or_right}
-use Rattle.gathering.proofs.Laboring.{prepared_lasts as prepared_on}
 use Rattle.pool_starts.proofs.Own.{rest_shut, shut_open}
+use Rattle.journal_model.proofs.Across.{none_so as any_none}
+use Rattle.task_run.proofs.Across.{prepared_on}
 
 -- ---- a child that is lost
 

@@ -59,10 +59,6 @@ or_first : (a b : Bool) → b ≡ false → (a || b) ≡ true → a ≡ true
 or_first true b f h = refl
 or_first false b f h = absurd (let bad : true ≡ false = sym h ∙ f in cc)
 
-or_same : (a b : Bool) → (a || a) ≡ true → a ≡ true
-or_same true b h = refl
-or_same false b h = absurd cc
-
 at_least : (first c child : ℕ) → first ≤ c → (child == c) ≡ true → nat_le first child ≡ true
 at_least first c child le h = (let is = same_number child c h in grind (arith, nat_tests))
 

@@ -29,11 +29,11 @@ use Rattle.lone_rounds.specs.Starting.{children, is_any_start, is_ready_untagged
 use Rattle.lone_rounds.specs.Rounds.{AllLostWell, AllStandNext, NoneUntaken, StandsNext, is_of_run, start_untaken, turn_of}
 use Rattle.lone_rounds.specs.Stints.{AreLinked, MayHaveAsked, in_stint, main_entry}
 use Rattle.lone_rounds.proofs.Apart.{no_start_in}
-use Rattle.lone_rounds.proofs.Leaving.{adds_both, adds_one, none_told, failed_start_is, of_start}
+use Rattle.lone_rounds.proofs.Leaving.{none_told, failed_start_is, of_start}
 use Rattle.lone_rounds.proofs.Losing.{greeted_next, lost_both, lost_greeting}
 use Rattle.lone_rounds.proofs.Nexts.{next_both, next_quiet}
-use Rattle.lone_rounds.proofs.Stinting.{greeting_part, greeting_claims_none, quiet_greeting, all_in}
-use Rattle.lone_rounds.proofs.Tests.{any_none, each_none, no_children, none_came}
+use Rattle.lone_rounds.proofs.Stinting.{greeting_part, greeting_claims_none, quiet_greeting}
+use Rattle.lone_rounds.proofs.Tests.{each_none, no_children, none_came}
 use Rattle.pool_starts.specs.Slots.{AllInTurn, begins_by_start, has_pool, in_pool, is_first_start, is_lost, is_unclaimed_since, last_slot, offers_tags, slot_of, spends}
 use Rattle.job_rounds.specs.Desks.{DesksDid, HaveDesks}
 use Rattle.job_rounds.specs.Pools.{LeavesPool, ServesPool}
@@ -52,8 +52,10 @@ use Rattle.ann_key.proofs.Booleans.{left_false as either_left, or_neither as nei
 use Rattle.journal_model.proofs.Working.{count-append, count_none}
 use Rattle.pool_starts.proofs.Own.{rest_shut}
 use Rattle.pool_starts.proofs.SlotLaws.{turn_both}
-use Rattle.gathering.proofs.Laboring.{prepared_lasts as prepared_on}
 use Rattle.job_rounds.proofs.PoolWhole.{tags_start as no_tags}
+use Rattle.child_end.proofs.Across.{adds_both, adds_one}
+use Rattle.journal_model.proofs.Across.{all_in, none_so as any_none}
+use Rattle.task_run.proofs.Across.{prepared_on}
 
 -- ---- what the last start came to
 

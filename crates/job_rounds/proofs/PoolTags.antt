@@ -24,10 +24,10 @@ use Rattle.lone_rounds.specs.Starting.{children, is_any_start, started_in}
 use Rattle.pool_starts.specs.Pools.{AreSeated, OverBy, SeatValue, Serves}
 use Rattle.pool_starts.specs.Slots.{offers_tags}
 use Rattle.job_rounds.specs.PoolSteps.{serving}
-use Rattle.child_start.proofs.Jobs.{settled_on}
 use Rattle.journal_model.proofs.Replying.{accepted}
 use Rattle.std.proofs.lemmas.Bool.{and_parts as both, eqb-true as same_number}
 use Rattle.ann_key.proofs.Booleans.{left_false as either_left, right_false as either_right, or_left, or_right, or_false}
+use Rattle.host_core.proofs.Across.{settled_on}
 
 -- ---- job 0 of a prepared child is settled
 

@@ -28,6 +28,7 @@ use Rattle.job_rounds.proofs.PoolClosings.{closes_held}
 use Rattle.job_rounds.proofs.PoolTags.{Ascends, seated_above}
 use Rattle.std.proofs.lemmas.Bool.{ne_eqb as differ}
 use Rattle.journal_model.proofs.Working.{count-append, count_none}
+use Rattle.child_end.proofs.Across.{adds_stay}
 
 -- ---- the wire of a link
 
@@ -98,14 +99,6 @@ wires_linked starts g new n m (Some c ∷ cs) (Serves ∷ seats) (l ∷ links) (
     )
 
 -- ---- starts that were told
-
-adds_stay : (a b c : Option Starts) (xs : Starts) → AddsAll a b xs → Stays b c → AddsAll a c xs
-adds_stay None None None xs h k = tt
-adds_stay None None (Some zs) xs h k = absurd k
-adds_stay None (Some ys) c xs h k = absurd h
-adds_stay (Some us) None c xs h k = absurd h
-adds_stay (Some us) (Some vs) None xs h k = absurd k
-adds_stay (Some us) (Some vs) (Some ws) xs h k = k ∙ h
 
 have_started : {wanted wanted' : Type 0} (program : List ℕ) (gl more : List Entry) (a b c : Option Starts) → (wanted → wanted') → any is_any_start more ≡ false → HaveStarted wanted program gl a b → Stays b c → HaveStarted wanted' program (gl ++ more) a c
 have_started {wanted} {wanted'} program gl more a b c f none h k = subst (λ (xs : Starts). AddsAll a c xs ⊎ (wanted' × ((t : Bool) × AddsAll a c (xs ++ (program, t) ∷ [])))) (sym same) (go h)

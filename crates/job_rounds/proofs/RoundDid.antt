@@ -7,18 +7,14 @@ use Rattle.std.proofs.lemmas.Bool.Decides.{nat_tests}
 use Rattle.journal_model.specs.declared.verdict.Why.{Why}
 use Rattle.journal_model.specs.declared.verdict.Why.TheVariants.{Closed}
 use Rattle.journal_model.specs.declared.entry.What.{What}
-use Rattle.journal_model.specs.declared.entry.What.TheVariants.{Claim, Start, Lead, Ask, Put, Sent, Mute, Got, End, Verdict as Settled, Lost, Answer as Answered, Note as Noted, Again}
+use Rattle.journal_model.specs.declared.entry.What.TheVariants.{Claim, Lead, Ask, Put, Sent, Mute, Got, End, Verdict as Settled, Lost, Answer as Answered, Note as Noted, Again}
 use Rattle.journal_model.specs.declared.entry.Entry.{Entry}
 use Rattle.journal_model.specs.declared.opening.Opening.{Opening}
-use Rattle.journal_model.specs.Journal.{any, asked_jobs, each_of, is_ended, is_mute, is_tagged, accepts_async, offers, verdict_of, why_of}
-use Rattle.journal_model.specs.Due.{due_after}
-use Rattle.journal_model.specs.Legality.{Legal, count, is_start, may_come, turn_of_task}
+use Rattle.journal_model.specs.Journal.{any, asked_jobs, is_ended, is_mute, is_tagged, why_of}
+use Rattle.journal_model.specs.Legality.{Legal, count, turn_of_task}
 use Rattle.journal_model.specs.Shares.{by_ear, by_mouth, is_by_line, is_closed, is_memory}
-use Rattle.journal_model.proofs.Growing.{Legal-induction}
-use Rattle.journal_model.proofs.Holding.{due_names}
 use Rattle.journal_model.proofs.Idling.{are_mains, asks_none, mains_ask}
 use Rattle.journal_model.proofs.Linking.{why_is_end}
-use Rattle.journal_model.proofs.Looks.{any-append, entry}
 use Rattle.journal_model.proofs.Testing.{all-each, all-split, by_either}
 use Rattle.journal_model.proofs.Turns.{tagged_on}
 use Rattle.host_core.specs.Steps.{are_all_claimed}
@@ -30,7 +26,7 @@ use Rattle.gathering.specs.Tasks.{claimed_turn, turns_by}
 use Rattle.child_start.specs.Greetings.{asks_for}
 use Rattle.child_start.specs.declared.greeting.Mode.TheVariants.{Serve}
 use Rattle.lone_work.specs.Works.{DeskTells, TaskDone}
-use Rattle.lone_rounds.specs.Starting.{is_spent, is_unclosed, started_in}
+use Rattle.lone_rounds.specs.Starting.{is_spent, is_unclosed}
 use Rattle.lone_rounds.specs.Rounds.{is_of_run}
 use Rattle.lone_rounds.specs.Stints.{in_stint}
 use Rattle.lone_rounds.proofs.Apart.{is_unclosed_end}
@@ -38,40 +34,9 @@ use Rattle.lone_rounds.proofs.Later.{late, late_from}
 use Rattle.crew_rounds.specs.Crewing.{AllRun, DeskDid as CrewDid, DesksDid as CrewDesks}
 use Rattle.crew_rounds.specs.TaggedRounds.{TaggedLeaves}
 use Rattle.job_rounds.specs.Desks.{AreDone, DeskDid, DesksDid, HasDesk, HaveDesks, claimed_for, claims_for, desk_of}
-use Rattle.ann_key.proofs.Booleans.{same_test, left_false as either_left, right_false as either_right, true_and_false as true_not_false, or_neither as neither, or_right}
+use Rattle.ann_key.proofs.Booleans.{same_test, left_false as either_left, right_false as either_right, or_right}
 use Rattle.std.proofs.lemmas.Bool.{eq-eqb as equal_test, and_parts as both, ne_eqb as differ, eqb-true as same_number}
 use Rattle.ann_key.proofs.Numbers.{same_number as same}
-
--- ---- a tagged child has a number above 0
-
-unoffered : (xs : List Entry) → each_of started_in xs ≡ [] → any (offers 0) xs ≡ false
-unoffered [] h = refl
-unoffered (e ∷ xs) h = step e.what h (unoffered xs)
-  where
-    step : (w : What) → cons_option (started_in w) (each_of started_in xs) ≡ [] → (each_of started_in xs ≡ [] → any (offers 0) xs ≡ false) → (offers 0 w || any (offers 0) xs) ≡ false
-    step (Start child slot offer) h r = absurd cc
-    step w h r = r h
-
-no_zero : (o : Opening) (journal : List Entry) → Legal o journal → any (offers 0) journal ≡ false
-no_zero o journal l = Legal-induction o (λ past. any (offers 0) past ≡ false) refl (λ past e legal before may. step past e.by e.what before may) journal l
-  where
-    step : (past : List Entry) (by : ℕ) (w : What) → any (offers 0) past ≡ false → may_come o past by w ≡ true → any (offers 0) (past ++ entry by w ∷ due_after o past (entry by w)) ≡ false
-    step past by w before may =
-        any-append (offers 0) past (entry by w ∷ due_after o past (entry by w))
-        ∙ neither (any (offers 0) past) (any (offers 0) (entry by w ∷ due_after o past (entry by w))) before
-        (neither (offers 0 w) (any (offers 0) (due_after o past (entry by w))) (first w may)
-        (unoffered (due_after o past (entry by w)) (due_names started_in (λ c j v. refl) (λ c why. refl) (λ c j line. refl) o past by w)))
-      where
-        first : (v : What) → may_come o past by v ≡ true → offers 0 v ≡ false
-        first (Start child slot offer) m =
-            let next : (child == count is_start past + 1) ≡ true = (both (by == 0) (child == count is_start past + 1) (both (by == 0 && child == count is_start past + 1) (nat_lt child 4294967296) m).0).1 in
-            let off : (child == 0) ≡ false = differ child 0 (λ z. absurd (let is = same_number child (count is_start past + 1) next in let bad : ⊥ = omega (arith, z, is) in bad)) in
-            rw off refl
-        first v m = refl
-
-tagged_number : (o : Opening) (start : List Entry) (c : ℕ) → Legal o start → is_tagged start c ≡ true → 0 < c
-tagged_number o start zero legal tag = true_not_false (any (offers 0) start) (both (any (offers 0) start) (accepts_async start (verdict_of start 0 0)) tag).0 (no_zero o start legal)
-tagged_number o start (suc c) legal tag = omega arith
 
 -- ---- what the posts of a tagged crew make
 

@@ -8,9 +8,9 @@ use Rattle.journal_model.proofs.Testing.{by_either}
 use Rattle.child_start.proofs.Jobs.{idle_on}
 use Rattle.lone_rounds.specs.Stints.{in_stint}
 use Rattle.lone_rounds.proofs.Apart.{apart_in}
-use Rattle.lone_rounds.proofs.Tests.{any_none}
 use Rattle.pool_starts.proofs.Own.{unasked}
 use Rattle.std.proofs.lemmas.Bool.{eqb-true as same_number}
+use Rattle.journal_model.proofs.Across.{none_so as any_none}
 
 -- each child has none
 abbrev pub AreShut : List Entry → Type 0

@@ -82,12 +82,6 @@ first_none n w h = refl
 
 -- ---- each in its turn
 
-manned_turn : (o : Opening) (jobs : ℕ) (past : List Entry) (w : What) → is_any_start w ≡ false → IsManned o jobs past → StandsInTurn o jobs past w
-manned_turn o jobs past (Start child slot offer) none m = absurd cc
-manned_turn o jobs past (NoStart slot) none m = absurd cc
-manned_turn o jobs past (Claim task child) none m = m
-manned_turn o jobs past w none m = tt
-
 -- one worker needs no pool
 pub manned_one : (o : Opening) (past : List Entry) → IsManned o 1 past
 manned_one o past = λ pool. (let least = min-le_left 1 (length (unclaimed o past)) in omega (arith, least))

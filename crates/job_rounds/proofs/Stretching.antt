@@ -39,8 +39,8 @@ use Rattle.lone_rounds.proofs.Apart.{no_start_in}
 use Rattle.lone_rounds.proofs.Growing.{starts_none}
 use Rattle.lone_rounds.proofs.Nexts.{is_quiet, quiet_starts}
 use Rattle.lone_rounds.proofs.Served.{all_unclosed, greeting_unclosed, new_unclosed, ready_now}
-use Rattle.lone_rounds.proofs.Stinting.{Closing, closing, greeting_part, greeting_rests, greeting_works, of_closing, one_idle, quiet_greeting, all_in}
-use Rattle.lone_rounds.proofs.Tests.{any_none, no_children}
+use Rattle.lone_rounds.proofs.Stinting.{Closing, closing, greeting_part, greeting_rests, greeting_works, of_closing, one_idle, quiet_greeting}
+use Rattle.lone_rounds.proofs.Tests.{no_children}
 use Rattle.pool_starts.specs.Pools.{changes_claim}
 use Rattle.pool_starts.specs.Slots.{AllInTurn, IsManned, has_pool, in_pool, offers_tags, spends}
 use Rattle.pool_starts.proofs.SlotLaws.{first_started, none_first, pool_of as pool_is, turn_quiet, turn_both, turn_where as turn_manned}
@@ -57,7 +57,8 @@ use Rattle.job_rounds.proofs.Spent.{own_spends}
 use Rattle.job_rounds.proofs.PoolWhole.{tags_start as no_tags}
 use Rattle.std.proofs.lemmas.Bool.{and_parts as both}
 use Rattle.pool_starts.proofs.Own.{rest_shut, shut_open}
-use Rattle.gathering.proofs.Laboring.{prepared_lasts as prepared_on}
+use Rattle.journal_model.proofs.Across.{all_in, none_so as any_none}
+use Rattle.task_run.proofs.Across.{prepared_on}
 
 -- ---- the start itself
 

@@ -109,11 +109,6 @@ read_there [] at e h = absurd cc
 read_there (x ∷ xs) zero e h = cc
 read_there (x ∷ xs) (suc at) e h = read_there xs at e h
 
-pub some_there : (xs : List Entry) (at : ℕ) → at < length xs → None ≡ slice_get xs at → ⊥
-some_there [] at less h = let no : ⊥ = omega (arith, less) in no
-some_there (x ∷ xs) zero less h = cc
-some_there (x ∷ xs) (suc at) less h = some_there xs at (omega (arith, less)) h
-
 -- ---- at the end
 
 none_left : (xs : List Entry) → length xs ≡ 0 → xs ≡ []

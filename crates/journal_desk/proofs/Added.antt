@@ -16,9 +16,10 @@ use Rattle.ann_outside.specs.declared.file_desk.Call.TheVariants.{Create, Append
 use Rattle.annex_model.specs.Lines.{text}
 use Rattle.desk_file.specs.Writes.{IsRefusal, HasGrown, GrowsBy}
 use Rattle.desk_file.proofs.Logs.{gained_nothing, gained_more, gained_call, gained_without}
-use Rattle.desk_file.proofs.WriteLaws.{where_same, where_then, grows_nothing, grows_refused, append_refusal}
+use Rattle.desk_file.proofs.WriteLaws.{grows_nothing, grows_refused, append_refusal}
 use Rattle.journal_desk.specs.JournalDesks.{with_end, is_piece, ArePieces, piece_appends, AppendsLines, MakesLines, TakesUp, RefusesPiece, IsMadeAs, MakesSynced}
-use Rattle.journal_model.proofs.Linking.{text-append}
+use Rattle.ann_outside.proofs.Across.{told_refl as where_same, where_then}
+use Rattle.annex_model.proofs.Across.{text-append}
 
 abbrev Pieces : Type 0
 Pieces = List (List (List ℕ))

@@ -8,3 +8,4 @@ pub mod Holding
 pub mod InWay
 pub mod Taking
 pub mod Working
+pub mod Across

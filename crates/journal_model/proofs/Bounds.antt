@@ -17,9 +17,10 @@ use Rattle.journal_model.specs.Legality.{Legal, may_come}
 use Rattle.journal_model.specs.Wires.{Wired, are_short}
 use Rattle.journal_model.proofs.Testing.{all-split}
 use Rattle.journal_model.proofs.Soft.{is_soft, soft_got, soft_mute, soft_verdicts, soft_stretch}
-use Rattle.journal_model.proofs.Linking.{got_more, text-append}
+use Rattle.journal_model.proofs.Linking.{got_more}
 use Rattle.journal_model.proofs.Growing.{Legal-induction}
 use Rattle.std.proofs.lemmas.Bool.{and_parts as both}
+use Rattle.annex_model.proofs.Across.{text-append}
 
 abbrev heard_size : List Entry → ℕ → ℕ
 heard_size past c = length (text (got_lines past c))

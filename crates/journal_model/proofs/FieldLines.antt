@@ -11,11 +11,9 @@ use Rattle.annex_model.specs.Messages.{RemoteMessage, RemoteSpells, Param, Numbe
 use Rattle.journal_model.specs.Replies.{are_line_fields}
 use Rattle.ann_key.proofs.Booleans.{neither_is as apart, not_either as neither}
 use Rattle.std.proofs.lemmas.Bool.{and_parts as both, and_from as both_true}
+use Rattle.ann_key.proofs.Across.{digit_fits}
 
 -- ---- digits
-digit_fits : (b : ℕ) → is_digit b ≡ true → not (b == 10) ≡ true
-digit_fits b h = grind (arith, nat_tests)
-
 digits_fit : (bytes : List ℕ) → list_all is_digit bytes ≡ true → not (has_newline bytes) ≡ true
 digits_fit [] h = refl
 digits_fit (b ∷ bytes) h =

@@ -1,9 +1,8 @@
 -- What of a child ends it, and what a stretch of a journal adds to what one child sees.
-use Rattle.std.proofs.Common.{◌≡◌, ℕ, ◌+◌, List, [], ◌∷◌, ◌++◌, refl, sym, ap, ◌∙◌, Bool, true, false, cond, Some, None, Option, length, append_assoc, append-nil, arith, length-append}
+use Rattle.std.proofs.Common.{◌≡◌, ℕ, ◌+◌, List, [], ◌∷◌, ◌++◌, refl, ap, ◌∙◌, Bool, true, false, cond, Some, None, Option, length, append-nil, arith, length-append}
 use Rattle.std.specs.Prelude.{◌||◌, filter, option_and_then, find, is_some}
 use Rattle.std.specs.Option.{option_or}
 use Rattle.std.proofs.lemmas.List.Elements.{filter-append}
-use Rattle.annex_model.specs.Lines.{text}
 use Rattle.journal_model.specs.declared.verdict.Why.{Why}
 use Rattle.journal_model.specs.declared.entry.What.{What}
 use Rattle.journal_model.specs.declared.entry.What.TheVariants.{End}
@@ -19,11 +18,6 @@ pub sent_count-append : (xs ys : List Entry) (c : ℕ) → sent_count (xs ++ ys)
 sent_count-append xs ys c =
     ap (λ (l : List Entry). length l) (filter-append (λ (e : Entry). sends c e.what) xs ys)
     ∙ length-append (filter (λ (e : Entry). sends c e.what) xs) (filter (λ (e : Entry). sends c e.what) ys)
-
--- the text of lines
-pub text-append : (xs ys : List (List ℕ)) → text (xs ++ ys) ≡ text xs ++ text ys
-text-append [] ys = refl
-text-append (x ∷ xs) ys = ap (λ (zs : List ℕ). x ++ 10 ∷ zs) (text-append xs ys) ∙ sym (append_assoc x (10 ∷ text xs) (text ys))
 
 ends_why : (c : ℕ) (w : What) → ends c w ≡ true → (why : Why) × (end_why c w ≡ Some why)
 ends_why c (End child why) h = (why, rw h refl)

@@ -15,10 +15,11 @@ use Rattle.journal_model.specs.Shares.{is_said}
 use Rattle.journal_model.specs.Halves.{MouthValue, MouthWired}
 use Rattle.journal_model.proofs.Looks.{each_of-append, any-append}
 use Rattle.journal_model.proofs.Soft.{IsSoft}
-use Rattle.journal_model.proofs.Linking.{sent_count, sent_count-append, text-append, mute_more as mute_same}
+use Rattle.journal_model.proofs.Linking.{sent_count, sent_count-append, mute_more as mute_same}
 use Rattle.journal_model.proofs.Ears.{told_maps, told_grows}
 use Rattle.ann_key.proofs.Numbers.{same_number as same}
 use Rattle.ann_key.proofs.Booleans.{left_false as either_left, right_false as either_right, true_and_false as true_not_false}
+use Rattle.annex_model.proofs.Across.{text-append}
 
 abbrev pub Written : Type 0
 Written = List (Option ℕ × List ℕ)

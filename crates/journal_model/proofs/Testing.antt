@@ -12,8 +12,6 @@ use Rattle.ann_key.proofs.Booleans.{or_right, or_left, left_false as either_left
 use Rattle.std.proofs.lemmas.Bool.{and_parts as both, eqb-true as same_number, ne_eqb as differ}
 use Rattle.ann_key.proofs.Numbers.{same_number as same}
 
--- ---- tests
-
 -- ---- along a list
 
 module _ {X : Type 0} where

@@ -11,12 +11,10 @@ use Rattle.chunk_log.specs.declared.line.ChunkLine.{ChunkLine}
 use Rattle.chunk_log.specs.declared.stamp.Stamp.{Stamp}
 use Rattle.chunk_log.proofs.Cuts.{list_all-append, list_all-weaken}
 use Rattle.chunk_log.proofs.StampBack.{decimal_reads, Decimal}
+use Rattle.ann_key.proofs.Across.{digit_fits}
 
 abbrev no_end : ℕ → Bool
 no_end b = not (b == 10)
-
-digit_fits : (b : ℕ) → is_digit b ≡ true → not (b == 10) ≡ true
-digit_fits b h = grind (arith, nat_tests)
 
 written_fits : (n : ℕ) → not (digit n == 10) ≡ true
 written_fits n = grind (arith, nat_tests)

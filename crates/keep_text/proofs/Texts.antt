@@ -4,10 +4,7 @@ use Rattle.std.proofs.Math.Seq.{take-suc}
 use Rattle.std.specs.List.{slice_get}
 use Rattle.annex_model.specs.Lines.{text}
 use Rattle.std.proofs.lemmas.List.{map-append as mapped-append}
-
-pub text-append : (xs ys : List (List ℕ)) → text (xs ++ ys) ≡ text xs ++ text ys
-text-append [] ys = refl
-text-append (x ∷ xs) ys = ap (λ (t : List ℕ). x ++ 10 ∷ t) (text-append xs ys) ∙ sym (append_assoc x (10 ∷ text xs) (text ys))
+use Rattle.annex_model.proofs.Across.{text-append}
 
 pub filtered-append : {X : Type 0} (p : X → Bool) (xs ys : List X) → filter p (xs ++ ys) ≡ filter p xs ++ filter p ys
 filtered-append p [] ys = refl

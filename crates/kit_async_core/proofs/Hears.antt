@@ -1,7 +1,6 @@
 -- What the steps of a line of the host come to.
-use Rattle.std.proofs.Common.{suc, ◌≡◌, ℕ, ◌+◌, ◌*◌, ◌≤◌, List, [], ◌∷◌, ◌++◌, refl, sym, ap, subst, ◌∙◌, Bool, true, false, not, ◌==◌, cond, Some, None, Option, length, get_or, length-append, append_assoc, arith}
+use Rattle.std.proofs.Common.{suc, ◌≡◌, ℕ, ◌+◌, ◌*◌, ◌≤◌, List, [], ◌∷◌, ◌++◌, refl, sym, ap, subst, ◌∙◌, Bool, true, false, ◌==◌, cond, Some, None, Option, length, get_or, length-append, append_assoc, arith}
 use Rattle.std.specs.Prelude.{◌&&◌, ◌||◌, position, drop, map, fold, set, slice_get, option_map, is_some, IfSome}
-use Rattle.std.specs.List.{list_any}
 use Rattle.annex_model.specs.Messages.{Getconfig, host_reading, remote_line}
 use Rattle.annex_model.specs.Messages.{HostMessage, AskExtensions, Prepare, Initremote, Transfer, Checkpresent, Remove, Listconfigs, Getcost, Getavailability, Getinfo, Whereis, Exportsupported, Export, Transferexport, Checkpresentexport, Removeexport, Renameexport, Value, Creds, HostError}
 use Rattle.kit_core.specs.Kits.{Due, is_prepare, is_readying}
@@ -18,20 +17,15 @@ use Rattle.kit_async_model.specs.Abouts.{told_of, lines_by, lines_or, lines_abou
 use Rattle.kit_async_model.specs.Jobs.{request_of, request_due, due_in, is_making_ready, next_name, is_awaiting, if_prepared, lines_in, job_line, has_number, job_of, with_job, without_job}
 use Rattle.kit_async_model.specs.Hearings.{text_in, hearing_of, value_told}
 use Rattle.kit_async_model.specs.Standings.{Standing, unexpected_line, starts_tags, with_value, due_of_job, due_of, with_request, is_some_due, told_by, said_line, said_in, heard_as, after}
-use Rattle.kit_async_model.specs.Legality.{may_hear, holds_back, is_some_line}
+use Rattle.kit_async_model.specs.Legality.{may_hear, is_some_line}
 use Rattle.kit_async_model.specs.Events.{Stepped, due_said, heard_reply, heard_step, hear_step}
 use Rattle.kit_async_model.specs.Books.{BookValue, AreApart, most_calls, calls_owed, room_owed, Took, IsRequest, IsValue}
 use Rattle.kit_async_model.proofs.Places.{found_none, found_place, read_is, job_last, removal_last, job_there, job_changed, change_there, calls_append, calls_set}
 use Rattle.kit_async_model.proofs.Apart.{asks_new, replies_awaited}
 use Rattle.kit_async_model.proofs.Askings.{never}
 use Rattle.kit_async_model.proofs.FactLines.{not_zero}
-use Rattle.std.proofs.lemmas.Bool.{not-true as not_true, and_parts as both, eqb-true as equal}
-
--- while a line may be heard, the kit isn't over
-live : (setup : Setup) (s : Standing) → may_hear setup s ≡ true → s.over ≡ false
-live setup s m =
-    let a = both (not s.over && not s.closed) (not (list_any (holds_back setup s.tagged) s.jobs)) m in
-    not_true s.over (both (not s.over) (not s.closed) a.0).0
+use Rattle.std.proofs.lemmas.Bool.{and_parts as both, eqb-true as equal}
+use Rattle.kit_async_model.proofs.Across.{live, over_said}
 
 -- ---- any line
 
@@ -87,15 +81,6 @@ aside_took setup old new line d m h j s r =
     heard_took setup old new line old.stands [] Done
     (record { may = m; after_is = heard_of setup old.stands line Aside h; due_is = d }) (ap heard_reply (sym (live setup old.stands m))) j s
     (λ k. let e : room_owed setup new.stands ≡ room_owed setup old.stands = ap (room_owed setup) s in omega (arith, e, k, r))
-
-over_said : (setup : Setup) (u : Standing) (o : Option Job) → u.over ≡ true → said_in setup u o ≡ u
-over_said setup u None h = refl
-over_said setup u (Some job) h = go (is_some_due u.due) u.over h
-  where
-    go : (a b : Bool) → b ≡ true → cond (a || b || is_awaiting setup job) u (record u { told = told_by u.prepared job u.told; jobs = without_job job.number u.jobs }) ≡ u
-    go true b k = refl
-    go false true k = refl
-    go false false k = absurd cc
 
 pub unexpected_took : (setup : Setup) (old new : BookValue) (line : List ℕ) → may_hear setup old.stands ≡ true
     → hearing_of setup old.stands.jobs old.stands.tagged line ≡ Unexpected

@@ -21,9 +21,9 @@ use Rattle.kit_async_model.proofs.Fronts.{parts_from}
 use Rattle.kit_async_model.proofs.Places.{job_last, job_changed}
 use Rattle.kit_async_laws.specs.Belonging.{IsOfOpen, Belongs}
 use Rattle.kit_async_laws.proofs.Numbers.{number_of, none_passes}
-use Rattle.kit_async_laws.proofs.Meant.{live}
 use Rattle.std.proofs.lemmas.Bool.{eqb-true as equal_is, and_parts as both, not-true as not_true}
 use Rattle.ann_key.proofs.Lists.{equal_bytes}
+use Rattle.kit_async_model.proofs.Across.{live}
 
 -- ---- what is due
 

@@ -1,6 +1,6 @@
 -- Each job of a legal journal is as it is meant to be.
-use Rattle.std.proofs.Common.{◌≡◌, inl, inr, ℕ, List, [], ◌∷◌, ◌++◌, refl, sym, ap, subst, ◌∙◌, Bool, true, false, not, Some, None, Option}
-use Rattle.std.specs.Prelude.{◌&&◌, map}
+use Rattle.std.proofs.Common.{◌≡◌, inl, inr, ℕ, List, [], ◌∷◌, ◌++◌, refl, sym, ap, subst, ◌∙◌, Bool, true, false, Some, None, Option}
+use Rattle.std.specs.Prelude.{map}
 use Rattle.std.specs.List.{list_any}
 use Rattle.annex_model.specs.Messages.{HostMessage, host_reading}
 use Rattle.kit_core.specs.Kits.{asked_by, Due, Silence, Line, Asks, is_readying}
@@ -14,7 +14,7 @@ use Rattle.kit_async_model.specs.Abouts.{lines_about}
 use Rattle.kit_async_model.specs.Books.{AreApart}
 use Rattle.kit_async_model.specs.Jobs.{request_due, due_in, if_prepared, next_name, has_number, job_of}
 use Rattle.kit_async_model.specs.Hearings.{text_in, hearing_of}
-use Rattle.kit_async_model.specs.Legality.{holds_back, may_hear, may_come, comes_where, is_said, follows, legal_from, is_legal}
+use Rattle.kit_async_model.specs.Legality.{may_come, comes_where, is_said, follows, legal_from, is_legal}
 use Rattle.kit_async_model.specs.Standings.{Standing, new_job, due_of_job, with_request, heard_as, after, standing}
 use Rattle.kit_async_model.specs.Meanings.{Item, Told, item_of, of_job, asks_for, begins_job, items_until, stays_open, job_items, IsSaid, IsByDue, IsSettledBy, IsMeant}
 use Rattle.kit_async_model.proofs.Apart.{asks_new, after_apart, standing_apart}
@@ -30,15 +30,10 @@ use Rattle.kit_async_laws.proofs.Callings.{call_step}
 use Rattle.kit_async_laws.proofs.Sayings.{say_step}
 use Rattle.kit_async_laws.proofs.Settled.{settled_from}
 use Rattle.kit_async_laws.proofs.Steps.{Steps, none_due}
-use Rattle.std.proofs.lemmas.Bool.{and_parts as both, not-true as not_true}
+use Rattle.std.proofs.lemmas.Bool.{and_parts as both}
+use Rattle.kit_async_model.proofs.Across.{live}
 
 -- ---- any entry
-
--- while a line may be heard, the kit isn't over
-pub live : (setup : Setup) (s : Standing) → may_hear setup s ≡ true → s.over ≡ false
-live setup s m =
-    let a = both (not s.over && not s.closed) (not (list_any (holds_back setup s.tagged) s.jobs)) m in
-    not_true s.over (both (not s.over) (not s.closed) a.0).0
 
 comes_step : (setup : Setup) (s : Standing) (n : ℕ) (request : Option HostMessage) (e : Entry) (p : Phase) → AreApart s.jobs → At setup s n request p → s.due ≡ [] → may_come setup s e ≡ true
     → Steps setup n request p (of_job n (item_of setup s e)) (after setup s e)

@@ -19,6 +19,7 @@ use Rattle.kit_async_laws.proofs.Steps.{Steps, Moves, Closes, of_other}
 use Rattle.ann_key.proofs.Lists.{equal_bytes}
 use Rattle.ann_key.proofs.Numbers.{same_number}
 use Rattle.std.proofs.lemmas.Bool.{eqb-true as equal_is, and_parts as both}
+use Rattle.kit_async_model.proofs.Across.{over_said}
 
 -- ---- the line without its tag
 
@@ -47,17 +48,6 @@ said_none n s m line (inr h) = go (is_open (job_of s.jobs m) && cond s.over fals
     go : (b : Bool) → of_job n (cond b (Some (m, Says (said_text m line))) None) ≡ []
     go true = of_other m n (Says (said_text m line)) h
     go false = refl
-
-middle : (a b : Bool) → (a || true || b) ≡ true
-middle true b = refl
-middle false b = refl
-
-over_said : (setup : Setup) (s : Standing) (o : Option Job) → s.over ≡ true → said_in setup s o ≡ s
-over_said setup s None h = refl
-over_said setup s (Some job) h =
-    let e : (is_some_due s.due || s.over || is_awaiting setup job) ≡ true =
-    ap (λ (b : Bool). is_some_due s.due || b || is_awaiting setup job) h ∙ middle (is_some_due s.due) (is_awaiting setup job) in
-    rw e refl
 
 other_said : (setup : Setup) (s : Standing) (n m : ℕ) (request : Option HostMessage) (p : Phase) → (at : At setup s n request p) → (m == n) ≡ false → (o : Option Job) → job_of s.jobs m ≡ o
     → At setup (said_in setup s o) n request p

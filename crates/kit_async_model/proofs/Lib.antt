@@ -10,3 +10,4 @@ pub mod Places
 pub mod Smalls
 pub mod Stepping
 pub mod Unwritten
+pub mod Across

@@ -12,7 +12,6 @@ use Rattle.hall.specs.Log.{flat, NotBy, Allowed, Legal as LegalLog}
 use Rattle.hall.specs.Passes.{seen_of}
 use Rattle.kit_serve.specs.Turns.{Half, Leaves}
 use Rattle.kit_serve.proofs.Talks.{leaves_as, leaves_both}
-use Rattle.kit_serve.proofs.Texts.{text-append}
 use Rattle.kit_async_model.specs.declared.setup.Setup.{Setup}
 use Rattle.kit_async_model.specs.declared.entry.Entry.{Entry}
 use Rattle.kit_async_model.specs.declared.entry.Entry.TheVariants.{Heard, Take, Call, Say, Wrote, Close, Lack}
@@ -35,6 +34,7 @@ use Rattle.kit_async_roles.specs.Writing.{MouthValue, written_lines, IsNextLine,
 use Rattle.kit_async_roles.proofs.Groups.{before_own, stands_on, stands_still}
 use Rattle.ann_key.proofs.Numbers.{ok_no_err as not_error}
 use Rattle.kit_async_roles.proofs.Readers.{still}
+use Rattle.annex_model.proofs.Across.{text-append}
 
 -- ---- counts
 

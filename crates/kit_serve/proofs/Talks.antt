@@ -17,9 +17,9 @@ use Rattle.kit_serve.specs.declared.end.End.{End}
 use Rattle.kit_serve.specs.declared.end.End.TheVariants.{Eof, Bad, ReadFault, WriteFault, Memory}
 use Rattle.kit_serve.specs.Turns.{ReadsOn, ReadsOnce, Streams, Turned, Half, Leaves}
 use Rattle.kit_serve.specs.Voices.{Spoken, Writes, Falters, Hears, opening_text, Bytes, Passes, Talking, IsWritten, EndsBy, Talked}
-use Rattle.kit_serve.proofs.Texts.{text-append}
 use Rattle.ann_key.proofs.Booleans.{or_true, not_and_so as true_not}
 use Rattle.ann_key.proofs.Lists.{appends_nothing}
+use Rattle.annex_model.proofs.Across.{text-append}
 
 -- ---- what is held
 

@@ -1,15 +1,12 @@
 -- Texts of lines, and how much of one was written.
-use Rattle.std.proofs.Common.{◌≡◌, ℕ, ◌+◌, ◌<◌, ◌≤◌, List, [], ◌∷◌, ◌++◌, length, take, drop, get_or, Option, refl, sym, ap, ◌∙◌, subst, append_assoc}
+use Rattle.std.proofs.Common.{◌≡◌, ℕ, ◌+◌, ◌<◌, ◌≤◌, List, [], ◌∷◌, ◌++◌, length, take, drop, get_or, Option, sym, ap, ◌∙◌, subst, append_assoc}
 use Rattle.std.proofs.Math.Seq.{take-append-add, take-length}
 use Rattle.std.proofs.lemmas.List.{take_all, take_more, take-append-drop}
 use Rattle.std.specs.Io.KnownBytes.{Appends}
 use Rattle.ann_outside.proofs.Telling.{appends_both}
 use Rattle.annex_model.specs.Lines.{text}
 use Rattle.ann_key.proofs.Lists.{front_of_longer}
-
-pub text-append : (xs ys : List (List ℕ)) → text (xs ++ ys) ≡ text xs ++ text ys
-text-append [] ys = refl
-text-append (x ∷ xs) ys = ap (λ (zs : List ℕ). x ++ 10 ∷ zs) (text-append xs ys) ∙ sym (append_assoc x (10 ∷ text xs) (text ys))
+use Rattle.annex_model.proofs.Across.{text-append}
 
 -- A whole text, and then the first bytes of what follows it
 pub prefix_more : (a b c : Option (List ℕ)) (xs ys zs : List ℕ) → Appends a b xs
@@ -20,12 +17,6 @@ prefix_more a b c xs ys zs p q =
       subst (λ (l : List ℕ). Appends a c l)
           (sym (take-append-add xs (ys ++ zs) front.0 ∙ ap (λ (l : List ℕ). xs ++ l) front.1)) (appends_both a b c xs (take q.0 ys) p q.1),
     )
-
--- the first bytes are first bytes of more
-pub prefix_longer : (a c : Option (List ℕ)) (ys zs : List ℕ) → ((n : ℕ) × Appends a c (take n ys)) → (m : ℕ) × Appends a c (take m (ys ++ zs))
-prefix_longer a c ys zs q =
-    let front = front_of_longer q.0 ys zs in
-    (front.0, subst (λ (l : List ℕ). Appends a c l) (sym front.1) q.1)
 
 -- all of it is a prefix of it
 pub prefix_whole : (a c : Option (List ℕ)) (xs : List ℕ) → Appends a c xs → (m : ℕ) × Appends a c (take m xs)

@@ -33,9 +33,6 @@ pub last_at : (o : Option ℕ) (x : ℕ) (xs : List ℕ) → last_or o (x ∷ xs
 last_at o x [] = refl
 last_at o x (y ∷ ys) = last_at (Some x) y ys
 
-some_same : (x y : ℕ) → Some x ≡ Some y → x ≡ y
-some_same x y e = cc
-
 -- the test by the last byte's place
 pub ends_by_last : (bytes : List ℕ) (x : ℕ) → Some x ≡ slice_get bytes (length bytes - 1) → (x == 10) ≡ ends_line bytes
 ends_by_last [] x e = cc

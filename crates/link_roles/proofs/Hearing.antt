@@ -10,7 +10,7 @@ use Rattle.journal_model.specs.declared.opening.Opening.{Opening}
 use Rattle.journal_model.specs.Journal.{got_from, has_spoken, is_started, is_ended, open_jobs}
 use Rattle.journal_model.specs.Legality.{is_empty}
 use Rattle.journal_model.proofs.Looks.{any-append}
-use Rattle.host_core.specs.Steps.{group_of, is_awaited, unless_shut}
+use Rattle.host_core.specs.Steps.{group_of, is_awaited}
 use Rattle.link_roles.specs.declared.events.Listening.{Listening}
 use Rattle.link_roles.specs.declared.events.Listening.TheVariants.{Read as ToRead, Rest as ToRest, Over as IsOver}
 use Rattle.journal_model.specs.Due.{due_by}
@@ -145,9 +145,6 @@ takes_spoken o n a old new c line b t s' =
 abbrev is_read_reply : Reply → Bool
 is_read_reply Read = true
 is_read_reply r = false
-
-shut_reads : (shut : Bool) → unless_shut shut Read ≡ Read
-shut_reads shut = refl
 
 settled_by : (o : Opening) (n c : ℕ) (journal : List Entry) → is_started journal c ≡ true → (r : Reply) → is_read_reply r ≡ false → Says o n journal (Listen c) r
     → (is_ended journal c ≡ true) ⊎ (has_spoken journal c ≡ true)

@@ -5,7 +5,6 @@ use Rattle.std.specs.List.{list_all, list_any}
 use Rattle.std.specs.Option.{option_or}
 use Rattle.std.proofs.lemmas.List.Elements.{filter-append}
 use Rattle.annex_model.specs.declared.final_line.Final.{Final}
-use Rattle.annex_model.specs.declared.final_line.Final.TheVariants.{Done, Failed, Absent, Unknown, Unsupported}
 use Rattle.journal_model.specs.declared.verdict.Why.{Why}
 use Rattle.journal_model.specs.declared.verdict.Verdict.{Verdict}
 use Rattle.journal_model.specs.declared.verdict.Verdict.TheVariants.{Ended}
@@ -202,13 +201,6 @@ ended_unsaid c j k by why (i ∷ jobs) = rw (ended_unsaid c j k by why jobs) (or
 replies_unsaid : (past : List Entry) (c j child k by : ℕ) (lines : List (List ℕ)) → any (says_so c j) (made_by by (replying past child k lines)) ≡ false
 replies_unsaid past c j child k by [] = refl
 replies_unsaid past c j child k by (l ∷ ls) = replies_unsaid past c j child k by ls
-
-by_lines : (f : Final) (at : ℕ) → is_by_line (verdict_at f at) ≡ true
-by_lines Done at = refl
-by_lines Failed at = refl
-by_lines Absent at = refl
-by_lines Unknown at = refl
-by_lines Unsupported at = refl
 
 -- a line that was got, with what it makes due
 module _ (o : Opening) (past : List Entry) (n c j : ℕ) (line : List ℕ) (live : is_ended past c ≡ false) (written : IsWritten c past) (unheard : IsUnheard c j past) where

@@ -30,7 +30,7 @@ use Rattle.lone_rounds.specs.Rounds.{AllLostWell, AllStandNext, EndsClosed, RanA
 use Rattle.lone_rounds.specs.Stints.{AnswersLeft, AreLinked, AreUpTo, Between, IsLinked, IsOver, Kept, MayHaveAsked, OneStart, Spaced, Stint, TasksDone, answered_so, ear_of, main_entry, mouth_of}
 use Rattle.lone_rounds.proofs.Apart.{ended_on, ready_same}
 use Rattle.lone_rounds.proofs.Growing.{apart, between_next, starts_none}
-use Rattle.lone_rounds.proofs.Leaving.{adds_both, adds_none, adds_one, kept_next, kept_still, rose_still, stays_none}
+use Rattle.lone_rounds.proofs.Leaving.{kept_next, kept_still, rose_still, stays_none}
 use Rattle.lone_rounds.proofs.Losing.{lost_both, lost_tasks, loses_task}
 use Rattle.lone_rounds.proofs.Nexts.{is_quiet, next_both, next_quiet}
 use Rattle.lone_rounds.proofs.Runs.{IsOfNoCall, all_runs, done_both, done_join, done_nothing, done_zero}
@@ -41,6 +41,7 @@ use Rattle.lone_rounds.proofs.Unready.{and_true}
 use Rattle.lone_rounds.proofs.Zeros.{again_lost, left_still, rests_one}
 use Rattle.ann_key.proofs.Booleans.{or_neither as neither}
 use Rattle.journal_model.proofs.Working.{count-append, count_none}
+use Rattle.child_end.proofs.Across.{adds_both, adds_none, adds_one}
 
 -- ---- the begin
 

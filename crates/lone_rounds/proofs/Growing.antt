@@ -25,10 +25,11 @@ use Rattle.lone_rounds.proofs.Losing.{lost_both}
 use Rattle.lone_rounds.proofs.Nexts.{next_both, next_first}
 use Rattle.lone_rounds.proofs.Runs.{done_both, done_same}
 use Rattle.lone_rounds.proofs.Spending.{last_spent, spent_both}
-use Rattle.lone_rounds.proofs.Tests.{any_none, any_same, children_up_to, neither_nor, no_children, none_came, offers_both, offers_none, up_to_both, up_to_more}
+use Rattle.lone_rounds.proofs.Tests.{any_same, children_up_to, neither_nor, no_children, none_came, offers_both, offers_none, up_to_both, up_to_more}
 use Rattle.std.proofs.lemmas.Bool.{ne_eqb as differ}
 use Rattle.ann_key.proofs.Booleans.{or_neither as neither, and_assoc as and_behind}
 use Rattle.journal_model.proofs.Working.{count-append, count_none}
+use Rattle.journal_model.proofs.Across.{none_so as any_none}
 
 -- ---- the start itself
 

@@ -1,5 +1,5 @@
 -- The wires and the programs of a run, as its journal grows.
-use Rattle.std.proofs.Common.{◌≡◌, ◌⊎◌, ℕ, suc, ◌+◌, ◌≤◌, List, [], ◌∷◌, ◌++◌, refl, sym, ap, subst, ◌∙◌, append_assoc, append-nil, length, length-append, Bool, true, false, Some, None, Option, arith, inl, inr}
+use Rattle.std.proofs.Common.{◌≡◌, ◌⊎◌, ℕ, suc, ◌+◌, ◌≤◌, List, [], ◌∷◌, ◌++◌, refl, sym, ap, subst, ◌∙◌, append-nil, length, length-append, Bool, true, false, Some, None, Option, arith, inl, inr}
 use Rattle.std.specs.Prelude.{◌-◌, ◌^◌, min}
 use Rattle.std.specs.List.{cons_option}
 use Rattle.ann_outside.specs.Starts.{Starts, IsNumbered}
@@ -21,6 +21,7 @@ use Rattle.lone_rounds.specs.Starting.{is_any_start}
 use Rattle.lone_rounds.specs.Stints.{AreLinked, AreUpTo, IsLinked, Kept, StartsOne, ear_of, main_entry, mouth_of}
 use Rattle.lone_rounds.proofs.Tests.{each_without, none_came}
 use Rattle.journal_model.proofs.Working.{count-append, count_none}
+use Rattle.child_end.proofs.Across.{adds_one, adds_both}
 
 -- ---- counts of faults
 
@@ -40,29 +41,11 @@ adds_stays (Some xs) None new x a s = absurd a
 adds_stays (Some xs) (Some ys) None x a s = absurd s
 adds_stays (Some xs) (Some ys) (Some zs) x a s = s ∙ a
 
-pub adds_one : (old new : Option Starts) (x : List ℕ × Bool) → AddsOne old new x → AddsAll old new (x ∷ [])
-adds_one None None x a = tt
-adds_one None (Some ys) x a = absurd a
-adds_one (Some xs) None x a = absurd a
-adds_one (Some xs) (Some ys) x a = a
-
 pub stays_none : (old new : Option Starts) → Stays old new → AddsAll old new []
 stays_none None None s = tt
 stays_none None (Some ys) s = absurd s
 stays_none (Some xs) None s = absurd s
 stays_none (Some xs) (Some ys) s = s ∙ sym (append-nil xs)
-
-pub adds_none : (t : Option Starts) → AddsAll t t []
-adds_none None = tt
-adds_none (Some xs) = sym (append-nil xs)
-
-pub adds_both : (a b c : Option Starts) (xs ys : Starts) → AddsAll a b xs → AddsAll b c ys → AddsAll a c (xs ++ ys)
-adds_both None None None xs ys h k = tt
-adds_both None None (Some zs) xs ys h k = absurd k
-adds_both None (Some bs) c xs ys h k = absurd h
-adds_both (Some us) None c xs ys h k = absurd h
-adds_both (Some us) (Some vs) None xs ys h k = absurd k
-adds_both (Some us) (Some vs) (Some ws) xs ys h k = k ∙ ap (λ (l : Starts). l ++ ys) h ∙ append_assoc us xs ys
 
 -- the program is named otherwise
 pub may_ask : {p q : List ℕ} (before after : ProgramsValue) → p ≡ q → Stays before.starts after.starts ⊎ ((b : Bool) × AddsOne before.starts after.starts (p, b)) → Stays before.starts after.starts ⊎ ((b : Bool) × AddsOne before.starts after.starts (q, b))

@@ -37,11 +37,12 @@ use Rattle.lone_rounds.proofs.Losing.{loses_task}
 use Rattle.lone_rounds.proofs.Nexts.{next_both, next_quiet, next_where}
 use Rattle.lone_rounds.proofs.Runs.{done_same, worker_runs}
 use Rattle.lone_rounds.proofs.Stinting.{Closing, Part, closing, closing_claims, closing_ends, closing_part, closing_rests, closing_loses, greeting_claims_none, greeting_closes_none, greeting_part, greeting_takes_none, quiet_greeting, served_lost, worker_loses, of_closing, part_both, worker_part}
-use Rattle.lone_rounds.proofs.Tests.{any_none, claimed_same}
+use Rattle.lone_rounds.proofs.Tests.{claimed_same}
 use Rattle.lone_rounds.proofs.Turns.{ready_untaken}
 use Rattle.journal_model.proofs.Replying.{accepted}
 use Rattle.std.proofs.lemmas.Bool.{and_parts as both}
 use Rattle.ann_key.proofs.Booleans.{or_left, or_right, or_false}
+use Rattle.journal_model.proofs.Across.{none_so as any_none}
 
 -- ---- a ready child stays so, and tagged or not
 

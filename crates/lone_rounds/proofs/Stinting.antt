@@ -10,7 +10,7 @@ use Rattle.journal_model.specs.declared.opening.Opening.{Opening}
 use Rattle.journal_model.specs.Journal.{any, each_of, is_ended, is_started, open_jobs, starts}
 use Rattle.journal_model.specs.Legality.{Legal, claimed_for, is_busy, is_busy_with, is_held_for, holder, may_stop}
 use Rattle.journal_model.specs.Makers.{is_of_task}
-use Rattle.journal_model.specs.Shares.{are_by, by_link, is_closed}
+use Rattle.journal_model.specs.Shares.{are_by, is_closed}
 use Rattle.journal_model.specs.declared.holder.Holder.{Holder}
 use Rattle.journal_model.proofs.Holding.{claimed, closed, holder_append, unturned}
 use Rattle.journal_model.proofs.Looks.{any-append}
@@ -34,11 +34,12 @@ use Rattle.lone_rounds.specs.Stints.{AnswersOne, in_stint, main_entry}
 use Rattle.lone_rounds.proofs.Later.{all_work, greeting_asks, late}
 use Rattle.lone_rounds.proofs.Losing.{greeted_next, lost_both, lost_greeting, lost_tasks, loses_task}
 use Rattle.lone_rounds.proofs.Nexts.{is_quiet}
-use Rattle.lone_rounds.proofs.Tests.{each_none, any_none, claimed_same, turns_none}
+use Rattle.lone_rounds.proofs.Tests.{each_none, claimed_same, turns_none}
 use Rattle.lone_rounds.proofs.Zeros.{rests_one}
 use Rattle.std.proofs.lemmas.Bool.{and_parts as both}
 use Rattle.ann_key.proofs.Numbers.{same_number as same}
 use Rattle.ann_key.proofs.Booleans.{or_left, or_right}
+use Rattle.journal_model.proofs.Across.{all_in}
 
 -- ---- a part
 
@@ -54,22 +55,7 @@ part_both c xs ys h k = record {
   asks = all-join (λ (e : Entry). is_of_run e.what) xs ys h.asks k.asks;
 }
 
-pub all_in : (p q : What → Bool) → ((w : What) → p w ≡ true → q w ≡ true) → (xs : List Entry) → list_all (λ (e : Entry). p e.what) xs ≡ true → list_all (λ (e : Entry). q e.what) xs ≡ true
-all_in p q f [] h = refl
-all_in p q f (e ∷ xs) h =
-    let t = both (p e.what) (list_all (λ (x : Entry). p x.what) xs) h in
-    rw (f e.what t.0, all_in p q f xs t.1) refl
-
 -- ---- the greeting
-
-link_in : (c : ℕ) (w : What) → by_link c w ≡ true → in_stint c w ≡ true
-link_in c (Put child job line) h = h
-link_in c (Sent child) h = h
-link_in c (Mute child) h = h
-link_in c (Got child line) h = h
-link_in c (End child why) h = (both (child == c) (not (is_closed why)) h).0
-link_in c (Settled child job verdict) h = h
-link_in c w h = absurd cc
 
 greeting_in : (c : ℕ) (w : What) → is_of_greeting c w ≡ true → in_stint c w ≡ true
 greeting_in c (Ask child job task line) h = (both (child == c) (task == 0 && is_greeting_line job line) h).0

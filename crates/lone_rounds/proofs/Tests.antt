@@ -45,12 +45,6 @@ each_without f p quiet [] h = refl
 each_without f p quiet (e ∷ xs) h =
     rw (quiet e.what (either_left (p e.what) (any p xs) h), each_without f p quiet xs (either_right (p e.what) (any p xs) h)) refl
 
-pub any_none : (p q : What → Bool) → ((w : What) → p w ≡ true → q w ≡ false) → (xs : List Entry) → list_all (λ (e : Entry). p e.what) xs ≡ true → any q xs ≡ false
-any_none p q apart [] h = refl
-any_none p q apart (e ∷ xs) h =
-    let t = both (p e.what) (list_all (λ (x : Entry). p x.what) xs) h in
-    rw (apart e.what t.0, any_none p q apart xs t.1) refl
-
 -- ---- offers of ASYNC
 
 pub offers_both : (may : Bool) (past xs ys : List Entry) → AllOffer may past xs → AllOffer may (past ++ xs) ys → AllOffer may past (xs ++ ys)

@@ -28,7 +28,7 @@ use Rattle.std.proofs.lemmas.Bool.{not-true as not_true, and_parts as both, ne_e
 use Rattle.ann_key.proofs.Numbers.{same_number as same}
 use Rattle.ann_key.proofs.Booleans.{or_left, or_true}
 use Rattle.ann_key.proofs.Lists.{found_so as find_holds}
-use Rattle.gathering.proofs.Laboring.{prepared_lasts as prepared_on}
+use Rattle.task_run.proofs.Across.{prepared_on}
 
 -- ---- tasks that are free
 

@@ -9,3 +9,4 @@ pub mod Serving
 pub mod KeyNotes
 pub mod Knowing
 pub mod Sizes
+pub mod Across

@@ -13,16 +13,16 @@ use Rattle.journal_model.specs.declared.entry.What.{What}
 use Rattle.journal_model.specs.declared.entry.What.TheVariants.{Lead, Ask, Put, Sent, Mute, Got, End, Verdict as Settled, Lost, Note}
 use Rattle.journal_model.specs.declared.entry.Entry.{Entry}
 use Rattle.journal_model.specs.declared.opening.Opening.{Opening}
-use Rattle.journal_model.specs.Journal.{any, addressed, each_of, is_open, is_settled, is_started, verdict_of, why_of}
+use Rattle.journal_model.specs.Journal.{any, addressed, each_of, is_open, is_started, verdict_of, why_of}
 use Rattle.journal_model.specs.Due.{made_by}
 use Rattle.journal_model.specs.Legality.{Legal, has_open_job, is_claimed_by, is_held_by, holder, is_in_turn, job_for, may_ask, may_note, task_of}
 use Rattle.journal_model.specs.Makers.{is_of_task, is_taken_by}
 use Rattle.journal_model.specs.Shares.{are_own, makes_only, by_link}
 use Rattle.journal_model.proofs.Holding.{holder_append}
 use Rattle.journal_model.proofs.Idling.{claimed_positive}
-use Rattle.journal_model.proofs.Looks.{entry, each_of-append, settled_none}
+use Rattle.journal_model.proofs.Looks.{entry, each_of-append}
 use Rattle.journal_model.proofs.Named.{same_addressed}
-use Rattle.journal_model.proofs.Testing.{by_either, all-split, only_others as others_make}
+use Rattle.journal_model.proofs.Testing.{all-split, only_others as others_make}
 use Rattle.journal_model.proofs.Working.{all_asked, closed_all, held_alone, holder_apart, jobs_stay_closed, no_jobs_in, settled_closed}
 use Rattle.journal_model.proofs.Unbounded.{held_positive, none_by}
 use Rattle.host_core.proofs.Wiring.{wired_text}
@@ -44,6 +44,8 @@ use Rattle.lone_work.specs.Noting.{is_done, by_noting}
 use Rattle.lone_work.proofs.Noted.{notes_for, notings-unnoted, notings-note}
 use Rattle.ann_key.proofs.Numbers.{same_number as same}
 use Rattle.ann_key.proofs.Booleans.{and_last as and_right, or_neither as neither}
+use Rattle.host_core.proofs.Across.{verdict_settles}
+use Rattle.task_run.proofs.Across.{said_kept as said_before}
 
 -- ---- entries of a task
 
@@ -78,20 +80,9 @@ lost_gone : (why : Option Why) → is_gone (lost_as why) ≡ true
 lost_gone None = refl
 lost_gone (Some why) = refl
 
--- before a request that is asked its name is said, and before none nothing
-said_before : (name : Option (List ℕ)) (q : HostMessage) → said_with name (Some q) ≡ name
-said_before None q = refl
-said_before (Some name) q = refl
-
 unsaid : (name : Option (List ℕ)) → said_with name None ≡ None
 unsaid None = refl
 unsaid (Some name) = refl
-
-pub verdict_settles : (past : List Entry) (c j : ℕ) (v : Verdict) → verdict_of past c j ≡ Some v → is_settled past c j ≡ true
-verdict_settles past c j v h = by_either (is_settled past c j) (λ x. x) (λ f. absurd (none_some (sym (settled_none past c j f) ∙ h)))
-  where
-    none_some : None ≡ Some v → ⊥
-    none_some e = cc
 
 -- ---- how a task stands in a longer journal
 

@@ -38,7 +38,7 @@ use Rattle.gathering.proofs.Lasting.{run_shut}
 use Rattle.lone_work.specs.Works.{LoneBegun, CanWork, DeskTells, LoneDoes, RanFor}
 use Rattle.std.proofs.lemmas.Bool.{and_parts as both}
 use Rattle.ann_key.proofs.Booleans.{or_left}
-use Rattle.gathering.proofs.Laboring.{prepared_lasts as prepared_on}
+use Rattle.task_run.proofs.Across.{prepared_on}
 
 -- ---- entries of a task
 

@@ -1,5 +1,5 @@
 -- What asking and noting leave to a number that serves a task.
-use Rattle.std.proofs.Common.{◌≡◌, ℕ, ◌<◌, ◌≤◌, List, [], ◌∷◌, ◌++◌, length, append-nil, refl, sym, ap, subst, ◌∙◌, Bool, true, false, not, ◌==◌, cond, Some, None, Option, inl, inr, arith}
+use Rattle.std.proofs.Common.{◌≡◌, ℕ, ◌<◌, ◌≤◌, List, [], ◌∷◌, ◌++◌, length, append-nil, refl, sym, ap, subst, ◌∙◌, Bool, true, false, not, ◌==◌, Some, None, Option, inl, inr, arith}
 use Rattle.std.specs.Prelude.{◌&&◌, ◌||◌, nat_lt, filter, Result, Ok, Err}
 use Rattle.ann_key.specs.declared.bytes.NoMemory.{NoMemory}
 use Rattle.std.specs.List.{cons_option, list_all}
@@ -14,14 +14,14 @@ use Rattle.journal_model.specs.declared.entry.What.{What}
 use Rattle.journal_model.specs.declared.entry.What.TheVariants.{Claim, Ask, Put, Sent, Mute, Got, End, Verdict as Settled, Lost, Note, Answer as Answered, Again}
 use Rattle.journal_model.specs.declared.entry.Entry.{Entry}
 use Rattle.journal_model.specs.declared.opening.Opening.{Opening}
-use Rattle.journal_model.specs.Journal.{any, asks, asked_jobs, each_of, is_settled, is_tagged, open_jobs, settles, verdict_of}
+use Rattle.journal_model.specs.Journal.{any, asks, asked_jobs, each_of, is_settled, is_tagged, open_jobs, verdict_of}
 use Rattle.journal_model.specs.Legality.{Legal, claims, closes, has_open_job, holder, is_busy_with, is_claimed_by, is_done, is_empty, is_greeted, is_held_for, is_in_turn, is_prepared, may_ask, may_work, prepares, suits_child}
 use Rattle.journal_model.specs.Shares.{Moved, are_by, are_own, is_of_child, makes_only, by_link}
 use Rattle.journal_model.specs.Halves.{EarValue, MouthValue}
 use Rattle.link_roles.specs.Writings.{LoneWired}
 use Rattle.journal_model.proofs.Holding.{claimed, closed, holder_append, unturned}
 use Rattle.journal_model.proofs.Unbounded.{Within}
-use Rattle.journal_model.proofs.Looks.{any-append, each_of-append, is_asked}
+use Rattle.journal_model.proofs.Looks.{each_of-append, is_asked}
 use Rattle.journal_model.proofs.Projecting.{invariant}
 use Rattle.journal_model.proofs.Verdicts.{unasked_none}
 use Rattle.host_core.specs.Steps.{asking, is_named_well, may_request, next_job}
@@ -35,11 +35,12 @@ use Rattle.link_roles.proofs.Roles.{moved_both, moved_by, moved_wider, none_made
 use Rattle.lone_work.specs.AtTasks.{AtTask, AskedFor, NotedFor}
 use Rattle.lone_work.specs.Noting.{by_noting}
 use Rattle.lone_work.specs.Servings.{HasTurn, Serves, ServesOn, by_server, is_said_in_text, names_text}
-use Rattle.lone_work.proofs.Pairs.{verdict_settles as verdict_settled}
-use Rattle.gathering.proofs.Laboring.{prepared_lasts as prepared_on}
 use Rattle.link_roles.proofs.Solo.{still_alone as none_passed, link_asks_none as link_asks}
 use Rattle.std.proofs.lemmas.Bool.{and_parts as both, ne_eqb as differ}
 use Rattle.ann_key.proofs.Numbers.{same_number as same}
+use Rattle.host_core.proofs.Across.{settled_on, verdict_settles as verdict_settled}
+use Rattle.journal_model.proofs.Across.{none_left}
+use Rattle.task_run.proofs.Across.{prepared_on}
 
 -- ---- the kinds
 
@@ -128,20 +129,6 @@ module _ {n : ℕ} {a : Bool} {old new : List Entry} where
 -- who holds the task stays, where it is neither claimed nor closed
 pub held_on : (past more : List Entry) (t : ℕ) → each_of claimed more ≡ [] → each_of closed more ≡ [] → holder (past ++ more) t ≡ holder past t
 held_on past more t c a = holder_append past more t ∙ unturned t (holder past t) more c a
-
-settled_on : (old more : List Entry) (c k : ℕ) → is_settled old c k ≡ true → is_settled (old ++ more) c k ≡ true
-settled_on old more c k h = any-append (settles c k) old more ∙ ap (λ (b : Bool). b || is_settled more c k) h
-
-none_left : (old new : List Entry) (c : ℕ) (ks : List ℕ) → ((k : ℕ) → is_settled old c k ≡ true → is_settled new c k ≡ true)
-    → filter (λ k. not (is_settled old c k)) ks ≡ [] → filter (λ k. not (is_settled new c k)) ks ≡ []
-none_left old new c [] keep h = refl
-none_left old new c (k ∷ ks) keep h = go (is_settled old c k) refl h (none_left old new c ks keep)
-  where
-    go : (b : Bool) → is_settled old c k ≡ b → cond (not b) (k ∷ filter (λ k. not (is_settled old c k)) ks) (filter (λ k. not (is_settled old c k)) ks) ≡ []
-        → (filter (λ k. not (is_settled old c k)) ks ≡ [] → filter (λ k. not (is_settled new c k)) ks ≡ [])
-        → filter (λ k. not (is_settled new c k)) (k ∷ ks) ≡ []
-    go true e h r = rw (keep k e) (r h)
-    go false e h r = absurd cc
 
 -- a child without an open job has none after entries that ask it nothing
 pub idle_on : (old more : List Entry) (c : ℕ) → asked_jobs more c ≡ [] → open_jobs old c ≡ [] → open_jobs (old ++ more) c ≡ []

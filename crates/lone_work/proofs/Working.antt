@@ -7,13 +7,13 @@ use Rattle.ann_outside.specs.DeskCauses.{Counts}
 use Rattle.ann_outside.specs.declared.file_desk.Call.{Call}
 use Rattle.journal_model.specs.declared.answer.Answer.{Answer}
 use Rattle.journal_model.specs.declared.entry.What.{What}
-use Rattle.journal_model.specs.declared.entry.What.TheVariants.{Claim, Lead, Ask, Lost, Note, Answer as Answered, Again}
+use Rattle.journal_model.specs.declared.entry.What.TheVariants.{Claim, Ask, Lost, Note, Answer as Answered, Again}
 use Rattle.journal_model.specs.declared.entry.Entry.{Entry}
 use Rattle.journal_model.specs.declared.opening.Opening.{Opening}
 use Rattle.journal_model.specs.Legality.{Legal, claims, turn_of_task}
 use Rattle.journal_model.specs.Makers.{is_taken_by}
 use Rattle.journal_model.specs.Room.{claims_left}
-use Rattle.journal_model.specs.Shares.{are_by, by_link, makes_only}
+use Rattle.journal_model.specs.Shares.{are_by, makes_only}
 use Rattle.journal_model.proofs.ClaimsLeft.{claims_left_less}
 use Rattle.journal_model.proofs.Looks.{entry}
 use Rattle.journal_model.proofs.Testing.{all-join}
@@ -131,16 +131,6 @@ module _ (o : Opening) (setup : Setup) (n c : ℕ) where
   }
 
 -- ---- one task
-
-link_works : (c : ℕ) (w : What) → by_link c w ≡ true → by_worker c w ≡ true
-link_works c (Claim task child) h = absurd cc
-link_works c (Lead child job line) h = absurd cc
-link_works c (Ask child job task line) h = absurd cc
-link_works c (Lost child task) h = absurd cc
-link_works c (Note task chunk count) h = absurd cc
-link_works c (Answered task answer) h = absurd cc
-link_works c (Again task answer) h = absurd cc
-link_works c w h = h
 
 -- who serves a task that is one works
 server_works : (c t : ℕ) → (t == 0) ≡ false → (w : What) → by_server c t w ≡ true → by_worker c w ≡ true

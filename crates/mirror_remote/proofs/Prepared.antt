@@ -13,9 +13,10 @@ use Rattle.mirror_starts.specs.declared.starting.Standing.{Standing}
 use Rattle.mirror_starts.specs.declared.starting.Standing.TheVariants.{Ready, Unready, NoMemory as Lacking}
 use Rattle.mirror_starts.specs.Readiness.{IsUnreadyAs, IsUnstartedAs, starts_of}
 use Rattle.mirror_starts.specs.Outcomes.{AreAllReady, Empties, IsCutShort, IsStuck, MirrorValue, StartsAs}
-use Rattle.mirror_starts.proofs.Begun.{rose_later, stays_adds, stays_both}
+use Rattle.mirror_starts.proofs.Begun.{rose_later, stays_adds}
 use Rattle.mirror_starts.proofs.Preparing.{cut_none, nothing_done, stuck_cut}
 use Rattle.mirror_remote.specs.Mirrors.{Begins, BeginsTo, Prepares, PreparesTo, Says}
+use Rattle.ann_outside.proofs.Across.{stays_both}
 
 -- ---- what is said of it
 

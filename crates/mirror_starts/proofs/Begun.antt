@@ -9,9 +9,7 @@ use Rattle.journal_model.specs.declared.verdict.Why.TheVariants.{Memory}
 use Rattle.journal_model.specs.declared.verdict.Verdict.{Verdict}
 use Rattle.journal_model.specs.declared.entry.What.TheVariants.{NoStart}
 use Rattle.journal_model.specs.declared.entry.Entry.{Entry}
-use Rattle.journal_model.specs.declared.opening.Opening.{Opening}
 use Rattle.journal_model.specs.Halves.{EarValue, MouthValue}
-use Rattle.journal_model.specs.Legality.{Legal}
 use Rattle.journal_model.specs.Shares.{is_memory}
 use Rattle.host_core.specs.CoreValue.{CoreValue}
 use Rattle.link_roles.specs.Writings.{LoneWired}
@@ -28,34 +26,10 @@ use Rattle.mirror_starts.specs.Stops.{log_of, LogValue, StoppedValue, AreClosed,
 use Rattle.mirror_starts.specs.Readiness.{AreAskedFor, AreLeftAs, AreReadyAs, AreStoppedAs, IsLeftAs, IsReadyAs, IsStoppedAs, IsUnready, starts_of}
 use Rattle.mirror_starts.specs.Beginnings.{stand_of_end, AreGreetedAs, BeginsAs, HasNotStarted, IsGreetedAs, StandsAs, StoodAs}
 use Rattle.mirror_starts.proofs.Greeting.{first_child, greeted_first, linked_greeted, serving_ready, unwired}
+use Rattle.child_end.proofs.Across.{adds_one, adds_both}
+use Rattle.journal_model.proofs.Across.{nothing_legal}
 
 -- ---- the programs' starts
-
-pub adds_one : (a b : Option Starts) (x : List ℕ × Bool) → AddsOne a b x → AddsAll a b (x ∷ [])
-adds_one None None x h = tt
-adds_one None (Some ys) x h = absurd h
-adds_one (Some xs) None x h = absurd h
-adds_one (Some xs) (Some ys) x h = h
-
-pub adds_none : (a : Option Starts) → AddsAll a a []
-adds_none None = tt
-adds_none (Some xs) = sym (append-nil xs)
-
-pub adds_both : (a b c : Option Starts) (xs ys : Starts) → AddsAll a b xs → AddsAll b c ys → AddsAll a c (xs ++ ys)
-adds_both None None None xs ys h k = tt
-adds_both None None (Some ws) xs ys h k = absurd k
-adds_both None (Some vs) c xs ys h k = absurd h
-adds_both (Some us) None c xs ys h k = absurd h
-adds_both (Some us) (Some vs) None xs ys h k = absurd k
-adds_both (Some us) (Some vs) (Some ws) xs ys h k = k ∙ ap (λ (l : Starts). l ++ ys) h ∙ append_assoc us xs ys
-
-pub adds_stays : (a b c : Option Starts) (xs : Starts) → AddsAll a b xs → Stays b c → AddsAll a c xs
-adds_stays None None None xs h k = tt
-adds_stays None None (Some ws) xs h k = absurd k
-adds_stays None (Some vs) c xs h k = absurd h
-adds_stays (Some us) None c xs h k = absurd h
-adds_stays (Some us) (Some vs) None xs h k = absurd k
-adds_stays (Some us) (Some vs) (Some ws) xs h k = k ∙ h
 
 pub stays_adds : (a b c : Option Starts) (xs : Starts) → Stays a b → AddsAll b c xs → AddsAll a c xs
 stays_adds None None None xs h k = tt
@@ -64,14 +38,6 @@ stays_adds None (Some vs) c xs h k = absurd h
 stays_adds (Some us) None c xs h k = absurd h
 stays_adds (Some us) (Some vs) None xs h k = absurd k
 stays_adds (Some us) (Some vs) (Some ws) xs h k = k ∙ ap (λ (l : Starts). l ++ xs) h
-
-pub stays_both : (a b c : Option Starts) → Stays a b → Stays b c → Stays a c
-stays_both None None None h k = tt
-stays_both None None (Some ws) h k = absurd k
-stays_both None (Some vs) c h k = absurd h
-stays_both (Some us) None c h k = absurd h
-stays_both (Some us) (Some vs) None h k = absurd k
-stays_both (Some us) (Some vs) (Some ws) h k = k ∙ h
 
 -- one more start, of the next plan's program
 pub starts_next : (a b c : Option Starts) (ps : List Plan) (p : Plan) → AddsAll a b (starts_of ps) → AddsOne b c (p.program, true) → AddsAll a c (starts_of (ps ++ p ∷ []))
@@ -82,9 +48,6 @@ pub rose_later : (a b c : ℕ) → a ≤ b → Rose b c → Rose a c
 rose_later a b c h k = omega (arith, h, k)
 
 -- ---- one child
-
-nothing_legal : (o : Opening) (journal : List Entry) → journal ≡ [] → Legal o journal
-nothing_legal o journal e = subst (Legal o) (sym e) (record { stands = tt; nothing_due = refl })
 
 module _ (p : Plan) (old new : CoreValue) (ear : EarValue) (mouth : MouthValue) (empty : old.journal ≡ []) (opens : old.opening ≡ mirror_opening p.registers) (keeps : IsSameCore old new) (greeted : Greeted old.journal new.journal 0 false ear.child) where
   pub greeted_as : LoneWired new.journal ear mouth → mouth.child ≡ ear.child → IsGreetedAs p (child_value p.number new ear mouth)

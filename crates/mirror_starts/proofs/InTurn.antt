@@ -11,7 +11,8 @@ use Rattle.mirror_starts.specs.declared.beginning.Cause.{Cause}
 use Rattle.mirror_starts.specs.declared.beginning.Cause.TheVariants.{Unready, Unstarted, NoMemory}
 use Rattle.mirror_starts.specs.Readiness.{IsReadyAs, IsUnready, starts_of}
 use Rattle.mirror_starts.specs.Beginnings.{AreGreetedAs, BeginsAllAs, BeginsAs, BegunAll, BegunSome, BegunTo, BegunUpTo, HasNotStarted, Joins, MayHaveStarted, Stands}
-use Rattle.mirror_starts.proofs.Begun.{adds_both, adds_none, adds_one, adds_stays, greeted_next, plan_at_place, ready_next, rose_later, serving_next, starts_next, take_next}
+use Rattle.mirror_starts.proofs.Begun.{greeted_next, plan_at_place, ready_next, rose_later, serving_next, starts_next, take_next}
+use Rattle.child_end.proofs.Across.{adds_both, adds_none, adds_one, adds_stay as adds_stays}
 
 -- no plan, and no child
 pub none_begun : (before : ProgramsValue) (cs : List ChildValue) → cs ≡ [] → BegunAll [] before before cs

@@ -10,7 +10,9 @@ use Rattle.mirror_starts.specs.Stops.{log_of, LogValue, StoppedValue, StopsAll}
 use Rattle.mirror_starts.specs.Readiness.{AreAskedFor, AreLeftAs, IsUnreadyAs, IsUnstartedAs, starts_of}
 use Rattle.mirror_starts.specs.Beginnings.{BegunSome, BegunTo, BegunUpTo}
 use Rattle.mirror_starts.specs.Outcomes.{Empties, IsCutShort, IsStuck, MirrorValue}
-use Rattle.mirror_starts.proofs.Begun.{adds_stays, asked_for, asked_more, asked_next, left_next, left_stopped, stopped_as, stopped_one, stops_split}
+use Rattle.mirror_starts.proofs.Begun.{asked_for, asked_more, asked_next, left_next, left_stopped, stopped_as, stopped_one, stops_split}
+use Rattle.ann_outside.proofs.Across.{rose_on}
+use Rattle.child_end.proofs.Across.{adds_stay as adds_stays}
 
 -- these plans' programs were started, and maybe one more
 abbrev HaveAsked : Option Starts → Option Starts → List Plan → Type 0
@@ -66,9 +68,6 @@ module _ (plans : List Plan) (old new : MirrorValue) (mid : ProgramsValue) (cs :
         asked = asked old.programs.starts mid.starts b.front b.starts;
         starts = adds_stays old.programs.starts mid.starts new.programs.starts (told old.programs.starts mid.starts b.front b.starts) (adds old.programs.starts mid.starts b.front b.starts) stays;
       }
-
-rose_on : (a b c : ℕ) → Rose a b → b ≤ c → Rose a c
-rose_on a b c h k = omega (arith, h, k)
 
 stays_refl : {A : Type 0} (a : Option A) → Stays a a
 stays_refl None = tt

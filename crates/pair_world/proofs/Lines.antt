@@ -5,7 +5,7 @@ use Rattle.std.proofs.lemmas.List.{take_all, take_more}
 use Rattle.annex_model.specs.Lines.{has_newline, text}
 use Rattle.wire_line.specs.HeldBytes.{first_line, after_line}
 use Rattle.wire_line.proofs.Firsts.{end_of, split_line}
-use Rattle.journal_model.proofs.Linking.{text-append}
+use Rattle.annex_model.proofs.Across.{text-append}
 
 -- where the first line ends within the bytes, there is a line end
 pub has_of : (bytes : List ℕ) → end_of bytes < length bytes → has_newline bytes ≡ true

@@ -1,10 +1,9 @@
 -- Each move leaves the world linked.
 use Rattle.std.proofs.Common.{ℕ, ◌≡◌, ◌+◌, ◌-◌, ◌<◌, ◌≤◌, ◌^◌, zero, suc, Bool, true, false, not, cond, List, [], ◌∷◌, ◌++◌, length, take, drop, get_or, Option, Some, None, refl, sym, ap, subst, ◌∙◌, arith, append_assoc, append-nil, length-append}
-use Rattle.std.specs.Prelude.{◌||◌, ◌&&◌, ◌==◌, nat_le, map, filter, codes, is_some}
+use Rattle.std.specs.Prelude.{◌||◌, ◌&&◌, ◌==◌, nat_le, map, codes, is_some}
 use Rattle.std.proofs.Math.Seq.{get_or-append_seam}
 use Rattle.std.proofs.lemmas.Bool.Decides.{nat_tests}
 use Rattle.std.proofs.lemmas.List.{map-append, take-append-drop, length-set, get_or_append_left, get_or-set_same, get_or-set_other, get_or_past}
-use Rattle.std.proofs.lemmas.List.Elements.{filter-append}
 use Rattle.std.proofs.lemmas.List.Folds.{list_all-append}
 use Rattle.annex_model.specs.Lines.{text, has_newline}
 use Rattle.annex_model.specs.Messages.{HostMessage, host_reading}
@@ -19,7 +18,7 @@ use Rattle.journal_model.specs.Journal.{starts, is_started, is_ended, is_full, g
 use Rattle.journal_model.specs.Legality.{Legal, count, is_start, is_empty}
 use Rattle.journal_model.specs.Wires.{sent_lines}
 use Rattle.journal_model.proofs.Looks.{any-append}
-use Rattle.journal_model.proofs.Linking.{sent_count, got_more, text-append}
+use Rattle.journal_model.proofs.Linking.{sent_count, got_more}
 use Rattle.journal_model.proofs.Mouths.{lines_same, covered_more}
 use Rattle.journal_model.proofs.Fresh.{fresh}
 use Rattle.kit_core.specs.declared.call.Asked.{Asked}
@@ -47,6 +46,9 @@ use Rattle.pair_world.proofs.Taking.{heard_more}
 use Rattle.ann_key.proofs.Booleans.{or_false, left_false as first_false, right_false as second_false}
 use Rattle.wire_line.proofs.Firsts.{no_newline_before as first_whole}
 use Rattle.ann_key.proofs.Numbers.{same_number as same}
+use Rattle.journal_look.proofs.Across.{text_line}
+use Rattle.journal_model.proofs.Across.{count-append}
+use Rattle.annex_model.proofs.Across.{text-append}
 
 -- ---- children by their numbers
 
@@ -80,11 +82,6 @@ set_other pairs c d p low there apart =
 
 is_child_set : (pairs : List PairValue) (c d : ℕ) (p : PairValue) → is_child (with_pair pairs c p) d ≡ is_child pairs d
 is_child_set pairs c d p = ap (λ (n : ℕ). not (d == 0) && nat_le d n) (length-set pairs (c - 1) p)
-
-count-append : (xs ys : List Entry) → count is_start (xs ++ ys) ≡ count is_start xs + count is_start ys
-count-append xs ys =
-    ap (λ (l : List Entry). length l) (filter-append (λ (e : Entry). is_start e.what) xs ys)
-    ∙ length-append (filter (λ (e : Entry). is_start e.what) xs) (filter (λ (e : Entry). is_start e.what) ys)
 
 linked_on : (past more : List Entry) (c : ℕ) (p : PairValue) → got_lines more c ≡ [] → sent_count more c ≡ 0 → IsLinked past c p → IsLinked (past ++ more) c p
 linked_on past more c p got sent h = record { heard = h.heard; fed = fed_on past more c p sent h.fed; read = read_on past more c p got h.read }
@@ -174,9 +171,6 @@ linked_written past by c p w ws next h =
 taken_bytes : (front line rest pipe : List ℕ) → front ++ (line ++ 10 ∷ rest) ++ pipe ≡ front ++ (line ++ 10 ∷ []) ++ rest ++ pipe
 taken_bytes front line rest pipe =
     ap (λ (l : List ℕ). front ++ l ++ pipe) (sym (append_assoc line (10 ∷ []) rest)) ∙ ap (λ (l : List ℕ). l ++ pipe) (sym (append_assoc front (line ++ 10 ∷ []) rest))
-
-text_line : (lines : List (List ℕ)) (line : List ℕ) → text (lines ++ line ∷ []) ≡ text lines ++ (line ++ 10 ∷ [])
-text_line lines line = text-append lines (line ∷ [])
 
 all_more : (taken : List Taken) (x : Taken) → are_spelled taken ≡ true → is_spelled x ≡ true → are_spelled (taken ++ x ∷ []) ≡ true
 all_more taken x a b = list_all-append is_spelled taken (x ∷ []) ∙ ap (λ (p : Bool). p && (is_spelled x && true)) a ∙ ap (λ (p : Bool). p && true) b

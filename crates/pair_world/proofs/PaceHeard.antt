@@ -19,7 +19,7 @@ use Rattle.journal_model.specs.Due.{due_by, due_after}
 use Rattle.journal_model.specs.Legality.{Legal, may_come}
 use Rattle.journal_model.specs.Wires.{sent_lines}
 use Rattle.journal_model.proofs.Growing.{Legal-induction}
-use Rattle.journal_model.proofs.Linking.{got_more, text-append}
+use Rattle.journal_model.proofs.Linking.{got_more}
 use Rattle.journal_model.proofs.Soft.{soft_stretch}
 use Rattle.kit_core.specs.declared.kit.Stage.{Stage}
 use Rattle.kit_core.specs.Kits.{Heard, messages, is_over, request_of, IsServed, IsAskedBy, due_of, said_by, lines_to, lines_behind}
@@ -38,6 +38,7 @@ use Rattle.pair_world.proofs.PaceTexts.{text_front, all_front, same_last, EndsBy
 use Rattle.journal_model.proofs.Bounds.{due_soft as soft_due}
 use Rattle.wire_line.proofs.Firsts.{no_newline_before as first_whole}
 use Rattle.ann_key.proofs.Lists.{nil_back as none_behind, no_items as empty_is}
+use Rattle.annex_model.proofs.Across.{text-append}
 
 -- ---- the lines that a kit took are the first that are written to it
 

@@ -22,6 +22,7 @@ use Rattle.pair_world.specs.Shelves.{Items, content}
 use Rattle.pair_world.specs.Cues.{settings}
 use Rattle.pair_world.specs.Works.{found, is_there, call_for, bytes_found, bytes_put, last_said, answered}
 use Rattle.pair_world.specs.Stored.{is_success, granted, granted_by}
+use Rattle.annex_model.proofs.Across.{same_way}
 
 -- ---- lines that grant nothing
 
@@ -64,10 +65,6 @@ still_by (Some (Remove key)) line none =
 still_by (Some q) line none = still_if (is_success (final_of q (Some line ∷ []))) q refl
 
 -- ---- lines that grant the request
-
-same_way : (store : Bool) → is_same store store ≡ true
-same_way true = refl
-same_way false = refl
 
 transfer_granted : (store : Bool) (key file : List ℕ) → granted (Some (Transfer store key file)) (Some (TransferSuccess store key)) ≡ Some (Transfer store key file)
 transfer_granted store key file =

@@ -3,16 +3,9 @@ use Rattle.std.proofs.Common.{ℕ, ◌+◌, List, ◌∷◌, ◌++◌, length, t
 use Rattle.std.proofs.Math.Seq.{take-append-add, take-length}
 use Rattle.std.specs.Io.KnownBytes.{Appends}
 use Rattle.ann_outside.proofs.Telling.{appends_both}
-use Rattle.ann_key.proofs.Lists.{front_of_longer}
 
 -- a whole text, and then the first bytes of what follows it
 pub prefix_more : (a b c : Option (List ℕ)) (xs ys : List ℕ) → Appends a b xs
     → ((n : ℕ) × Appends b c (take n ys)) → (m : ℕ) × Appends a c (take m (xs ++ ys))
 prefix_more a b c xs ys p q =
     (length xs + q.0, subst (λ (l : List ℕ). Appends a c l) (sym (take-append-add xs ys q.0)) (appends_both a b c xs (take q.0 ys) p q.1))
-
--- the first bytes are first bytes of more
-pub prefix_longer : (a c : Option (List ℕ)) (xs ys : List ℕ) → ((n : ℕ) × Appends a c (take n xs)) → (m : ℕ) × Appends a c (take m (xs ++ ys))
-prefix_longer a c xs ys q =
-    let front = front_of_longer q.0 xs ys in
-    (front.0, subst (λ (l : List ℕ). Appends a c l) (sym front.1) q.1)

@@ -28,7 +28,7 @@ use Rattle.gathering.specs.Rounds.{IsAtRest, LinkValue}
 use Rattle.lone_rounds.specs.Starting.{is_unclosed}
 use Rattle.lone_rounds.specs.Rounds.{is_of_run}
 use Rattle.lone_rounds.specs.Stints.{AreLinked, StartsOne, main_entry, next_child}
-use Rattle.lone_rounds.proofs.Leaving.{adds_one, rose_still, starts_child, of_start}
+use Rattle.lone_rounds.proofs.Leaving.{rose_still, starts_child, of_start}
 use Rattle.lone_rounds.proofs.Losing.{greeted_next, lost_both, lost_greeting, lost_tasks}
 use Rattle.lone_rounds.proofs.Served.{all_unclosed, greeting_unclosed, new_unclosed}
 use Rattle.lone_rounds.proofs.Stinting.{Closing, closing, closing_loses, closing_part, greeting_part, may_close, of_closing}
@@ -39,6 +39,7 @@ use Rattle.pool_starts.specs.Seats.{SeatsOne, SeatsOver}
 use Rattle.pool_starts.proofs.Own.{greeting_own, own_rests, rest_shut, undone_unready}
 use Rattle.ann_key.proofs.Numbers.{same_number as same}
 use Rattle.ann_key.proofs.Booleans.{or_left, or_right}
+use Rattle.child_end.proofs.Across.{adds_one}
 
 -- ---- a child that was greeted
 

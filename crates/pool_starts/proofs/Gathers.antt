@@ -10,7 +10,7 @@ use Rattle.host_core.specs.Steps.{unclaimed}
 use Rattle.child_end.specs.Programs.{AddsAll, HaveStarted, ProgramsValue, is_failed_start, told}
 use Rattle.child_end.specs.Wires.{came}
 use Rattle.gathering.specs.Rounds.{LinkValue}
-use Rattle.lone_rounds.proofs.Leaving.{adds_both, adds_none, adds_one, rose_still, stays_none}
+use Rattle.lone_rounds.proofs.Leaving.{rose_still, stays_none}
 use Rattle.crew_rounds.specs.PoolChildren.{MayServe, PoolCan}
 use Rattle.pool_starts.specs.Pools.{Gathered, IsPool, IsWithin, SeatValue, Serves}
 use Rattle.pool_starts.specs.Seats.{SeatsNone, SeatsOne}
@@ -18,6 +18,7 @@ use Rattle.pool_starts.specs.Slots.{has_pool, is_unclaimed_since, last_slot}
 use Rattle.pool_starts.proofs.Seating.{seats_few}
 use Rattle.pool_starts.proofs.SlotLaws.{left_same}
 use Rattle.pool_starts.proofs.Standing.{Standing, standing_next}
+use Rattle.child_end.proofs.Across.{adds_both, adds_none, adds_one}
 
 -- ---- the begin
 

@@ -4,7 +4,6 @@ use Rattle.std.specs.Prelude.{◌&&◌, ◌||◌, is_some}
 use Rattle.std.specs.List.{list_all, list_any, cons_option}
 use Rattle.std.proofs.lemmas.Bool.Decides.{nat_tests}
 use Rattle.journal_model.specs.declared.verdict.Verdict.{Verdict}
-use Rattle.journal_model.specs.declared.verdict.Why.{Why}
 use Rattle.journal_model.specs.declared.entry.What.{What}
 use Rattle.journal_model.specs.declared.entry.What.TheVariants.{Claim, Start, NoStart, Lead, Ask, Put, Sent, Mute, Got, End, Verdict as Settled, Lost, Answer as Answered, Note, Again}
 use Rattle.journal_model.specs.declared.entry.Entry.{Entry}
@@ -27,14 +26,15 @@ use Rattle.gathering.specs.Rounds.{IsAtRest, LinkValue}
 use Rattle.lone_rounds.specs.Starting.{is_any_start}
 use Rattle.lone_rounds.specs.Stints.{in_stint}
 use Rattle.lone_rounds.proofs.Apart.{apart_in, no_start_in, prepares_of}
-use Rattle.lone_rounds.proofs.Tests.{any_none, each_none, each_without}
+use Rattle.lone_rounds.proofs.Tests.{each_none, each_without}
 use Rattle.crew_rounds.specs.PoolChildren.{MayServe}
 use Rattle.pool_starts.specs.Pools.{changes_claim}
 use Rattle.pool_starts.specs.Slots.{in_pool, offers_tags}
 use Rattle.ann_key.proofs.Booleans.{or_off as or_no, true_and_false as true_not_false, or_left}
 use Rattle.std.proofs.lemmas.Bool.{le-leb as low, and_parts as both, eqb-true as same_number}
-use Rattle.gathering.proofs.Laboring.{prepared_lasts as prepared_on}
 use Rattle.ann_key.proofs.Numbers.{same_number as same}
+use Rattle.journal_model.proofs.Across.{no_why, none_so as any_none}
+use Rattle.task_run.proofs.Across.{prepared_on}
 
 -- ---- one entry of the child
 
@@ -175,10 +175,6 @@ undone_unready past c h = ap (λ (b : Bool). b && any (prepares c) past) h
 ends_of : (c : ℕ) (w : What) → ends c w ≡ true → is_of_child c w ≡ true
 ends_of c (End child why) h = h
 ends_of c w h = absurd cc
-
-no_why : (w : Option Why) → is_some w ≡ false → w ≡ None
-no_why None h = refl
-no_why (Some x) h = absurd cc
 
 pub why_apart : (past more : List Entry) (c : ℕ) → any (is_of_child c) more ≡ false → why_of (past ++ more) c ≡ why_of past c
 why_apart past more c none =

@@ -26,8 +26,8 @@ use Rattle.lone_rounds.specs.Rounds.{AllLostWell, IsLostIn, is_of_run}
 use Rattle.lone_rounds.specs.Stints.{AreUpTo, main_entry, next_child}
 use Rattle.lone_rounds.proofs.Apart.{ended_on, ready_same}
 use Rattle.lone_rounds.proofs.Losing.{lost_both}
-use Rattle.lone_rounds.proofs.Leaving.{adds_both, none_told, rose_both, as_many}
-use Rattle.lone_rounds.proofs.Tests.{UpTo, any_none, children_up_to, no_children, none_came, up_to_both, up_to_more}
+use Rattle.lone_rounds.proofs.Leaving.{none_told, rose_both, as_many}
+use Rattle.lone_rounds.proofs.Tests.{UpTo, children_up_to, no_children, none_came, up_to_both, up_to_more}
 use Rattle.crew_rounds.specs.PoolChildren.{MayServe, PoolCan}
 use Rattle.pool_starts.specs.Pools.{AreSeated, Gathered, GathersBy, IsPool, OverBy, SeatValue, Serves, is_among, changes_claim}
 use Rattle.pool_starts.specs.Seats.{IsSlotStart, SeatsOne}
@@ -38,6 +38,8 @@ use Rattle.pool_starts.proofs.SlotLaws.{first_same, last_first, left_same, none_
 use Rattle.ann_key.proofs.Booleans.{false_is_true as not_yet, and_false as false_and, left_false as either_left, right_false as either_right, or_neither as neither, or_left, or_right}
 use Rattle.std.proofs.lemmas.Bool.{and_parts as both, ne_eqb as differ, le-leb as low}
 use Rattle.journal_model.proofs.Working.{count-append, count_none}
+use Rattle.child_end.proofs.Across.{adds_both}
+use Rattle.journal_model.proofs.Across.{none_so as any_none}
 
 -- ---- the start itself
 

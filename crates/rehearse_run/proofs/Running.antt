@@ -1,10 +1,7 @@
 -- From what the workers did to what a rehearsal comes to.
-use Rattle.std.proofs.Common.{◌≡◌, ◌⊎◌, ℕ, List, [], ◌∷◌, refl, sym, ap, subst, inl, inr, Bool, true, false, Option, All, map, replicate, Ok, Err}
+use Rattle.std.proofs.Common.{◌≡◌, ◌⊎◌, ℕ, List, [], ◌∷◌, refl, sym, ap, subst, inl, inr, Bool, true, false, Option, map, replicate, Ok, Err}
 use Rattle.std.specs.Prelude.{Result}
 use Rattle.ann_key.specs.declared.bytes.NoMemory.{NoMemory}
-use Rattle.std.proofs.lemmas.List.Elements.{All-head, All-tail}
-use Rattle.task_text.specs.declared.task.Task.{Task}
-use Rattle.task_text.specs.TaskLines.{IsTask}
 use Rattle.journal_model.specs.declared.answer.Answer.{Answer}
 use Rattle.journal_model.specs.declared.entry.Entry.{Entry}
 use Rattle.journal_model.specs.declared.opening.Opening.{Opening}
@@ -12,7 +9,7 @@ use Rattle.journal_model.specs.Journal.{any}
 use Rattle.journal_model.proofs.Projecting.{parts_fit}
 use Rattle.host_core.specs.Steps.{are_all_claimed}
 use Rattle.task_run.specs.declared.setup.Setup.{Setup}
-use Rattle.lone_work.specs.Works.{AreTasks, DeskTells}
+use Rattle.lone_work.specs.Works.{DeskTells}
 use Rattle.child_end.specs.Wires.{wire_value}
 use Rattle.link_roles.specs.declared.wire.Wire.{Wire}
 use Rattle.job_rounds.specs.JobRuns.{RanJobs}
@@ -24,10 +21,6 @@ use Rattle.rehearse_run.specs.Rehearsals.{EndsRun, Finds, HasRun, IsRunOf, is_fa
 use Rattle.rehearse_run.specs.declared.made.RehearsalEnd.{RehearsalEnd}
 use Rattle.rehearse_run.specs.declared.made.RehearsalEnd.TheVariants.{Memory, Done}
 use Rattle.rehearse_run.proofs.Faultless.{AreQuiet}
-
-pub all_tasks : (tasks : List Task) → All IsTask tasks → AreTasks tasks
-all_tasks [] h = tt
-all_tasks (task ∷ tasks) h = (All-head IsTask task tasks h, all_tasks tasks (All-tail IsTask task tasks h))
 
 -- halves that count no fault leave wires that count none
 pub quiet_wires : {I O : Type 0} (taken : I → Option (List ℕ)) (write_faults : I → ℕ) (inlet_number : I → Option ℕ) (is_inlet_open : I → Bool) (given left : O → Option (List ℕ)) (read_faults : O → ℕ)

@@ -1,10 +1,7 @@
 -- After the greeting of the first child, which takes tags, a round may begin.
-use Rattle.std.proofs.Common.{◌≡◌, ℕ, List, [], ◌∷◌, refl, sym, ap, subst, ◌∙◌, true, false, ◌==◌, Some, None}
-use Rattle.std.specs.Prelude.{◌&&◌, All}
+use Rattle.std.proofs.Common.{◌≡◌, ℕ, List, [], refl, sym, ap, subst, ◌∙◌, true, false, ◌==◌, Some, None}
+use Rattle.std.specs.Prelude.{◌&&◌}
 use Rattle.std.specs.List.{list_all}
-use Rattle.std.proofs.lemmas.List.Elements.{All-head, All-tail}
-use Rattle.task_text.specs.declared.task.Task.{Task}
-use Rattle.task_text.specs.TaskLines.{IsTask}
 use Rattle.journal_model.specs.declared.verdict.Why.TheVariants.{Closed}
 use Rattle.journal_model.specs.declared.entry.What.{What}
 use Rattle.journal_model.specs.declared.entry.What.TheVariants.{Ask}
@@ -20,7 +17,7 @@ use Rattle.link_roles.specs.Writings.{LoneWired}
 use Rattle.child_start.specs.Greetings.{Greeted, IsReady, is_greeting_line_for, is_of_greeting}
 use Rattle.child_start.specs.declared.greeting.Mode.TheVariants.{Serve}
 use Rattle.lone_work.specs.KnownLayouts.{IsBook}
-use Rattle.lone_work.specs.Works.{AreTasks, CanWork}
+use Rattle.lone_work.specs.Works.{CanWork}
 use Rattle.lone_rounds.specs.Starting.{is_unclosed}
 use Rattle.lone_rounds.proofs.Apart.{ended_unclosed, is_unclosed_end}
 use Rattle.lone_rounds.proofs.Stinting.{greeting_works}
@@ -28,10 +25,6 @@ use Rattle.lone_rounds.proofs.Tests.{each_none}
 use Rattle.crew_rounds.specs.Tagged.{TaggedCan, link_of}
 use Rattle.lone_rounds.proofs.Served.{greeting_unclosed}
 use Rattle.std.proofs.lemmas.Bool.{and_parts as both, eqb-true as same_number}
-
-pub are_tasks : (tasks : List Task) → All IsTask tasks → AreTasks tasks
-are_tasks [] all = tt
-are_tasks (task ∷ tasks) all = (All-head IsTask task tasks all, are_tasks tasks (All-tail IsTask task tasks all))
 
 -- a greeting asks its own child alone
 asks_own : (c d : ℕ) → (c == d) ≡ false → (w : What) → is_of_greeting c w ≡ true → asks d w ≡ None

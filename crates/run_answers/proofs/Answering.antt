@@ -6,7 +6,7 @@ use Rattle.std.specs.Option.{option_or}
 use Rattle.std.proofs.lemmas.Bool.Decides.{nat_tests}
 use Rattle.std.proofs.lemmas.List.{same_lists, get_or_default, get_or-set_same, get_or-set_other, get_or-replicate, length-replicate, take_more}
 use Rattle.std.proofs.lemmas.List.FromFn.{get_or-map-range_with_len, length-map-range_with_len}
-use Rattle.std.proofs.lemmas.Option.{slice_get_within, slice_get-get_or, get_or_from_slice_get}
+use Rattle.std.proofs.lemmas.Option.{slice_get_within, get_or_from_slice_get}
 use Rattle.journal_model.specs.declared.answer.Answer.{Answer}
 use Rattle.journal_model.specs.declared.entry.What.TheVariants.{Answer as Answered}
 use Rattle.journal_model.specs.declared.entry.Entry.{Entry}
@@ -147,7 +147,3 @@ holds_more count at entries e old new there takes h =
   where
     take_at : (xs : List Entry) (i : ℕ) (x : Entry) → slice_get xs i ≡ Some x → take (i + 1) xs ≡ take i xs ++ x ∷ []
     take_at xs i x e = take_more xs i x (slice_get_within xs i x e) ∙ ap (λ (y : Entry). take i xs ++ y ∷ []) (get_or_from_slice_get xs i x x e)
-
-pub no_gap : (xs : List Entry) (i : ℕ) → i < length xs → None ≡ slice_get xs i → ⊥
-no_gap [] i within h = omega arith
-no_gap (x ∷ xs) i within h = absurd (let bad : None ≡ Some (get_or (x ∷ xs) i x) = h ∙ slice_get-get_or (x ∷ xs) i x within in cc)

@@ -1,13 +1,12 @@
 -- From what was read to what a run begins with.
 use Rattle.std.proofs.Common.{◌≡◌, ℕ, ◌+◌, ◌<◌, ◌≤◌, List, [], ◌∷◌, length, replicate, refl, sym, ap, subst, ◌∙◌, arith, Bool, true, false, cond, Some, None, Option, Ok, Err}
-use Rattle.std.specs.Prelude.{Result, IfOk, IfSome, All, nat_lt, take, option_and_then}
+use Rattle.std.specs.Prelude.{Result, IfOk, IfSome, nat_lt, take, option_and_then}
 use Rattle.std.proofs.lemmas.Bool.Decides.{nat_tests}
 use Rattle.std.proofs.lemmas.List.{length-map, length-replicate}
-use Rattle.std.proofs.lemmas.List.Elements.{All-head, All-tail}
 use Rattle.ann_key.specs.declared.bytes.NoMemory.{NoMemory}
 use Rattle.ann_outside.specs.Calls.{Log}
 use Rattle.ann_outside.specs.Files.{Files}
-use Rattle.task_text.specs.TaskLines.{fault_of, line_of, IsTask}
+use Rattle.task_text.specs.TaskLines.{fault_of, line_of}
 use Rattle.task_text.specs.declared.task.Task.{Task}
 use Rattle.reg_file.specs.Registers.{RegisterFile}
 use Rattle.chunk_log.specs.declared.note.Note.{Note}
@@ -32,7 +31,6 @@ use Rattle.task_input.specs.declared.limits.TheConstants.Limits.{TASKS}
 use Rattle.journal_model.specs.Beginnings.{MayBegin}
 use Rattle.journal_model.specs.Limits.{most_again}
 use Rattle.journal_model.specs.declared.opening.Opening.{Opening}
-use Rattle.lone_work.specs.Works.{AreTasks}
 use Rattle.run_tasks.specs.Inputs.{InputFlow, input_flow, IsTaken, IsTextFor, run_opening}
 use Rattle.run_tasks.specs.Runs.{HasText}
 use Rattle.run_tasks.specs.Beginnings.{HandsOn, IsReady, BeginsRun}
@@ -182,7 +180,3 @@ pub may_begin_all : (words : RunWords) (clock : Option ℕ) (told : Option Files
     → BeginsRun words clock told flow faults faults' r → IfOk r MayBegin
 may_begin_all words clock told flow faults faults' (Ok opening) fit written again h = may_begin words clock told flow opening fit written again h
 may_begin_all words clock told flow faults faults' (Err end) fit written again h = tt
-
-pub all_tasks : (tasks : List Task) → All IsTask tasks → AreTasks tasks
-all_tasks [] h = tt
-all_tasks (task ∷ more) h = (All-head IsTask task more h, all_tasks more (All-tail IsTask task more h))

@@ -10,12 +10,13 @@ use Rattle.journal_model.specs.declared.entry.Entry.{Entry}
 use Rattle.journal_model.specs.Legality.{count}
 use Rattle.child_end.specs.Wires.{WireValue, AreWires, came}
 use Rattle.child_end.specs.Programs.{ProgramsValue, told, AddsAll, HaveStarted, Leaves, RoseBy, is_failed_start}
-use Rattle.lone_rounds.proofs.Leaving.{rose_still, adds_none}
+use Rattle.lone_rounds.proofs.Leaving.{rose_still}
 use Rattle.child_end.specs.Outsides.{TableValue}
 use Rattle.run_tasks.specs.Runs.{AddsMade, BeganAs}
 use Rattle.run_tasks.specs.Workings.{AddsWorkers}
 use Rattle.run_tasks.proofs.Origins.{began_more, began_same}
 use Rattle.ann_key.proofs.Lists.{range_next as range_more}
+use Rattle.child_end.proofs.Across.{adds_none}
 
 -- ---- programs
 

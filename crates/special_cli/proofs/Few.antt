@@ -1,14 +1,11 @@
 -- A run has no more answers than its input may have lines.
-use Rattle.std.proofs.Common.{◌≡◌, ◌∙◌, ◌+◌, ◌≤◌, ℕ, List, [], ◌∷◌, length, Option, Some, None, refl, sym, ap, inl, inr, arith}
+use Rattle.std.proofs.Common.{◌≡◌, ◌∙◌, ◌≤◌, ℕ, List, [], length, Option, Some, refl, sym, ap, inl, inr, arith}
 use Rattle.std.proofs.lemmas.List.{length-map}
 use Rattle.std.proofs.lemmas.List.FromFn.{length-range_with_len}
 use Rattle.ann_outside.specs.Files.{Files}
 use Rattle.keep_desk.specs.declared.writing.KeptWritten.{KeptWritten}
-use Rattle.task_input.specs.Inputs.{reason_of, refused_or, first_refused}
-use Rattle.task_input.specs.declared.limits.Limits.{Limits}
 use Rattle.task_input.specs.declared.limits.TheConstants.Limits.{TASKS}
 use Rattle.cli_words.specs.declared.command.RunWords.{RunWords}
-use Rattle.cli_words.specs.declared.refusals.Reason.{Reason}
 use Rattle.journal_model.specs.declared.answer.Answer.{Answer}
 use Rattle.journal_model.specs.declared.opening.Opening.{Opening}
 use Rattle.journal_model.specs.Legality.{numbers_of}
@@ -17,21 +14,7 @@ use Rattle.run_tasks.specs.Inputs.{InputFlow}
 use Rattle.run_tasks.specs.Runs.{MadeValue, HasDone, IsWholeRun, IfUnwhole, EndsRun, answer_of}
 use Rattle.run_tasks.specs.declared.made.RunEnd.{RunEnd}
 use Rattle.run_tasks.specs.declared.made.RunEnd.TheVariants.{Done}
-use Rattle.run_tasks.proofs.Begun.{unrefused as within, few_tasks}
-
--- ---- an input
-
-neither : (r : Option Reason) (n : ℕ) (next : Option (ℕ × Reason)) → refused_or n r next ≡ None → (r ≡ None) × (next ≡ None)
-neither None n next h = (refl, h)
-neither (Some reason) n next h = absurd cc
-
-few_lines : (limits : Limits) (lines : List (List ℕ)) (n : ℕ) → n ≤ limits.lines + 1 → first_refused limits n lines ≡ None → n + length lines ≤ limits.lines + 1
-few_lines limits [] n small none = omega (arith, small)
-few_lines limits (line ∷ lines) n small none =
-    let t = neither (reason_of limits n line) n (first_refused limits (n + 1) lines) none in
-    let here : n ≤ limits.lines = within limits n line t.0 in
-    let rest : (n + 1) + length lines ≤ limits.lines + 1 = few_lines limits lines (n + 1) (omega arith) t.1 in
-    omega (arith, rest)
+use Rattle.run_tasks.proofs.Begun.{few_tasks}
 
 -- ---- a run
 

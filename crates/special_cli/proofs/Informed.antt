@@ -1,5 +1,5 @@
 -- What comes of an info.
-use Rattle.std.proofs.Common.{◌≡◌, ◌∙◌, ℕ, List, [], length, refl, sym, ap, subst, true, false, Some, None, Option, Result, Ok, Err}
+use Rattle.std.proofs.Common.{◌≡◌, ◌∙◌, ℕ, List, [], length, sym, ap, subst, true, false, Some, None, Option, Result, Ok, Err}
 use Rattle.std.specs.Prelude.{option_map, IfSome, IfOk, IsErr, MatchResult}
 use Rattle.ann_key.specs.declared.bytes.NoMemory.{NoMemory}
 use Rattle.annex_model.specs.Messages.{is_sent_key}
@@ -20,12 +20,10 @@ use Rattle.cli_words.specs.Refusals.{refusal_if}
 use Rattle.cli_words.proofs.Refusing.{sent_key}
 use Rattle.special_cli.proofs.Leaving.{leaves_as}
 use Rattle.special_cli.proofs.Talking.{nothing_asked}
+use Rattle.journal_model.proofs.Across.{nothing_legal}
 
 pub no_tasks : (o : Opening) → o ≡ info_opening → length o.tasks ≡ 0
 no_tasks o h = ap (λ (x : Opening). length x.tasks) h
-
-pub nothing_legal : (o : Opening) (journal : List Entry) → journal ≡ [] → Legal o journal
-nothing_legal o journal e = subst (Legal o) (sym e) (record { stands = tt; nothing_due = refl })
 
 -- a key that is not refused can stand in a request
 pub sent_if : {X : Type 0} (shown : X → List ℕ) (key : Option X) → refusal_if (option_map shown key) ≡ None → IfSome key (λ k. is_sent_key (shown k) ≡ true)

@@ -8,7 +8,6 @@ use Rattle.journal_model.specs.declared.entry.What.{What}
 use Rattle.journal_model.specs.declared.entry.What.TheVariants.{Claim, Start, NoStart, Lead, Ask, Put, Sent, Mute, Got, End, Verdict as Settled, Lost, Answer as Answered, Note as Noted, Again}
 use Rattle.journal_model.specs.declared.entry.Entry.{Entry}
 use Rattle.journal_model.specs.Journal.{any, each_of}
-use Rattle.journal_model.specs.Shares.{by_link}
 use Rattle.child_start.specs.Greetings.{is_greeting_line, is_of_greeting}
 use Rattle.lone_rounds.proofs.Tests.{each_none as none_of}
 use Rattle.std.proofs.lemmas.Bool.{and_parts as both, eqb-true as same_number}
@@ -25,23 +24,6 @@ pub record Vanishes {X : Type 0} (f : What → Option X) : Type 0 where
   pub settled : (c j : ℕ) (v : Verdict) → f (Settled c j v) ≡ None
   pub ask : (c j : ℕ) (line : List ℕ) → f (Ask c j 0 line) ≡ None
   pub lost : (c : ℕ) → f (Lost c 0) ≡ None
-
-of_link : {X : Type 0} (f : What → Option X) → Vanishes f → (c : ℕ) (w : What) → by_link c w ≡ true → f w ≡ None
-of_link f v c (Put d j line) h = v.put d j line
-of_link f v c (Sent d) h = v.sent d
-of_link f v c (Mute d) h = v.mute d
-of_link f v c (Got d line) h = v.got d line
-of_link f v c (End d why) h = v.ended d why
-of_link f v c (Settled d j verdict) h = v.settled d j verdict
-of_link f v c (Claim task child) h = absurd cc
-of_link f v c (Start child slot offer) h = absurd cc
-of_link f v c (NoStart slot) h = absurd cc
-of_link f v c (Lead child job line) h = absurd cc
-of_link f v c (Ask child job task line) h = absurd cc
-of_link f v c (Lost child task) h = absurd cc
-of_link f v c (Answered task answer) h = absurd cc
-of_link f v c (Noted task chunk count) h = absurd cc
-of_link f v c (Again task answer) h = absurd cc
 
 pub no_task : (c child task : ℕ) (b : Bool) → (child == c && (task == 0 && b)) ≡ true → task ≡ 0
 no_task c child task b h =
@@ -91,5 +73,3 @@ any_through p g h same (e ∷ xs) = ap (λ (b : Bool). b || any p xs) (same e.wh
     go : (o : Option _) → any p xs ≡ list_any h (each_of g xs) → (holds_in h o || any p xs) ≡ list_any h (cons_option o (each_of g xs))
     go None r = r
     go (Some x) r = ap (λ (b : Bool). h x || b) r
-
--- ---- facts of all entries

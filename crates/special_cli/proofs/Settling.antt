@@ -1,6 +1,6 @@
 -- From a greeting by INITREMOTE to what a setup comes to, and the closing of its child.
 use Rattle.std.proofs.Common.{◌≡◌, ◌⊎◌, ℕ, List, [], ◌∷◌, ◌++◌, refl, sym, ap, subst, ◌∙◌, Bool, true, false, not, cond, Some, None, Option, inl, inr, append-nil}
-use Rattle.std.specs.Prelude.{◌&&◌, ◌||◌, is_some}
+use Rattle.std.specs.Prelude.{◌&&◌, ◌||◌}
 use Rattle.std.specs.Option.{option_or}
 use Rattle.std.specs.List.{list_all, list_any}
 use Rattle.std.proofs.lemmas.List.Folds.{list_all-append}
@@ -34,8 +34,7 @@ use Rattle.ann_key.proofs.Booleans.{or_false as or_none, and_false as off}
 use Rattle.std.proofs.lemmas.Bool.{and_parts as both}
 use Rattle.ann_key.proofs.Numbers.{same_number as same}
 use Rattle.link_roles.proofs.Roles.{by_append as main_both}
-use Rattle.lone_rounds.proofs.Stinting.{all_in as all_weaken}
-use Rattle.info_run.proofs.Asked.{none_so as any_none}
+use Rattle.journal_model.proofs.Across.{no_why as none_why, all_in as all_weaken, none_so as any_none}
 
 -- ---- the entries
 
@@ -71,10 +70,6 @@ taskless w h = refl
 
 abbrev from : Bool → Bool → Option Verdict → Option Why → Bool → Option Setup
 from unstarted started verdict why mute = cond unstarted (Some (Stopped answer.StartFault)) (cond started (verdict_outcome verdict why mute) None)
-
-none_why : (o : Option Why) → is_some o ≡ false → o ≡ None
-none_why None h = refl
-none_why (Some why) h = absurd cc
 
 done_outcome : (v : Option Verdict) (why : Option Why) (mute : Bool) → is_done v ≡ true → verdict_outcome v why mute ≡ Some Initialized
 done_outcome (Some (DoneAt at)) why mute h = refl

@@ -32,10 +32,10 @@ use Rattle.special_cli.specs.Interviews.{IsInterviewed}
 use Rattle.special_cli.proofs.Asked.{greeting_lines, is_early, begins}
 use Rattle.special_cli.proofs.Beginning.{greeted_started, greeted_starts}
 use Rattle.ann_key.proofs.Booleans.{or_neither as either, and_false as off, or_true}
-use Rattle.info_run.proofs.Asked.{greeting_offers as plain_greeting, none_so as any_none}
+use Rattle.info_run.proofs.Asked.{greeting_offers as plain_greeting}
 use Rattle.std.proofs.lemmas.Bool.{and_parts as both}
 use Rattle.link_roles.proofs.Roles.{by_append as main_both}
-use Rattle.lone_rounds.proofs.Stinting.{all_in as all_weaken}
+use Rattle.journal_model.proofs.Across.{none_so as any_none, all_in as all_weaken}
 
 -- ---- after the greeting
 

@@ -1,5 +1,5 @@
 -- Laws of requests in rounds.
-use Rattle.std.proofs.Common.{◌≡◌, ◌∙◌, ℕ, ◌+◌, Bool, true, false, cond, not, List, [], ◌∷◌, ◌++◌, length, refl, sym, ap, subst, arith, append-nil}
+use Rattle.std.proofs.Common.{◌≡◌, ◌∙◌, ℕ, ◌+◌, Bool, true, false, cond, List, [], ◌∷◌, ◌++◌, length, refl, sym, ap, subst, arith, append-nil}
 use Rattle.std.specs.Prelude.{count_by}
 use Rattle.std.specs.List.{list_all, onto_first}
 use Rattle.std.proofs.lemmas.Bool.{and_parts}
@@ -11,7 +11,6 @@ use Rattle.task_run.specs.Stops.{is_done}
 use Rattle.task_run.specs.Requests.{AskInOrder, rounds, RoundsAsk}
 use Rattle.task_run.specs.Gets.{item}
 use Rattle.ann_key.proofs.Lists.{all_more as list_all-append}
-use Rattle.ann_key.proofs.Booleans.{false_is_true as apart}
 
 -- ---- one round
 
@@ -53,18 +52,6 @@ asks_last ask n keys more ds x h a = by_test (is_done x) refl
         subst P (sym is) (a, tt)
 
 -- ---- counts
-
-pub count_none : {X : Type 0} (p : X → Bool) (xs : List X) → list_all (λ x. not (p x)) xs ≡ true → count_by p xs ≡ 0
-count_none p [] h = refl
-count_none p (x ∷ xs) h =
-    let q = and_parts (not (p x)) (list_all (λ y. not (p y)) xs) h in
-    let no : p x ≡ false = turned (p x) q.0 in
-    let rest : count_by p xs ≡ 0 = count_none p xs q.1 in
-    sum_by-cons (λ y. cond (p y) 1 0) x xs ∙ rw (no, rest) refl
-  where
-    turned : (b : Bool) → not b ≡ true → b ≡ false
-    turned true e = apart e
-    turned false e = refl
 
 pub count_all : {X : Type 0} (p : X → Bool) (xs : List X) → list_all p xs ≡ true → count_by p xs ≡ length xs
 count_all p [] h = refl

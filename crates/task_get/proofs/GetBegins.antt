@@ -36,7 +36,7 @@ use Rattle.task_get.specs.PartBegins.{Begin, Unlooked, Unmade, Made, Uncut, Unre
 use Rattle.task_run.proofs.HeldLaws.{is_looking, holds_more, so_behind, holds_cut}
 use Rattle.task_get.proofs.LastCalls.{after_last-at}
 use Rattle.task_run.proofs.GetCallsLaws.{known_add, known_skip, placed, run_placed, bytes_placed}
-use Rattle.task_get.proofs.GetEnds.{whole_reading, bytes_more, stop_is}
+use Rattle.task_get.proofs.GetEnds.{whole_reading, stop_is}
 use Rattle.task_get.proofs.GetFronts.{Fore, ended_memory, ended_stopped}
 use Rattle.task_get.proofs.GetChunks.{whole_of, none_from, first_from}
 use Rattle.task_get.proofs.ChunkNumbers.{held_within, begins_within, from_is, held_most}
@@ -45,6 +45,7 @@ use Rattle.chunk_plan.proofs.Joined.{reaches}
 use Rattle.ann_key.proofs.Booleans.{false_is_true as apart}
 use Rattle.ann_key.proofs.Lists.{same_name, all_more as list_all-append}
 use Rattle.ann_key.proofs.Numbers.{same_number as nat_same}
+use Rattle.task_run.proofs.Across.{bytes_more}
 
 -- ---- what is wanted
 

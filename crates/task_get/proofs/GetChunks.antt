@@ -188,5 +188,3 @@ chunks_ended setup t key size chunk held i part first now pairs mid later old on
       before between after g.asked g.made result all bad r.2;
   counted = λ e. let a : length (s.grown.asked ++ g.asked) ≡ length s.grown.asked + length g.asked = length-append s.grown.asked g.asked in let c = s.counted in let o = one e in omega (arith, a, c, o);
 }
-
--- ---- from call to call

@@ -1,44 +1,26 @@
 -- How a get in the plain layout ends, for each way in which its calls went.
-use Rattle.std.proofs.Common.{◌≡◌, ◌∙◌, ℕ, ◌+◌, ◌-◌, List, [], ◌∷◌, ◌++◌, length, refl, sym, ap, subst, arith, append-nil, append_assoc, eq-eqb}
-use Rattle.std.specs.Prelude.{◌≤◌, ◌||◌, Bool, true, false, ◌&&◌, not, Option, Some, filter, ◌==◌, Ok}
+use Rattle.std.proofs.Common.{◌≡◌, ◌∙◌, ℕ, ◌+◌, ◌-◌, List, [], ◌∷◌, ◌++◌, length, refl, ap, arith, append-nil, append_assoc, eq-eqb}
+use Rattle.std.specs.Prelude.{◌≤◌, ◌||◌, Bool, true, false, ◌&&◌, not, Some, filter, ◌==◌, Ok}
 use Rattle.std.specs.List.{list_all, filter_map, concat}
 use Rattle.std.proofs.lemmas.List.Elements.{filter_map-append, filter-append}
-use Rattle.ann_key.specs.Keys.{Parts}
-use Rattle.annex_model.specs.Messages.{HostMessage}
 use Rattle.ann_outside.specs.declared.file_desk.DeskError.{DeskError}
 use Rattle.ann_outside.specs.declared.file_desk.DeskError.TheVariants as E
 use Rattle.ann_outside.specs.declared.file_desk.Call.{Call}
-use Rattle.ann_outside.specs.declared.file_desk.Call.TheVariants.{Size, ReadAt, Create, Remove}
+use Rattle.ann_outside.specs.declared.file_desk.Call.TheVariants.{ReadAt, Remove}
 use Rattle.fetch_copy.specs.Copies.{copy_calls, EndsWhole}
 use Rattle.task_run.specs.declared.setup.Setup.{Setup}
 use Rattle.task_run.specs.declared.turn.TaskTurn.{TaskTurn}
 use Rattle.task_run.specs.Stops.{error_stop}
 use Rattle.task_run.specs.Names.{part_of, fetch_file}
-use Rattle.task_run.specs.Requests.{AsksFor}
 use Rattle.task_run.specs.Reads.{length_found, lengths_found, bytes_of, is_last, is_last_call_of, is_call_of, reads_of, read_of, is_run, is_reading, is_at_end, is_known, piece_of}
-use Rattle.task_run.specs.Gets.{fetch_request, begins}
+use Rattle.task_run.specs.Gets.{begins}
 use Rattle.task_run.specs.Ran.{answered, refusal}
 use Rattle.task_run.specs.Fetching.{Files3}
 use Rattle.task_run.proofs.HeldLaws.{is_growing}
-use Rattle.task_run.proofs.GetCallsLaws.{Apart, Good, fair_read, known_skip, known_copy, copy_reads, bytes_placed, copy_appends, placed}
-use Rattle.task_get.proofs.GetRuns.{Going, done}
+use Rattle.task_run.proofs.GetCallsLaws.{Apart, Good, fair_read, known_skip, copy_reads, bytes_placed, copy_appends, placed}
 use Rattle.ann_key.proofs.Lists.{all_more as list_all_more, same_name}
 use Rattle.ann_key.proofs.Numbers.{same_number as nat_same}
-
--- ---- how it goes on
-
-going_none : (setup : Setup) (t : TaskTurn) (key : Parts) (file : List ℕ) (request : Option HostMessage) (at : ℕ) → AsksFor (fetch_request setup t) 1 key (done request at) → Going setup t key file request at []
-going_none setup t key file request at h = record { asks = h; good = record { fair = record { names = refl; changes = refl; lengths = refl; no_length = refl; no_read = refl; lasting = refl }; found = refl; free = refl }; run = refl }
-
--- the first two calls
-abbrev begun : List ℕ → List ℕ → ℕ → List Call
-begun file fetch n = Size fetch (Ok n) ∷ Create (part_of file) (Ok tt) ∷ []
-
-fetch_known : (file fetch : List ℕ) (n : ℕ) → Apart file fetch → is_known fetch (begun file fetch n) ≡ true
-fetch_known file fetch n a = rw (same_name fetch, a.part_fetch) refl
-
-part_known : (file fetch : List ℕ) (n : ℕ) → Apart file fetch → is_known (part_of file) (begun file fetch n) ≡ true
-part_known file fetch n a = rw (a.fetch_part, same_name (part_of file)) refl
+use Rattle.task_run.proofs.Across.{bytes_more, at_end-snoc}
 
 -- ---- a read at the end
 
@@ -88,22 +70,6 @@ stop_is E.Failed h = refl
 stop_is E.Missing h = refl
 stop_is E.NoMemory h = absurd (h refl)
 
--- both files are known after the copy
-copied_fetch_known : (file fetch : List ℕ) (n : ℕ) (pieces : List (List ℕ)) → Apart file fetch → is_known fetch (begun file fetch n ++ copy_calls fetch (part_of file) 0 pieces) ≡ true
-copied_fetch_known file fetch n pieces a = known_copy fetch fetch (part_of file) (begun file fetch n) 0 pieces (fetch_known file fetch n a)
-
-copied_part_known : (file fetch : List ℕ) (n : ℕ) (pieces : List (List ℕ)) → Apart file fetch → is_known (part_of file) (begun file fetch n ++ copy_calls fetch (part_of file) 0 pieces) ≡ true
-copied_part_known file fetch n pieces a = known_copy (part_of file) fetch (part_of file) (begun file fetch n) 0 pieces (part_known file fetch n a)
-
--- ---- after a whole copy
-
-part_known_whole : (setup : Setup) (t : TaskTurn) (file : List ℕ) (n left : ℕ) (pieces : List (List ℕ)) (ending : List Call) → Apart file (fetch_file setup t 1)
-    → EndsWhole (fetch_file setup t 1) (length (concat pieces)) left ending
-    → is_known (part_of file) (begun file (fetch_file setup t 1) n ++ (copy_calls (fetch_file setup t 1) (part_of file) 0 pieces ++ ending)) ≡ true
-part_known_whole setup t file n left pieces ending a e =
-    (tail_of file (fetch_file setup t 1) (begun file (fetch_file setup t 1) n ++ copy_calls (fetch_file setup t 1) (part_of file) 0 pieces) (length (concat pieces)) left ending a
-    (copied_fetch_known file (fetch_file setup t 1) n pieces a) (copied_part_known file (fetch_file setup t 1) n pieces a) e).known_part
-
 -- ---- after the removal of the fetched file
 
 abbrev pub moved_calls : List ℕ → List ℕ → List (List ℕ) → List Call → List Call
@@ -117,10 +83,6 @@ pub record Facts (file fetch : List ℕ) (pieces : List (List ℕ)) (ending call
   pub written : concat (filter_map (piece_of (part_of file)) calls) ≡ concat pieces
   pub no_begin : list_all (λ call. not (begins (part_of file) call)) calls ≡ true
   pub grown : list_all (is_growing (part_of file)) calls ≡ true
-
-pub bytes_more : (xs ys : List (ℕ × List ℕ)) → bytes_of (xs ++ ys) ≡ bytes_of xs ++ bytes_of ys
-bytes_more [] ys = refl
-bytes_more (x ∷ xs) ys = ap (λ l. x.1 ++ l) (bytes_more xs ys) ∙ sym (append_assoc x.1 (bytes_of xs) (bytes_of ys))
 
 copy_unsized : (from to : List ℕ) (at : ℕ) (pieces : List (List ℕ)) → lengths_found from (copy_calls from to at pieces) ≡ []
 copy_unsized from to at [] = refl
@@ -156,11 +118,6 @@ moved_facts file fetch past pieces ending more a t u r w b g = record {
 
 -- ---- what it comes to
 
-at_end-snoc : (xs : List (ℕ × List ℕ)) (k : ℕ) → is_at_end (xs ++ (k, []) ∷ []) ≡ true
-at_end-snoc [] k = refl
-at_end-snoc (x ∷ []) k = refl
-at_end-snoc (x ∷ y ∷ xs) k = at_end-snoc (y ∷ xs) k
-
 either : (a b c : Bool) → a ≡ true → c ≡ true → (a && (b || c)) ≡ true
 either a true c e f = rw e refl
 either a false c e f = rw (e, f) refl
@@ -190,15 +147,6 @@ pub last_call : (name : List ℕ) (test : Call → Bool) (front : List Call) (x 
 last_call name test front x e =
     let same : filter (is_call_of name) (front ++ x ∷ []) ≡ filter (is_call_of name) front ++ x ∷ [] = rw (filter-append (is_call_of name) front (x ∷ [])) (rw e refl) in
     rw same (is_last-snoc test (filter (is_call_of name) front) x)
-
-part_known_moved : (setup : Setup) (t : TaskTurn) (file : List ℕ) (n left : ℕ) (pieces : List (List ℕ)) (ending : List Call) → Apart file (fetch_file setup t 1)
-    → EndsWhole (fetch_file setup t 1) (length (concat pieces)) left ending
-    → is_known (part_of file) (begun file (fetch_file setup t 1) n ++ moved_calls file (fetch_file setup t 1) pieces ending) ≡ true
-part_known_moved setup t file n left pieces ending a w =
-    let P : List Call → Type 0 = λ l. is_known (part_of file) (begun file (fetch_file setup t 1) n ++ l) ≡ true in
-    subst P (append_assoc (copy_calls (fetch_file setup t 1) (part_of file) 0 pieces) ending (Remove (fetch_file setup t 1) (Ok tt) ∷ []))
-    (known_skip (part_of file) (begun file (fetch_file setup t 1) n ++ (copy_calls (fetch_file setup t 1) (part_of file) 0 pieces ++ ending)) (Remove (fetch_file setup t 1) (Ok tt)) (rw a.fetch_part refl)
-    (part_known_whole setup t file n left pieces ending a w))
 
 -- ---- all ways
 

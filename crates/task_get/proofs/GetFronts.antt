@@ -22,9 +22,10 @@ use Rattle.task_run.specs.Reads.{is_run}
 use Rattle.task_run.specs.Gets.{fetch_request, lengths_at_begin, wanted, is_failed, failures, asked_last, first_asked, item, parts_last, held_reads, are_read, wrong_lengths, GetAsks, GetAnswers}
 use Rattle.task_run.specs.TaskCalls.{GetCalls}
 use Rattle.task_get.specs.Fronts.{Place, keys_in, is_calm, Tried, Sound, are_free, Ended}
-use Rattle.task_get.proofs.AskLaws.{count_none, count_more, item_behind}
+use Rattle.task_get.proofs.AskLaws.{count_more, item_behind}
 use Rattle.task_run.proofs.Lists.{all_taken, none_stop, but_last}
 use Rattle.ann_key.proofs.Booleans.{false_is_true as apart}
+use Rattle.ann_outside.proofs.Across.{count_none}
 
 -- ---- what it asked
 

@@ -36,7 +36,7 @@ use Rattle.task_get.specs.Fronts.{Turn, first_in, fetch_at, keys_in, is_calm, is
 use Rattle.task_get.specs.ChunkFetches.{over_with, Come, Unmeasured, Misfit, Uncopied, Unremoved, Came, come_calls, come_result, ComeIs, Take, Unmade, Undone, Fetched, undone_went, TakeIs}
 use Rattle.task_get.specs.LayoutRuns.{Grown, PartEnd, NextRan}
 use Rattle.task_get.proofs.LastCalls.{after_last-at}
-use Rattle.task_get.proofs.AskLaws.{round_ended, count_more, count_none, count_all}
+use Rattle.task_get.proofs.AskLaws.{round_ended, count_more, count_all}
 use Rattle.task_run.proofs.GetCallsLaws.{fair_size, fair_remove_part, known_add, known_skip}
 use Rattle.task_get.proofs.GetEnds.{Facts, moved_facts, whole_reading, moved_calls, last_call}
 use Rattle.task_get.proofs.GetFronts.{ended_memory, ended_asked, ended_finished}
@@ -46,6 +46,7 @@ use Rattle.task_get.proofs.GetWithin.{own_apart, none_failed, sound_asked, withi
 use Rattle.task_get.proofs.GetFetch.{Here, FetchingAt, file_in, part_in, fetch_in, asked_in, EndedAt, apart_in, others_size, Moving, moving_none, moving_step, segment_of, fore_of, free_of, memory_at, stopped_at, Ready, copies_in, copy_early, copy_refused, tail_in, fetch_unremoved, moving_moved, part_known_moved}
 use Rattle.ann_key.proofs.Booleans.{false_is_true as apart, or_right as right_or}
 use Rattle.ann_key.proofs.Lists.{same_name, all_more as list_all-append, weaken}
+use Rattle.ann_outside.proofs.Across.{count_none}
 
 -- ---- a layout that failed
 

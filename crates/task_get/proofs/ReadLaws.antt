@@ -23,8 +23,6 @@ use Rattle.task_get.proofs.LastCalls.{after_last-at, after_last-more, Last, last
 use Rattle.ann_key.proofs.Booleans.{or_right as right_or, or_left as left_or, false_is_true as apart}
 use Rattle.ann_key.proofs.Lists.{nil_back as nil_behind, nil_front, weaken}
 
--- ---- tests of all
-
 -- ---- names among others
 
 abbrev pub Sub : List (List ℕ) → List (List ℕ) → Type 0

@@ -31,10 +31,10 @@ use Rattle.task_run.specs.Runs.{RunOf, WorkAsks, WorkAnswers, TaskRun}
 use Rattle.task_run.specs.RunLaws.{IsGot, is_get, sizes_got}
 use Rattle.task_run.proofs.GotLaws.{got_needs_fit}
 use Rattle.task_get.proofs.LastCalls.{after_last-at, after_last-none}
-use Rattle.task_get.proofs.AskLaws.{count_none}
 use Rattle.task_laws.specs.Kept.{fetch_of}
 use Rattle.task_laws.proofs.LastRounds.{LastAsks, last_asks}
 use Rattle.ann_key.proofs.Booleans.{false_is_true as apart}
+use Rattle.ann_outside.proofs.Across.{count_none}
 
 abbrev pub is_other : Option Answer → Bool
 is_other None = true

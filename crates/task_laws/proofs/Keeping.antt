@@ -35,6 +35,7 @@ use Rattle.task_laws.proofs.FileContents.{fetched_are}
 use Rattle.task_laws.proofs.GotEnds.{GotEnds, got_ends, keys_wanted}
 use Rattle.ann_key.proofs.Lists.{nil_back as nil_behind, nil_front}
 use Rattle.ann_key.proofs.Booleans.{false_is_true as apart}
+use Rattle.task_run.proofs.Across.{order_fits as asks_few}
 
 -- ---- lengths
 
@@ -103,11 +104,6 @@ some_part key size chunk e =
     by_test false h = cc
 
 -- ---- what was asked
-
-asks_few : (ask : ℕ → List ℕ → HostMessage) (n : ℕ) (keys : List Parts) (asked : List Asking) → AskInOrder ask n keys asked → length asked ≤ length keys
-asks_few ask n keys [] h = omega arith
-asks_few ask n [] (a ∷ more) h = absurd h
-asks_few ask n (key ∷ keys) (a ∷ more) h = let rest : length more ≤ length keys = asks_few ask (n + 1) keys more h.1 in omega arith
 
 -- how it decided
 pub record Decided (setup : Setup) (t : TaskTurn) (key : Parts) (sizes : List ℕ) (file : List ℕ) (asked : List Asking) (calls : List Call) : Type 0 where

@@ -13,9 +13,10 @@ use Rattle.task_run.specs.Requests.{AsksFor, AskInOrder, rounds, RoundsAsk}
 use Rattle.task_run.specs.Gets.{is_failed, failures, asked_last, first_asked, item}
 use Rattle.task_run.proofs.Lists.{all_taken}
 use Rattle.task_get.proofs.LastCalls.{Last, last_of, after_last-at, after_last-none}
-use Rattle.task_get.proofs.AskLaws.{count_none, count_more}
+use Rattle.task_get.proofs.AskLaws.{count_more}
 use Rattle.task_get.proofs.GetTurns.{failed_undone as undone}
 use Rattle.ann_key.proofs.Booleans.{false_is_true as apart}
+use Rattle.ann_outside.proofs.Across.{count_none}
 
 -- the request was done, or failed
 abbrev pub is_calm : Asking → Bool
@@ -45,9 +46,6 @@ onto ask n ((key ∷ keys) ∷ later) a (round ∷ more) h =
 by_first : (ask : ℕ → List ℕ → HostMessage) (n : ℕ) (layouts : List (List Parts)) (a : Asking) (more : List Asking) (b : Bool) → is_done a ≡ b
     → RoundsAsk ask n layouts (rounds (a ∷ more)) → RoundsAsk ask n layouts (cond b (onto_first a (rounds more)) ((a ∷ []) ∷ rounds more))
 by_first ask n layouts a more b e h = let P : Bool → Type 0 = λ t. RoundsAsk ask n layouts (cond t (onto_first a (rounds more)) ((a ∷ []) ∷ rounds more)) in subst P e h
-
-first_keys : List (List Parts) → List Parts
-first_keys layouts = unwrap_or (item 0 layouts) []
 
 -- ---- the last round
 

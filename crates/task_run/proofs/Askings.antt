@@ -1,6 +1,6 @@
 -- What a longer journal says of the requests of a task.
-use Rattle.std.proofs.Common.{◌≡◌, ℕ, List, [], ◌∷◌, ◌++◌, refl, sym, ap, subst, ◌∙◌, append_assoc, Bool, true, false, not, ◌==◌, cond, Some, None, Option}
-use Rattle.std.specs.Prelude.{◌||◌, option_map, filter}
+use Rattle.std.proofs.Common.{◌≡◌, ℕ, List, [], ◌∷◌, ◌++◌, refl, sym, ap, ◌∙◌, append_assoc, Bool, true, false, ◌==◌, cond, Some, None, Option}
+use Rattle.std.specs.Prelude.{option_map}
 use Rattle.std.specs.List.{list_any, cons_option}
 use Rattle.std.proofs.lemmas.List.{append-nil}
 use Rattle.journal_model.specs.declared.verdict.Verdict.{Verdict}
@@ -8,16 +8,15 @@ use Rattle.annex_model.specs.Messages.{HostMessage, host_reading}
 use Rattle.journal_model.specs.declared.entry.What.{What}
 use Rattle.journal_model.specs.declared.entry.What.TheVariants.{Ask, Lost}
 use Rattle.journal_model.specs.declared.entry.Entry.{Entry}
-use Rattle.journal_model.specs.Journal.{any, each_of, asked_jobs, asks, is_settled, is_open, verdict_of, why_of, addressed}
+use Rattle.journal_model.specs.Journal.{any, each_of, asked_jobs, asks, is_open, verdict_of, why_of, addressed}
 use Rattle.journal_model.specs.Legality.{job_for, has_open_job}
 use Rattle.journal_model.proofs.Looks.{entry, is_asked}
 use Rattle.task_run.specs.TaskRuns.{Asking, asking_of, askings_from, askings, lost_verdict}
 use Rattle.task_run.specs.Askings.{name_before}
-use Rattle.ann_key.proofs.Booleans.{or_right, or_left, left_false as either_left, right_false as either_right}
+use Rattle.ann_key.proofs.Booleans.{left_false as either_left, right_false as either_right}
 use Rattle.ann_key.proofs.Lists.{cons_option-append}
 use Rattle.journal_model.proofs.Working.{asked_behind, asked_first, kept_verdict as kept}
 use Rattle.ann_key.proofs.Numbers.{same_number as same}
-use Rattle.std.proofs.lemmas.Bool.{eqb-true as same_number}
 
 -- the entry is a request of task t, or stands for one
 abbrev pub asks_for : ℕ → What → Bool
@@ -101,25 +100,6 @@ all_asked t (e ∷ xs) = step e.what (all_asked t xs)
         go true more = (asked_first e.by child job task line xs, more)
         go false more = more
     step w r = all_behind e.by w xs (each_of (job_for t) xs) r
-
--- a job that was asked and not settled is open
-unsettled_open : (past : List Entry) (c j : ℕ) (ks : List ℕ) → list_any (λ k. k == j) ks ≡ true → is_settled past c j ≡ false
-    → list_any (λ k. k == j) (filter (λ k. not (is_settled past c k)) ks) ≡ true
-unsettled_open past c j [] a h = absurd cc
-unsettled_open past c j (k ∷ ks) a h = by_number (k == j) refl a (λ b. unsettled_open past c j ks b h)
-  where
-    by_number : (b : Bool) → (k == j) ≡ b → (b || list_any (λ k. k == j) ks) ≡ true
-        → (list_any (λ k. k == j) ks ≡ true → list_any (λ k. k == j) (filter (λ k. not (is_settled past c k)) ks) ≡ true)
-        → list_any (λ k. k == j) (cond (not (is_settled past c k)) (k ∷ filter (λ k. not (is_settled past c k)) ks) (filter (λ k. not (is_settled past c k)) ks)) ≡ true
-    by_number true e a r =
-        let here : is_settled past c k ≡ false = subst (λ (x : ℕ). is_settled past c x ≡ false) (sym (same_number k j e)) h in
-        rw here (or_left (k == j) (list_any (λ k. k == j) (filter (λ k. not (is_settled past c k)) ks)) e)
-    by_number false e a r = go (is_settled past c k) (r a)
-      where
-        go : (b : Bool) → list_any (λ k. k == j) (filter (λ k. not (is_settled past c k)) ks) ≡ true
-            → list_any (λ k. k == j) (cond (not b) (k ∷ filter (λ k. not (is_settled past c k)) ks) (filter (λ k. not (is_settled past c k)) ks)) ≡ true
-        go true r = r
-        go false r = or_right (k == j) (list_any (λ k. k == j) (filter (λ k. not (is_settled past c k)) ks)) r
 
 all_kept : (past more : List Entry) (qs : List (ℕ × ℕ)) → AllAsked past qs → list_any (λ q. is_open past q.0 q.1) qs ≡ false
     → SameVerdicts (past ++ more) past qs

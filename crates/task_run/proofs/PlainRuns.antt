@@ -1,5 +1,5 @@
 -- What runs of any work need of the task's key.
-use Rattle.std.proofs.Common.{◌≡◌, ℕ, List, [], ◌∷◌, refl, arith}
+use Rattle.std.proofs.Common.{◌≡◌, ℕ, List, refl}
 use Rattle.std.specs.Prelude.{Bool, true, false, Option, Some, None, IfSome}
 use Rattle.ann_key.specs.Keys.{Parts, key_reading}
 use Rattle.journal_model.specs.declared.verdict.Verdict.{Verdict}
@@ -8,12 +8,12 @@ use Rattle.task_run.specs.Askers.{KeepsRequest}
 use Rattle.task_run.specs.Requests.{AsksFor}
 use Rattle.std.specs.Prelude.{IsTrue, ◌==◌, ◌&&◌, not}
 use Rattle.std.specs.List.{list_any}
-use Rattle.std.proofs.lemmas.Grind.{common_steps}
 use Rattle.ann_key.specs.Keys.{is_key, is_sendable}
 use Rattle.annex_model.specs.Messages.{is_sent_key}
 use Rattle.task_text.specs.TaskLines.{is_task_key, has_chunk}
 use Rattle.task_run.specs.Checks.{present_request}
 use Rattle.ann_key.proofs.Booleans.{false_is_true as no_way}
+use Rattle.ann_key.proofs.Across.{no_space}
 
 -- what holds of every reading of a key holds where there is one
 pub of_reading : (text : List ℕ) (P : Parts → Type 0) → ((key : Parts) → key_reading text ≡ Some key → P key) → IfSome (key_reading text) P
@@ -29,10 +29,6 @@ asks_for_check text key None v n e k = k
 asks_for_check text key (Some q) v n e k = rw k (refl, e)
 
 -- ---- keys that can be sent
-
-no_space : (key : List ℕ) → is_sendable key ≡ true → list_any (λ b. b == 32) key ≡ false
-no_space [] e = refl
-no_space (b ∷ key) e = grind (arith, common_steps, no_space key)
 
 pub task_key_sent : (key : List ℕ) → IsTrue (is_task_key key) → is_sent_key key ≡ true
 task_key_sent key h = both (is_key key) (is_sendable key) (not (has_chunk key)) (list_any (λ b. b == 32) key) h (no_space key)

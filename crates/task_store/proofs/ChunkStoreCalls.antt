@@ -23,6 +23,7 @@ use Rattle.task_run.proofs.GetCallsLaws.{known_skip, known_add, copy_reads, copy
 use Rattle.ann_key.proofs.Lists.{all_more, equal_bytes as same_text, same_name}
 use Rattle.task_run.proofs.HeldLaws.{holds_more as holds_both}
 use Rattle.ann_key.proofs.Booleans.{false_is_true as apart}
+use Rattle.task_run.proofs.Across.{bytes_more}
 
 pub lt_of : (a b : ℕ) → nat_lt a b ≡ true → a < b
 lt_of a b h = grind (arith, nat_tests)
@@ -230,10 +231,6 @@ cut_appends file name from pieces ending h =
     ap concat (filter_map-append (piece_of name) (copy_calls file name from pieces) ending ∙ ap (λ l. filter_map (piece_of name) (copy_calls file name from pieces) ++ l) h
     ∙ append-nil (filter_map (piece_of name) (copy_calls file name from pieces)))
     ∙ copy_appends file name from pieces
-
-pub bytes_more : (reads more : List (ℕ × List ℕ)) → bytes_of (reads ++ more) ≡ bytes_of reads ++ bytes_of more
-bytes_more [] more = refl
-bytes_more (r ∷ reads) more = ap (λ l. r.1 ++ l) (bytes_more reads more) ∙ sym (append_assoc r.1 (bytes_of reads) (bytes_of more))
 
 pub front_of : (a b : List ℕ) → is_front a (a ++ b) ≡ true
 front_of a b = let e : take (length a) (a ++ b) ≡ a = take-append_seam a b in rw e (same_name a)

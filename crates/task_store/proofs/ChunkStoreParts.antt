@@ -26,6 +26,7 @@ use Rattle.task_store.specs.ChunkStoring.{chunk_keys, is_missing_at}
 use Rattle.task_store.proofs.ChunkStoreRuns.{WholeAt, with_size}
 use Rattle.ann_key.proofs.Booleans.{false_is_true as apart}
 use Rattle.ann_key.proofs.Lists.{all_still as all_imp}
+use Rattle.ann_outside.proofs.Across.{count_none}
 
 -- ---- layouts
 
@@ -73,14 +74,6 @@ parts_many setup key size h = ap length (parts_are setup key size h) ∙ range_l
 
 count_step : {X : Type 0} (p : X → Bool) (x : X) (xs : List X) → count_by p (x ∷ xs) ≡ cond (p x) 1 0 + count_by p xs
 count_step p x xs = sum_by-cons (λ y. cond (p y) 1 0) x xs
-
-count_none : {X : Type 0} (p : X → Bool) (xs : List X) → list_all (λ x. not (p x)) xs ≡ true → count_by p xs ≡ 0
-count_none p [] h = refl
-count_none p (x ∷ xs) h = by_test (p x) refl (and_parts (not (p x)) (list_all (λ y. not (p y)) xs) h).0 (count_none p xs (and_parts (not (p x)) (list_all (λ y. not (p y)) xs) h).1)
-  where
-    by_test : (b : Bool) → p x ≡ b → not (p x) ≡ true → count_by p xs ≡ 0 → count_by p (x ∷ xs) ≡ 0
-    by_test true e k r = apart (rw e at k)
-    by_test false e k r = count_step p x xs ∙ rw (e, r) refl
 
 pub count_front : {X : Type 0} (p : X → Bool) (xs ys : List X) → list_all p xs ≡ true → list_all (λ x. not (p x)) ys ≡ true → count_by p (xs ++ ys) ≡ length xs
 count_front p [] ys h k = count_none p ys k

@@ -35,11 +35,11 @@ use Rattle.ann_outside.specs.declared.file_desk.DeskError.{DeskError}
 use Rattle.ann_outside.specs.declared.file_desk.DeskError.TheVariants as E
 use Rattle.fetch_copy.specs.Copies.{copy_calls, EndsWhole, RefusedBy}
 use Rattle.fetch_copy.specs.CopiesOut.{reads_before}
-use Rattle.task_run.specs.Reads.{is_known, piece_of, appended, reads_of, bytes_of, is_at_end}
+use Rattle.task_run.specs.Reads.{is_known, piece_of, appended, reads_of, bytes_of}
 use Rattle.std.specs.Prelude.{nat_le}
 use Rattle.task_run.proofs.FileNames.{chunk_not_part}
 use Rattle.task_run.proofs.GetCallsLaws.{found_more, placed, bytes_placed}
-use Rattle.task_store.proofs.ChunkStoreCalls.{own, Cutting, cutting_removed, Fills, fills_removed, cutting_create, cut_reads, cut_appends, bytes_more}
+use Rattle.task_store.proofs.ChunkStoreCalls.{own, Cutting, cutting_removed, Fills, fills_removed, cutting_create, cut_reads, cut_appends}
 use Rattle.task_store.proofs.ChunkStoreRuns.{front_same, front_asked, still_removed}
 use Rattle.task_store.specs.ChunkStoring.{from_file, Cut, Chunk, NotMade, NotCopied, CutShort, Unasked, Undone, Settled, cut_calls, chunk_calls, chunk_asked, chunk_result, ChunkIs, is_settled_at}
 use Rattle.task_store.proofs.ChunkStoreEnds.{Missing, store_task, are_free, all_done_free, end_memory, end_call, end_asking, calls_of, front_asks, chunked_is, sought_free, sought_length, sought_split, run_finished}
@@ -55,6 +55,7 @@ use Rattle.task_store.proofs.ChunkStoreSteps.{Copied, copied_of, last_read, whol
 use Rattle.ann_key.proofs.Lists.{same_name, all_still as all_imp, all_more, other_name}
 use Rattle.ann_key.proofs.Booleans.{false_is_true as apart}
 use Rattle.ann_key.proofs.Numbers.{same_number as nat_same}
+use Rattle.task_run.proofs.Across.{at_end-snoc as at_end_snoc, bytes_more}
 
 -- ---- answers
 
@@ -287,11 +288,6 @@ settled_free Unsent b h = apart h
 settled_free (Unsupported at) b h = apart h
 settled_free (Absent at) b h = apart h
 settled_free (Unknown at) b h = apart h
-
-at_end_snoc : (rs : List (ℕ × List ℕ)) (at : ℕ) → is_at_end (rs ++ (at, []) ∷ []) ≡ true
-at_end_snoc [] at = refl
-at_end_snoc (r ∷ []) at = refl
-at_end_snoc (r ∷ s ∷ rs) at = at_end_snoc (s ∷ rs) at
 
 -- how a chunk that was not stored ends the store
 pub chunk_ends : (setup : Setup) (t : TaskTurn) (key : Parts) (text file : List ℕ) (layouts : List (ℕ × ℕ)) (size f : ℕ) (qs ts : List Asking) (calls : List Call) (c : ℕ) (how : Chunk)

@@ -18,11 +18,6 @@ use Rattle.task_text.proofs.Marks.{before_space, after_space, split_at_space}
 use Rattle.task_text.proofs.Parts.{AreParts, parts_of_rest, whole_rest, some_rest, file_right, name_right, onto_right, file_apart, file_wanted, name_wanted, onto_wanted, lacks_none}
 use Rattle.ann_key.proofs.Lists.{found_so as find_some}
 
-found_here : {X : Type 0} (p : X → Bool) (y x : X) (o : Option X) (b : Bool) → p y ≡ b → (o ≡ Some x → p x ≡ true)
-    → cond b (Some y) o ≡ Some x → p x ≡ true
-found_here p y x o true e later h = let same : y ≡ x = cc in subst (λ z. p z ≡ true) same e
-found_here p y x o false e later h = later h
-
 -- the word of the work that a word names
 pub word_named : (word : List ℕ) (work : Work) → work_of word ≡ Some work → word ≡ word_of work
 word_named word work h =

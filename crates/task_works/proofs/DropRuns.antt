@@ -36,6 +36,7 @@ use Rattle.task_text.specs.Works.{has_name}
 use Rattle.task_store.proofs.ChunkStoreTasks.{all_counted as count_all}
 use Rattle.ann_key.proofs.Booleans.{false_is_true as apart}
 use Rattle.task_run.proofs.Lists.{but_last, all_taken as all_take}
+use Rattle.task_run.proofs.Across.{order_fits}
 
 -- ---- what a drop notes
 
@@ -116,11 +117,6 @@ order_front : (ask : ℕ → List ℕ → HostMessage) (n : ℕ) (keys more : Li
 order_front ask n keys more [] o = tt
 order_front ask n [] more (a ∷ asked) o = absurd o
 order_front ask n (k ∷ keys) more (a ∷ asked) o = (o.0, order_front ask (n + 1) keys more asked o.1)
-
-order_fits : (ask : ℕ → List ℕ → HostMessage) (n : ℕ) (keys : List Parts) (asked : List Asking) → AskInOrder ask n keys asked → length asked ≤ length keys
-order_fits ask n keys [] o = omega arith
-order_fits ask n [] (a ∷ asked) o = absurd o
-order_fits ask n (k ∷ keys) (a ∷ asked) o = omega (arith, order_fits ask (n + 1) keys asked o.1)
 
 -- ---- a drop so far
 

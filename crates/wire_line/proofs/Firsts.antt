@@ -9,6 +9,7 @@ use Rattle.annex_model.specs.Lines.{has_newline, text}
 use Rattle.wire_line.specs.HeldBytes.{has_line, first_line, after_line, TakesLine}
 use Rattle.memchr.specs.Find.{IsFirstByte, is_byte}
 use Rattle.ann_key.proofs.Booleans.{never_true as no_true}
+use Rattle.annex_model.proofs.Across.{text-append}
 
 -- the place of the first byte 10, or the length
 abbrev pub end_of : List ℕ → ℕ
@@ -48,10 +49,6 @@ pub split_line : (bytes : List ℕ) → end_of bytes < length bytes → bytes �
 split_line bytes within =
     split_at_first (λ b. b == 10) bytes 0 within
     ∙ ap (λ x. first_line bytes ++ x ∷ after_line bytes) (eqb-true _ 10 (passes_at_first (λ b. b == 10) bytes 0 within))
-
-text-append : (xs ys : List (List ℕ)) → text (xs ++ ys) ≡ text xs ++ text ys
-text-append [] ys = refl
-text-append (x ∷ xs) ys = rw (text-append xs ys) (sym (append_assoc x (10 ∷ text xs) (text ys)))
 
 -- the line that is dropped joins the lines of the cut
 pub takes_line : (bytes : List ℕ) → end_of bytes < length bytes → TakesLine bytes (first_line bytes) (after_line bytes)

@@ -1,8 +1,9 @@
 use Rattle.std.proofs.Common.{◌≡◌, ◌∙◌, ◌≤◌, ◌+◌, ◌-◌, Ok, [], take, drop, refl, arith}
 use Rattle.ann_outside.specs.Files.{AppendDoes}
 use Rattle.desk_file.specs.Writes.{HasGrown}
-use Rattle.desk_file.proofs.WriteLaws.{appending_nothing, appending_more, appends_refused, where_same, where_then, grows_nothing, grows_more}
+use Rattle.desk_file.proofs.WriteLaws.{appending_nothing, appending_more, appends_refused, grows_nothing, grows_more}
 use Rattle.desk_file.proofs.writing.append_all.Goals as goal
+use Rattle.ann_outside.proofs.Across.{told_refl as where_same, where_then}
 
 pub loop-at-init : goal.loop-at-init
 loop-at-init g c = record {

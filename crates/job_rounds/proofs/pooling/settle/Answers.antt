@@ -2,8 +2,9 @@ use Rattle.std.proofs.Common.{◌∙◌, sym, ap, arith, refl}
 use Rattle.child_end.specs.Wires.{wire_value}
 use Rattle.crew_rounds.specs.Tagged.{link_of}
 use Rattle.pool_starts.specs.Pools.{seat_value}
-use Rattle.job_rounds.proofs.PoolLinks.{laying_begins, laying_ends, laying_over, laying_served, stays_both, stays_same}
+use Rattle.job_rounds.proofs.PoolLinks.{laying_begins, laying_ends, laying_over, laying_served, stays_same}
 use Rattle.job_rounds.proofs.pooling.settle.Goals as goal
+use Rattle.ann_outside.proofs.Across.{stays_both}
 
 pub seats-init : goal.seats-init
 seats-init g c = record {

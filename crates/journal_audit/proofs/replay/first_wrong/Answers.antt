@@ -2,8 +2,9 @@ use Rattle.std.proofs.Common.{◌∙◌, ◌<◌, ◌+◌, List, Option, length,
 use Rattle.journal_model.specs.declared.entry.Entry.{Entry}
 use Rattle.journal_scan.specs.Shown.{entry_shown}
 use Rattle.journal_audit.specs.Replays.{IsNext, IsReplayed}
-use Rattle.journal_audit.proofs.Auditing.{next_here, wrong_here, replayed_more, replayed_whole, read_there, some_there}
+use Rattle.journal_audit.proofs.Auditing.{next_here, wrong_here, replayed_more, replayed_whole, read_there}
 use Rattle.journal_audit.proofs.replay.first_wrong.Goals as goal
+use Rattle.journal_model.proofs.Across.{no_gap as some_there}
 
 pub unreachable-requires : goal.unreachable-requires
 unreachable-requires c =

@@ -1,6 +1,7 @@
 use Rattle.std.proofs.Common.{[], ◌∷◌}
-use Rattle.kit_serve.proofs.Texts.{prefix_more, prefix_longer}
+use Rattle.kit_serve.proofs.Texts.{prefix_more}
 use Rattle.kit_serve.proofs.writing.write_line.Goals as goal
+use Rattle.ann_outside.proofs.Across.{prefix_longer}
 
 pub returns-clause-prefix : goal.returns-clause-prefix
 returns-clause-prefix g c =

@@ -2,10 +2,10 @@ use Rattle.std.proofs.Common.{◌∙◌, sym, subst, List, arith}
 use Rattle.std.specs.Vec.Iter.{into_iter_items}
 use Rattle.mirror_children.specs.Children.{ChildValue}
 use Rattle.mirror_starts.specs.Stops.{StopsAll}
-use Rattle.mirror_starts.proofs.Begun.{stays_both}
 use Rattle.mirror_starts.proofs.Passing.{all_passed, next_linked, next_room, shifted}
 use Rattle.mirror_starts.proofs.Stopping.{stops_next}
 use Rattle.mirror_starts.proofs.stopped.stop_all.Goals as goal
+use Rattle.ann_outside.proofs.Across.{stays_both}
 
 pub stop-requires-clause-linked : goal.stop-requires-clause-linked
 stop-requires-clause-linked g c κs within =

@@ -1,6 +1,7 @@
 use Rattle.std.proofs.Common.{[], ◌∷◌}
-use Rattle.plain_carry.proofs.Prefixes.{prefix_more, prefix_longer}
+use Rattle.plain_carry.proofs.Prefixes.{prefix_more}
 use Rattle.plain_carry.proofs.writing.write_whole.Goals as goal
+use Rattle.ann_outside.proofs.Across.{prefix_longer}
 
 pub returns-clause-prefix : goal.returns-clause-prefix
 returns-clause-prefix g c =

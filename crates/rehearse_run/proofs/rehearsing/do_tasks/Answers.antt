@@ -1,8 +1,9 @@
 use Rattle.std.proofs.Common.{◌∙◌, sym, subst}
 use Rattle.lone_work.specs.Works.{AreTasks}
 use Rattle.rehearse_run.proofs.Faultless.{faultless}
-use Rattle.rehearse_run.proofs.Running.{all_tasks, has_run, quiet_wires, run_of}
+use Rattle.rehearse_run.proofs.Running.{has_run, quiet_wires, run_of}
 use Rattle.rehearse_run.proofs.rehearsing.do_tasks.Goals as goal
+use Rattle.lone_work.proofs.Across.{all_tasks}
 
 pub run_jobs-bench-requires-clause-tasks : goal.run_jobs-bench-requires-clause-tasks
 run_jobs-bench-requires-clause-tasks g c κs within =

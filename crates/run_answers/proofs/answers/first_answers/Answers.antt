@@ -3,8 +3,9 @@ use Rattle.std.proofs.lemmas.List.{with_items_is}
 use Rattle.journal_scan.specs.Shown.{entry_shown}
 use Rattle.journal_model.specs.declared.answer.Answer.{Answer}
 use Rattle.run_answers.specs.Answering.{HoldsAnswers, TakesUp}
-use Rattle.run_answers.proofs.Answering.{holds_none, holds_more, no_gap}
+use Rattle.run_answers.proofs.Answering.{holds_none, holds_more}
 use Rattle.run_answers.proofs.answers.first_answers.Goals as goal
+use Rattle.journal_model.proofs.Across.{no_gap}
 
 pub loop-at-init : goal.loop-at-init
 loop-at-init c =

@@ -6,13 +6,13 @@ use Rattle.lone_rounds.specs.Rounds.{IsWhole}
 use Rattle.lone_work.specs.Works.{AreTasks, desk_tells}
 use Rattle.run_answers.specs.Answering.{AreAllAnswered}
 use Rattle.run_answers.proofs.Answered.{all_answered}
-use Rattle.run_tasks.proofs.Begun.{all_tasks}
 use Rattle.run_tasks.proofs.Crews.{tells_tables}
 use Rattle.run_tasks.proofs.Leaving.{leaves_named, ok_err}
 use Rattle.run_tasks.proofs.Origins.{origins_stay}
 use Rattle.run_tasks.proofs.Working.{is_worked, ends_finished, ends_wanting}
 use Rattle.desk_file.proofs.Naming.{names_none}
 use Rattle.run_tasks.proofs.rounds.do_all.Goals as goal
+use Rattle.lone_work.proofs.Across.{all_tasks}
 
 pub run_jobs-bench-requires-clause-tasks : goal.run_jobs-bench-requires-clause-tasks
 run_jobs-bench-requires-clause-tasks g c κs within =

@@ -9,12 +9,12 @@ use Rattle.init_run.specs.declared.setup.Setup.TheVariants.{Initialized, Stopped
 use Rattle.special_cli.specs.declared.end.End.TheVariants.{Memory}
 use Rattle.child_end.specs.Programs.{programs_value}
 use Rattle.child_end.specs.Outsides.{table_value}
-use Rattle.special_cli.proofs.Informed.{nothing_legal}
 use Rattle.special_cli.proofs.Keeping.{ends_set, ends_stopped, ends_wanting, outcome_ok, ok_err}
 use Rattle.special_cli.proofs.Leaving.{leaves_nothing}
 use Rattle.special_cli.proofs.init.run.Goals as goal
 use Rattle.special_cli.proofs.init.run.Goals.{in-Ok-Initialized, in-Ok-Stopped, in-Err}
 use Rattle.run_tasks.proofs.Leaving.{leaves_named}
+use Rattle.journal_model.proofs.Across.{nothing_legal}
 
 pub returns-in_default-clause-leaves : goal.returns-in_default-clause-leaves
 returns-in_default-clause-leaves g c =

@@ -1,9 +1,9 @@
 use Rattle.std.proofs.Common.{rules}
 use Rattle.std.specs.Prelude.{option_map}
 use Rattle.ann_key.specs.KeyRefs.{text_of}
-use Rattle.special_cli.proofs.Informed.{nothing_legal}
 use Rattle.special_cli.proofs.Talking.{unready_talked, refused_complete, ended_complete, unsent_complete, ready_talked, ready_complete, if_ok}
 use Rattle.special_cli.proofs.info.interview.hold_interview.Goals as goal
+use Rattle.journal_model.proofs.Across.{nothing_legal}
 
 pub returns-in-Ready-clause-met : goal.returns-in-Ready-clause-met
 returns-in-Ready-clause-met g c = record {
