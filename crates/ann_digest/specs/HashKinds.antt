@@ -37,7 +37,7 @@ kind_of backend =
     else if bytes_eq backend (codes "SHA512") then Some Sha512
     else None
 
--- the backend that names keys this way: an E stands behind the hash function where an extension may follow
+-- the backend that names keys this way: an E follows the hash function where an extension may follow
 abbrev pub naming_backend : Naming → List ℕ
 naming_backend naming = backend_of naming.kind ++ (if naming.extended then codes "E" else [])
 

@@ -6,7 +6,7 @@ use std::fmt;
 /// A digest of at most 64 bytes. It is printed in lower-case hex.
 #[derive(Clone, Copy, Debug, PartialEq, Eq)]
 pub struct Digest {
-    /// The digest, and zeros behind it.
+    /// The digest, and zeros after it.
     pub bytes: [u8; 64],
     /// How many of the bytes are the digest.
     pub len: u8,

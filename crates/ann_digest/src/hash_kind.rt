@@ -62,7 +62,7 @@ fn extended_naming(front: &[u8]) -> Option<Naming>
     })
 }
 
-/// Whether the name is the text, or the text and behind it what the naming allows.
+/// Whether the name is the text, or the text and after it what the naming allows.
 pub fn is_named(name: &[u8], text: &[u8], extended: bool) -> bool
     ensures { IsTrue result ↔ IsNamed extended text.now name.now }
 {

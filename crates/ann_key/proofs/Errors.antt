@@ -96,7 +96,7 @@ mtime_read backend s m rest size mtime class f g d h k b =
     (λ e. backend_stop 109 mtime m rest g (b e))
     ∙ ap (timed backend size) (field_scan 109 mtime m rest refl g d h)
 
--- what may stand behind a front with these fields, as the scan needs it
+-- what may follow a front with these fields, as the scan needs it
 pub record Stops (key : Parts) (rest : List ℕ) : Type 0 where
   pub digits : prefix_len is_digit rest ≡ 0
   pub backend : key.size ≡ None → key.mtime ≡ None → key.chunk ≡ None → prefix_len is_backend_byte rest ≡ 0
@@ -110,7 +110,7 @@ front_text text rest key s =
     ∙ append_assoc key.backend (s.size ++ (s.mtime ++ s.chunk)) rest
     ∙ ap (λ (x : List ℕ). key.backend ++ x) (append_assoc s.size (s.mtime ++ s.chunk) rest ∙ ap (λ (x : List ℕ). s.size ++ x) (append_assoc s.mtime s.chunk rest))
 
--- behind a front the name is read
+-- after a front the name is read
 front_scan : (text rest : List ℕ) (key : Parts) → IsFront text key → Stops key rest
     → key_reading (text ++ rest) ≡ named key.backend key.size key.mtime (Some (key.chunk, rest))
 front_scan text rest key s t =
@@ -126,7 +126,7 @@ pub empty_chunk : (o : Option (ℕ × ℕ)) (text : List ℕ) → o ≡ None →
 empty_chunk None text e f = f
 empty_chunk (Some c) text e f = absurd cc
 
--- behind a front with no chunk the chunk is read
+-- after a front with no chunk the chunk is read
 chunk_read : (text rest : List ℕ) (key : Parts) → IsFront text key → key.chunk ≡ None
     → prefix_len is_digit rest ≡ 0 → (key.mtime ≡ None → begins 45 109 rest ≡ false) → (key.size ≡ None → key.mtime ≡ None → begins 45 115 rest ≡ false)
     → (key.size ≡ None → key.mtime ≡ None → prefix_len is_backend_byte rest ≡ 0)
@@ -256,7 +256,7 @@ may_parts d c m s nc nm ns h =
       λ a b e. and_left s nc (and_left (s && nc) nm (and_left (s && nc && nm) ns t.1 e) b) a,
     )
 
--- behind a dash stands none of the bytes that may stand there
+-- after a dash stands none of the bytes that may stand there
 stops_at_dash : (key : Parts) (more : List ℕ) → first_is (may_follow (Fields key)) more ≡ false → Stops key (45 ∷ more) × (begins 45 45 (45 ∷ more) ≡ false)
 stops_at_dash key [] h = (record { digits = refl; backend = λ a b c. refl; size = λ a b c. refl; mtime = λ a b. refl; chunk = λ a. refl }, refl)
 stops_at_dash key (x ∷ more) h = (
@@ -281,7 +281,7 @@ stops_at_dash key (x ∷ more) h = (
     none_field : (o : Option ℕ) → o ≡ None → not (is_some o) ≡ true
     none_field o e = rw e refl
 
--- behind -S and a chunk size the number of the chunk is read
+-- after -S and a chunk size the number of the chunk is read
 sized_scan : (text rest : List ℕ) (key : Parts) (s : IsSizedFront text key) → prefix_len is_digit rest ≡ 0
     → key_reading (text ++ rest) ≡ named key.backend key.size key.mtime (chunk_after (Some (s.size, rest)))
 sized_scan text rest key s d =

@@ -118,7 +118,7 @@ chunk_front bytes n at end size mtime chunk f h = record { within = h.1; front =
 
 -- ---- what stops the scan
 
--- two dashes or a letter behind one
+-- two dashes or a letter after one
 split_at : (bytes : List ℕ) (at letter : ℕ) → begins 45 letter (drop at bytes) ≡ true → bytes ≡ take at bytes ++ 45 ∷ letter ∷ drop (at + 2) bytes
 split_at bytes at letter b =
     sym (take-append-drop at bytes)
@@ -138,13 +138,13 @@ number_stop bytes at letter begun w is b bad may = record {
   no_number = ap not bad;
 }
 
--- a letter behind which no number stands, of the size or of the time
+-- a letter after which no number stands, of the size or of the time
 pub field_stop : (bytes : List ℕ) (n at letter : ℕ) (size mtime : Option ℕ) (e : KeyError) → FrontAt bytes n at size mtime None → FieldScan bytes at letter (Err e)
     → (not (letter == 45) && may_follow (Fields (parts bytes n size mtime None (97 ∷ []))) letter) ≡ true → IsError bytes e
 field_stop bytes n at letter size mtime e f h may =
     subst (IsError bytes) (sym h.2) (number_stop bytes at letter (Fields (parts bytes n size mtime None (97 ∷ []))) f.within (f.front (97 ∷ []) refl) h.0 h.1 may)
 
--- no dash, or none of what may stand behind it
+-- no dash, or none of what may follow it
 byte_stop : (bytes : List ℕ) (at : ℕ) (begun : Begun) → at ≤ length bytes → IsBegun (take at bytes) begun
     → ((more : List ℕ) → drop at bytes ≡ 45 ∷ more → first_is (may_follow begun) more ≡ false)
     → (first_is (λ b. b == 45) (drop at bytes) ≡ false → (ends_in_number begun ≡ true) × (first_is is_digit (drop at bytes) ≡ false))
@@ -180,7 +180,7 @@ byte_stop bytes at begun w is dash none = go (first_is (λ b. b == 45) (drop at 
       stop = inl ((none e).0, len, ap not (neither (drop at bytes) e (none e).1));
     }
 
--- ---- behind a number stands no digit
+-- ---- after a number stands no digit
 
 after_prefix : (p : ℕ → Bool) (xs : List ℕ) → first_is p (drop (prefix_len p xs) xs) ≡ false
 after_prefix p [] = refl
@@ -347,13 +347,13 @@ none_of d c m s nc nm ns hd hc hm hs =
     let es : (s && nc && nm && ns) ≡ false = and_no (s && nc && nm) ns (λ x. and_no (s && nc) nm (λ a. and_no s nc (λ b. hs b a x))) in
     rw (hd, ec, em, es) refl
 
--- the texts of the fields that were read, each behind the last
+-- the texts of the fields that were read, each after the last
 pub record Fielded (r0 r1 r2 r3 : List ℕ) (size mtime : Option ℕ) (chunk : Option (ℕ × ℕ)) : Type 0 where
   pub size_is : field_at 115 r0 ≡ Some (size, r1)
   pub mtime_is : field_at 109 r1 ≡ Some (mtime, r2)
   pub chunk_is : chunk_at r2 ≡ Some (chunk, r3)
 
--- none of the letters that may follow stands behind the dash
+-- none of the letters that may follow stands after the dash
 nothing_follows : (r0 r1 r2 more : List ℕ) (size mtime : Option ℕ) (chunk : Option (ℕ × ℕ)) (backend name : List ℕ) → Fielded r0 r1 r2 (45 ∷ more) size mtime chunk
     → begins 45 45 (45 ∷ more) ≡ false → first_is (may_follow (Fields record { backend = backend; size = size; mtime = mtime; chunk = chunk; name = name })) more ≡ false
 nothing_follows r0 r1 r2 [] size mtime chunk backend name f d = refl

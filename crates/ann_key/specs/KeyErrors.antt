@@ -16,7 +16,7 @@ pub data Begun : Type 0 where
   Fields : Parts → Begun
   ChunkSize : Parts → Begun
 
--- two dashes and a name behind the text make a key
+-- two dashes and a name after the text make a key
 abbrev pub IsFront : List ℕ → Parts → Type 0
 IsFront text key = IsKey (text ++ 45 ∷ 45 ∷ key.name) key
 
@@ -34,7 +34,7 @@ abbrev pub IsBegun : List ℕ → Begun → Type 0
 IsBegun text (Fields key) = IsFront text key
 IsBegun text (ChunkSize key) = IsSizedFront text key
 
--- which byte may stand behind the next dash: a dash, or the letter of a field that comes later than those that stand
+-- which byte may follow the next dash: a dash, or the letter of a field that comes later than those that stand
 abbrev pub may_follow : Begun → ℕ → Bool
 may_follow (ChunkSize key) b = b == 67
 may_follow (Fields key) b =
@@ -47,7 +47,7 @@ abbrev pub ends_in_number : Begun → Bool
 ends_in_number (ChunkSize key) = true
 ends_in_number (Fields key) = is_some key.size || is_some key.mtime || is_some key.chunk
 
--- the longest run of digits is a number that may stand behind the letter: those of a chunk are at least 1
+-- the longest run of digits is a number that may follow the letter: those of a chunk are at least 1
 abbrev pub is_number_of : ℕ → List ℕ → Bool
 is_number_of letter rest =
     is_numeral (take (prefix_len is_digit rest) rest)
@@ -80,7 +80,7 @@ pub record IsBadNumber (bytes : List ℕ) (at : ℕ) : Type 0 where
   pub place : at ≡ length front + 2
   pub no_number : IsTrue (not (is_number_of letter rest))
 
--- behind the two dashes stands nothing, or the first byte 10 stands at `at`
+-- after the two dashes stands nothing, or the first byte 10 stands at `at`
 pub record IsBadName (bytes : List ℕ) (at : ℕ) : Type 0 where
   pub front : List ℕ
   pub name : List ℕ

@@ -21,7 +21,7 @@ FieldScan bytes at letter (Ok p) = (field_at letter (drop at bytes) ≡ Some (p.
 FieldScan bytes at letter (Err e) =
     (begins 45 letter (drop at bytes) ≡ true) × (is_number_of letter (drop (at + 2) bytes) ≡ false) × (e ≡ Number (at + 2))
 
--- the place of the byte that isn't a dash, or isn't one that may stand behind it
+-- the place of the byte that isn't a dash, or isn't one that may follow it
 abbrev pub stop_place : List ℕ → ℕ → ℕ
 stop_place bytes at = if first_is (λ b. b == 45) (drop at bytes) then at + 1 else at
 

@@ -10,7 +10,7 @@ appends_both (Some s) None c x y p q = absurd p
 appends_both (Some s) (Some t) None x y p q = absurd q
 appends_both (Some s) (Some t) (Some u) x y p q = q ∙ ap (λ (l : List ℕ). l ++ y) p ∙ append_assoc s x y
 
--- the next n bytes behind the first
+-- the next n bytes after the first
 pub taken_next : (a b c : Option (List ℕ)) (bytes : List ℕ) (at n : ℕ) → Appends a b (take at bytes)
     → Appends b c (take n (take (length bytes - at) (drop at bytes))) → Appends a c (take (at + n) bytes)
 taken_next a b c bytes at n p q =

@@ -46,7 +46,7 @@ infos_before (f ∷ v ∷ xs) m ms h =
     let u = both (is_infofield f) (is_infovalue v) t.0 in
     rw (u.0, u.1, infos_before xs m ms t.1) refl
 
--- by the shape, behind at least one message
+-- by the shape, after at least one message
 shape_before : (s : Shape) (q : HostMessage) (x : Option RemoteMessage) (xs : Said) (m : Option RemoteMessage) (ms : Said)
     → IsSome (by_shape s q (x ∷ xs ++ m ∷ ms)) → may_go_on s (x ∷ xs) ≡ true
 shape_before OneLine q x [] m ms h = absurd (none_not (said_alone q (x ∷ m ∷ ms)) (two_alone q x m ms) h)

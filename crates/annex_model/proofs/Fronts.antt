@@ -36,7 +36,7 @@ with_value ms = ms ++ Some (Infovalue []) ∷ []
 abbrev with_end : List (Option RemoteMessage) → List (Option RemoteMessage)
 with_end ms = ms ++ Some Infoend ∷ []
 
--- at once, or behind a field once it has its value
+-- at once, or after a field once it has its value
 infos_end : (ms : List (Option RemoteMessage)) → are_pairs ms ≡ true
     → (are_infos (with_end ms) ≡ true) ⊎ ((are_pairs (with_value ms) ≡ true) × (are_infos (with_end (with_value ms)) ≡ true))
 infos_end [] h = inl refl

@@ -1,4 +1,4 @@
--- Behind a front that awaits a line, a message that is no aside is foul exactly where it can't follow.
+-- After a front that awaits a line, a message that is no aside is foul exactly where it can't follow.
 use Rattle.std.proofs.Common.{◌≡◌, ℕ, List, [], ◌∷◌, ◌++◌, refl, sym, ap, subst, ◌∙◌, append_assoc, append-nil, Bool, true, false, Some, None, Option, ◌⊎◌, inl, inr}
 use Rattle.std.specs.Prelude.{IsSome, if◌then◌else◌}
 use Rattle.annex_model.specs.declared.final_line.Final.{Final}
@@ -38,7 +38,7 @@ module _ (replies : ℕ → List (List ℕ)) (q : HostMessage) (part : List Item
     line_is_plain : remote_reading text ≡ Some m → is_aside m ≡ false → item_is_aside (from_remote at text) ≡ false
     line_is_plain reads plain = ap spells_aside reads ∙ plain
 
-    -- what is said with the line, and with more behind it
+    -- what is said with the line, and with more after it
     said_with : (more : List Item) → remote_reading text ≡ Some m → is_aside m ≡ false
         → said (part ++ from_remote at text ∷ more) ≡ (said part ++ Some m ∷ []) ++ said more
     said_with more reads plain =

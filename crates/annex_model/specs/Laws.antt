@@ -15,12 +15,12 @@ FrontsTalk =
     (replies : ℕ → List (List ℕ)) (q : HostMessage) (part : List Item) → ConvFront replies q part
     → Talking replies q part ⊎ Conv replies q part
 
--- no lines behind the remote's line at this place make a conversation of the part with it
+-- no lines after the remote's line at this place make a conversation of the part with it
 abbrev pub CannotFollow : (ℕ → List (List ℕ)) → HostMessage → List Item → ℕ → List ℕ → Type 0
 CannotFollow replies q part at text =
     (more : List Item) → Conv replies q (part ++ record { side = Remote; at = at; text = text } ∷ more) → ⊥
 
--- Behind a front that awaits a line, a message that is no aside is foul exactly where it can't follow.
+-- After a front that awaits a line, a message that is no aside is foul exactly where it can't follow.
 abbrev pub FoulCannotFollow : Type 0
 FoulCannotFollow =
     (replies : ℕ → List (List ℕ)) (q : HostMessage) (part : List Item) (at : ℕ) (text : List ℕ) (m : RemoteMessage)

@@ -28,7 +28,7 @@ pub fn fronts_talk()
     ensures { FrontsTalk }
 {}
 
-/// Behind a front that awaits a line, a message that is no aside is foul exactly where no lines behind it make a conversation.
+/// After a front that awaits a line, a message that is no aside is foul exactly where no lines after it make a conversation.
 pub fn foul_cannot_follow()
     ensures { FoulCannotFollow }
 {}

@@ -27,7 +27,7 @@ pub(crate) fn creds(alloc: Global, user: &[u8], password: &[u8]) -> Result<Vec<B
     Ok(lines)
 }
 
-// One line for each URL of the key that begins with the prefix, and one with an empty value behind them.
+// One line for each URL of the key that begins with the prefix, and one with an empty value after them.
 pub(crate) fn urls(
     alloc: Global,
     registers: &Registers,

@@ -13,7 +13,7 @@ use reg_file::Registers;
 use std::alloc::Global;
 use wire_msg::RemoteMsg;
 
-/// The lines that the message is owed, by what the registers held before it; behind the call they hold what it sets. A message
+/// The lines that the message is owed, by what the registers held before it; after the call they hold what it sets. A message
 /// that is no aside is owed nothing and sets nothing.
 ///
 /// <https://git-annex.branchable.com/design/external_special_remote_protocol/> has the messages.

@@ -1,4 +1,4 @@
--- Notes in order: those of a key at a remote stand together, behind its first place.
+-- Notes in order: those of a key at a remote stand together, after its first place.
 use Rattle.std.proofs.Common.{◌≡◌, ℕ, ◌<◌, Bool, true, false, not, cond, List, [], ◌∷◌, refl, sym, ap, subst, ◌∙◌, arith}
 use Rattle.std.specs.Prelude.{◌&&◌, filter, map, bytes_eq}
 use Rattle.std.specs.List.{list_all}
@@ -53,7 +53,7 @@ module _ (key uuid : List ℕ) where
       let p = tied (slice_cmp nat_cmp x.key key) (slice_cmp nat_cmp x.line.uuid uuid) e in
       rw ((bytes_eq-Decides x.key key).1 (same_text x.key key p.0), (bytes_eq-Decides x.line.uuid uuid).1 (same_text x.line.uuid uuid p.1)) refl
 
-  -- behind a note that stands at or behind the first place, and is not of them, none is
+  -- after a note that stands at or after the first place, and is not of them, none is
   passed : (x y : Note) (o : Ordering) → head_cmp x ≡ o → is_lt o ≡ false → is_at key uuid x ≡ false → is_before x y ≡ true → is_at key uuid y ≡ true → ⊥
   passed x y Less e low off next at = false≢true (sym low)
   passed x y Equal e low off next at = false≢true (sym off ∙ is_at-equal x e)

@@ -56,7 +56,7 @@ pushed test line (x ∷ xs) note =
     let more = pushed test (cond (test x) (newer line x) line) xs note in
     step test line x (xs ++ note ∷ []) ∙ more ∙ ap (λ (l : Option ChunkLine). cond (test note) (newer l note) l) (sym (step test line x xs))
 
--- behind a note that doesn't stand before another, none is of the other's place
+-- after a note that doesn't stand before another, none is of the other's place
 none : (key uuid : List ℕ) (chunk : ℕ) (x note : Note) → is_of key uuid chunk note ≡ true → is_before x note ≡ false
     → (xs : List Note) → list_all (is_before x) xs ≡ true → (line : Option ChunkLine) → go_on (is_of key uuid chunk) line xs ≡ line
 none key uuid chunk x note own after [] all line = refl

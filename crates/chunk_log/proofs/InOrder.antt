@@ -11,7 +11,7 @@ use Rattle.chunk_log.specs.declared.note.Note.{Note}
 use Rattle.chunk_log.proofs.Places.{place_total}
 use Rattle.ann_key.proofs.Orderings.{less}
 
--- what stands behind a note stands behind each that has its place, or stands before it
+-- what follows a note follows each that has its place, or stands before it
 alike : (x note : Note) → place_cmp x note ≡ Equal → (xs : List Note) → list_all (is_before x) xs ≡ true → list_all (is_before note) xs ≡ true
 alike x note e [] all = refl
 alike x note e (y ∷ ys) all =

@@ -15,7 +15,7 @@ use Rattle.ann_key.proofs.Orderings.{less}
 turned : (x y : Note) (o : Ordering) → place_cmp x y ≡ o → place_cmp y x ≡ ordering_reverse o
 turned x y o e = place_total.antisymm y x ∙ ap ordering_reverse e
 
--- none of those behind a note has the place of one that stands before it
+-- none of those after a note has the place of one that stands before it
 none_there : (note x : Note) → place_cmp note x ≡ Less → (xs : List Note) → list_all (is_before x) xs ≡ true → find (λ there. is_eq (place_cmp note there)) xs ≡ None
 none_there note x e [] all = refl
 none_there note x e (y ∷ ys) all =

@@ -15,7 +15,7 @@ is_space b = b == 32
 abbrev pub is_colon : ℕ → Bool
 is_colon b = b == 58
 
--- what stands before the first space, and the word and the rest behind it
+-- what stands before the first space, and the word and the rest after it
 abbrev pub stamp_part : List ℕ → List ℕ
 stamp_part line = before_first is_space line
 
@@ -36,7 +36,7 @@ abbrev pub counts_from : Option ℕ → Option ℕ → Option (ℕ × ℕ)
 counts_from (Some chunk) (Some count) = if chunk == 0 then None else Some (chunk, count)
 counts_from chunk count = None
 
--- the chunk size behind the last colon, which isn't 0, and the number of chunks
+-- the chunk size after the last colon, which isn't 0, and the number of chunks
 abbrev pub counts_in : List ℕ → List ℕ → Option (ℕ × ℕ)
 counts_in word count = counts_from (number_in (after_last is_colon word)) (number_in count)
 

@@ -12,7 +12,7 @@ pub fn first(bytes: &[u8], byte: u8) -> usize
     bytes.iter().take_while(|b| **b != byte).count()
 }
 
-/// How many bytes stand behind the last such byte.
+/// How many bytes follow the last such byte.
 fn behind_last(bytes: &[u8], byte: u8) -> usize
     ensures value { result ≡ suffix_len (λ b. not (b == byte)) bytes.now }
     ensures bound { result ≤ length bytes.now }

@@ -12,7 +12,7 @@ count_of size chunk = if size == 0 then 1 else div_ceil size chunk
 abbrev pub from_of : ℕ → ℕ → ℕ
 from_of chunk number = (number - 1) * chunk
 
--- the first byte behind it
+-- the first byte after it
 abbrev pub to_of : ℕ → ℕ → ℕ → ℕ
 to_of size chunk number = min (number * chunk) size
 

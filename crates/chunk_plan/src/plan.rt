@@ -17,7 +17,7 @@ pub fn count(size: u64, chunk: u64) -> u64
     if size == 0 { 1 } else { size.div_ceil(chunk) }
 }
 
-/// The first byte of a chunk, and the first one behind it. Chunks are numbered from 1.
+/// The first byte of a chunk, and the first one after it. Chunks are numbered from 1.
 pub fn range(size: u64, chunk: u64, number: u64) -> (u64, u64)
     requires chunk { 0 < chunk }
     requires first { 0 < number }

@@ -18,7 +18,7 @@ plain_uuid = codes "0123456789abcdef0123456789abcdef"
 abbrev pub braced_uuid : List ℕ
 braced_uuid = codes "{01234567-89ab-cdef-0123-456789abcdef}"
 
--- the least words of a run, and these behind them
+-- the least words of a run, and these after them
 abbrev pub run_words : Words → Words
 run_words more = codes "run" ∷ codes "--program" ∷ codes "p" ∷ codes "--uuid" ∷ sample_uuid ∷ more
 

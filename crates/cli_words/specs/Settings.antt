@@ -11,7 +11,7 @@ is_setting s = nat_lt 0 (length s.name) && (is_word s.name && is_line s.value)
 abbrev pub is_equals : ℕ → Bool
 is_equals b = b == 61
 
--- what stands before the first `=` of the word, and all behind it
+-- what stands before the first `=` of the word, and all after it
 abbrev pub setting_at : List ℕ → Setting
 setting_at word = record { name = before_first is_equals word; value = after_first is_equals word }
 
@@ -26,6 +26,6 @@ setting_in word = if spells_setting word then Some (setting_at word) else None
 abbrev pub settings_in : List (List ℕ) → Option (List Setting)
 settings_in words = if list_all spells_setting words then Some (map setting_at words) else None
 
--- the registers with these config values, set one behind the other
+-- the registers with these config values, set one after the other
 abbrev pub set_all : RegisterFile → List Setting → RegisterFile
 set_all r settings = fold (λ r (s : Setting). with_config r s.name s.value) r settings

@@ -20,7 +20,7 @@ is_text text = nat_lt 0 (length text) && not (has_end text)
 abbrev pub is_request : List ℕ → Bool
 is_request word = bytes_eq word (codes "--help") || bytes_eq word (codes "--version")
 
--- what a word behind a command's name has to be
+-- what a word after a command's name has to be
 abbrev pub is_word_of_command : List ℕ → Bool
 is_word_of_command word = is_text word && not (is_request word)
 

@@ -38,7 +38,7 @@ abbrev pub is_help : List (List ℕ) → Bool
 is_help (word ∷ []) = bytes_eq word (codes "--help")
 is_help words = false
 
--- ---- the words behind a command's name
+-- ---- the words after a command's name
 
 abbrev pub check_of : List (List ℕ) → Option Command
 check_of (program ∷ key ∷ []) = Some (Check program key)
@@ -137,7 +137,7 @@ behind word rest =
     else if list_all is_word_of_command rest then of_command word rest
     else None
 
--- the first word, and those behind it
+-- the first word, and those after it
 abbrev pub all_behind : List (List ℕ) → Option Command
 all_behind [] = None
 all_behind (word ∷ rest) = behind word rest
@@ -146,7 +146,7 @@ all_behind (word ∷ rest) = behind word rest
 abbrev pub alone : List ℕ → Option Command
 alone word = if bytes_eq word (codes "audit") then Some Audit else option_map Show (page_alone word)
 
--- what the words behind the program's name ask for, if they are in the grammar
+-- what the words after the program's name ask for, if they are in the grammar
 abbrev pub command_of : List (List ℕ) → Option Command
 command_of [] = None
 command_of (word ∷ []) = alone word

@@ -45,7 +45,7 @@ pub fn worked_rehearsals()
     ensures help { command_of (codes "rehearse" ∷ codes "--help" ∷ []) ≡ Some (Show RehearsePage) }
 {}
 
-/// A request for a text is the only word, or the only one behind a command's name; elsewhere it is out of the grammar.
+/// A request for a text is the only word, or the only one after a command's name; elsewhere it is out of the grammar.
 pub fn worked_requests()
     ensures help { command_of (codes "--help" ∷ []) ≡ Some (Show Overview) }
     ensures version { command_of (codes "--version" ∷ []) ≡ Some (Show Version) }

@@ -15,7 +15,7 @@ use crate::values::are_words_of_command;
 use ann_key::{NoMemory, Text};
 use std::alloc::Global;
 
-/// Reads the words behind the program's name; None exactly where they aren't in the grammar. Whether a key is one is not
+/// Reads the words after the program's name; None exactly where they aren't in the grammar. Whether a key is one is not
 /// asked here.
 pub fn command_of(alloc: Global, words: &[String]) -> Result<Option<Command>, NoMemory>
     ensures command { IfOk result (λ command. command ≡ command_of (texts_of words.now)) }
@@ -96,7 +96,7 @@ fn is_help(words: &[String]) -> bool
     }
 }
 
-// The first word, with words behind it.
+// The first word, with words after it.
 fn behind(alloc: Global, words: &[String]) -> Result<Option<Command>, NoMemory>
     requires { 1 < length words.now }
     ensures { IfOk result (λ command. command ≡ all_behind (texts_of words.now)) }

@@ -29,7 +29,7 @@ pub enum Reason {
     Large,
     /// It can't stand in the text of a run, or in it that text passes a limit.
     Entry,
-    /// Behind it the end of the text of a run is missing; it is 0 where the input is empty.
+    /// After it the end of the text of a run is missing; it is 0 where the input is empty.
     Cut,
 }
 

@@ -28,7 +28,7 @@ fn is_word_of_command(word: &str) -> bool
     is_text(word) && !is_request(word)
 }
 
-/// Whether each of them may stand behind a command's name.
+/// Whether each of them may follow a command's name.
 pub(super) fn are_words_of_command(words: &[String]) -> bool
     ensures { result ≡ list_all is_word_of_command (texts_of words.now) }
 {

@@ -1,4 +1,4 @@
--- What a log gains by calls one behind the other, and what is told where something is told.
+-- What a log gains by calls one after the other, and what is told where something is told.
 use Rattle.std.proofs.Common.{◌≡◌, subst}
 use Rattle.std.specs.Prelude.{Option, Some, None, IfSome}
 pub use Rattle.ann_outside.proofs.Gains.{gained_nothing, gained_more, gained_call, gained_without}

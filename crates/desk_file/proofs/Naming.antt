@@ -53,7 +53,7 @@ names_none {P} {old} {new} e = record { calls = []; gained = e ∙ gained_nothin
 pub names_both : {P : List ℕ → Type 0} {old mid new : Option Log} → NamesOnly P old mid → NamesOnly P mid new → NamesOnly P old new
 names_both {P} {old} {mid} {new} h k = record { calls = h.calls ++ k.calls; gained = gained_more old mid new h.calls k.calls h.gained k.gained; named = calls_both P h.calls k.calls h.named k.named }
 
--- behind a log that was blank, all of its calls name such files
+-- after a log that was blank, all of its calls name such files
 pub names_all : {P : List ℕ → Type 0} {old new : Option Log} → IsLogBlank old → NamesOnly P old new → IfSome new (λ log. CallsName P log.calls)
 names_all {P} {old} {new} blank h = go old blank h.gained
   where

@@ -15,7 +15,7 @@ use Rattle.desk_file.specs.declared.reading.FileRead.TheVariants.{Text, TooLarge
 
 -- ---- the calls
 
--- those that read these pieces of a file, one behind the other, from a place on
+-- those that read these pieces of a file, one after the other, from a place on
 abbrev pub read_calls : List ℕ → ℕ → List (List ℕ) → List Call
 read_calls name at [] = []
 read_calls name at (piece ∷ pieces) = ReadAt name at (Ok piece) ∷ read_calls name (at + length piece) pieces
@@ -24,7 +24,7 @@ read_calls name at (piece ∷ pieces) = ReadAt name at (Ok piece) ∷ read_calls
 abbrev pub EndsUnkept : List ℕ → ℕ → List Call → Type 0
 EndsUnkept name at calls = (calls ≡ []) ⊎ ((piece : List ℕ) × (calls ≡ ReadAt name at (Ok piece) ∷ []))
 
--- The call behind those bytes: at the file's end it gives nothing, and a refusal is its answer. Past the limit there is none.
+-- The call after those bytes: at the file's end it gives nothing, and a refusal is its answer. Past the limit there is none.
 abbrev pub EndsRead : List ℕ → ℕ → List ℕ → Result FileRead NoMemory → List Call → Type 0
 EndsRead name limit bytes (Ok (Text text)) calls = (text ≡ bytes) × (length bytes ≤ limit) × (calls ≡ ReadAt name (length bytes) (Ok []) ∷ [])
 EndsRead name limit bytes (Ok TooLarge) calls = (limit < length bytes) × (calls ≡ [])

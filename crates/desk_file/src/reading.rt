@@ -64,7 +64,7 @@ fn refused(error: DeskError) -> Result<FileRead, NoMemory>
     }
 }
 
-// Reads on behind the bytes that were read so far, and says whether there was something to read.
+// Reads on after the bytes that were read so far, and says whether there was something to read.
 fn read_step<D: Desk>(
     desk: &mut D,
     name: &str,

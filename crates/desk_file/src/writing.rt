@@ -52,7 +52,7 @@ fn replace_by<D: Desk>(desk: &mut D, name: &str, fresh: &str, text: &[u8]) -> Re
     desk.rename(fresh, name)
 }
 
-/// Puts the text in the place of the file: it is written as a file with `.new` behind the name, which then gets the name. After a
+/// Puts the text in the place of the file: it is written as a file with `.new` after the name, which then gets the name. After a
 /// refusal the file is as before, and what was written may lie there under the other name.
 pub fn replace_file<D: Desk>(
     alloc: Global,

@@ -17,7 +17,7 @@ use Rattle.fetch_copy.proofs.Telling.{told_still}
 use Rattle.ann_key.proofs.Lists.{map_nil, option_twice as map_both}
 use Rattle.ann_outside.proofs.Across.{where_then as told_both, where_so as told_map, told_same}
 
--- ---- nothing, and one behind the other
+-- ---- nothing, and one after the other
 
 grows_nothing : (from to : List ℕ) (at : ℕ) (x y : Files) → AllStay x y → FileGrows from to at 0 x y
 grows_nothing from to at x y stay = record { grew = stay to ∙ sym (map_nil (content to x)); others = λ other d. stay other }

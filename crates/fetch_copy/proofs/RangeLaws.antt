@@ -115,7 +115,7 @@ range_refused a b c file name from to at e r low s high = record {
     count E.Failed = tt
     count E.Missing = tt
 
--- ---- behind the call that makes the file
+-- ---- after the call that makes the file
 
 pub out_made : (a b c : Option Log) (f g : Option Files) (file name : List ℕ) (from to : ℕ) (result : Result Copied NoMemory)
     → b ≡ logged a (Create name (Ok tt)) → CopiesRange [] b c file from to name result → WhereTold f g (HoldsRange file name from to result)

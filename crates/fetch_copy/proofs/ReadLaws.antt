@@ -125,7 +125,7 @@ reads_stopped a b c file before between after at n e r s high = record {
     count E.Failed = tt
     count E.Missing = tt
 
--- ---- behind the cut
+-- ---- after the cut
 
 pub resumed : (a b c : Option Log) (part : List ℕ) (keep : ℕ) (before after : Checker) (result : Result Copied NoMemory)
     → b ≡ logged a (Cut part keep (Ok tt)) → ReadsOn [] b c part keep before after result → Resumes a c part keep before after result

@@ -46,7 +46,7 @@ EndsWhole from at left [] = left ≡ 0
 EndsWhole from at left (call ∷ []) = call ≡ ReadAt from at (Ok [])
 EndsWhole from at left (call ∷ next ∷ more) = ⊥
 
--- the calls behind the last piece that was copied
+-- the calls after the last piece that was copied
 abbrev pub EndsCopy : List ℕ → List ℕ → ℕ → ℕ → Result Copied NoMemory → List Call → Type 0
 EndsCopy from to at left (Ok (Done n)) calls = EndsWhole from at left calls
 EndsCopy from to at left (Ok Fault) calls = RefusedBy E.Failed from to at calls

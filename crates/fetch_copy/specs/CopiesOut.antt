@@ -12,7 +12,7 @@ use Rattle.fetch_copy.specs.Copies.{copy_calls, CountIs, EndsCopy}
 use Rattle.fetch_copy.specs.FilesAfter.{HoldsRange, IsUnmade}
 use Rattle.fetch_copy.specs.Resumes.{IsNotBegun}
 
--- the call reads from no place at `to` or behind it
+-- the call reads from no place at `to` or after it
 abbrev pub reads_before : ℕ → Call → Bool
 reads_before to (ReadAt name at answer) = nat_lt at to
 reads_before to _ = true

@@ -41,12 +41,12 @@ ReadDoes old new file at before after (Ok zero) = Gained old new (ReadAt file at
 ReadDoes old new file at before after (Ok (suc n)) = ReadsPiece old new file at before after (suc n)
 ReadDoes old new file at before after (Err e) = Gained old new (refused_read e file at) × (after ≡ before)
 
--- the calls that read these pieces of a file, one behind the other from a place on
+-- the calls that read these pieces of a file, one after the other from a place on
 abbrev pub read_calls : List ℕ → ℕ → List (List ℕ) → List Call
 read_calls file at [] = []
 read_calls file at (piece ∷ pieces) = ReadAt file at (Ok piece) ∷ read_calls file (at + length piece) pieces
 
--- the calls behind the last piece that was read: none where all was read or no memory was found, else a read at the end of the file, or
+-- the calls after the last piece that was read: none where all was read or no memory was found, else a read at the end of the file, or
 -- the one that was refused
 abbrev pub EndsReading : List ℕ → ℕ → ℕ → Result Copied NoMemory → List Call → Type 0
 EndsReading file at left (Ok (Done n)) calls = EndsWhole file at left calls

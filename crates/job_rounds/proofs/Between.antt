@@ -227,7 +227,7 @@ pub whole_of : {o : Opening} {setup : Setup} {may : Bool} {limit made : ℕ} {of
     → JobsBetween o setup may limit made offer journal desks desks' true
 whole_of {o} {setup} {may} {limit} {made} {offer} {journal} {desks} {desks'} whole b e = subst (λ (w : Bool). JobsBetween o setup may limit made offer journal desks desks' w) e b
 
--- where tasks are left behind all starts, each of them is spent
+-- where tasks are left after all starts, each of them is spent
 pub all_over : {o : Opening} {setup : Setup} {may : Bool} {limit made : ℕ} {offer : Bool} {journal : List Entry} {desks desks' : List DeskTells} → JobsBetween o setup may limit made offer journal desks desks' true → IsOver o limit made journal
     → are_all_claimed o journal ≡ false → (made ≡ limit) × AreSpent journal
 all_over {o} {setup} {may} {limit} {made} {offer} {journal} b over left = (first over, second (b.spent refl))

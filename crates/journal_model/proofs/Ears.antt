@@ -110,7 +110,7 @@ soft_fits (Some ReadFault) rest h = let e : is_soft_why ReadFault ≡ true = h R
 soft_fits (Some LongLine) rest h = let e : is_soft_why LongLine ≡ true = h LongLine refl in absurd cc
 soft_fits (Some w) rest h = tt
 
--- a line was fed, and what it makes due stands behind it
+-- a line was fed, and what it makes due follows it
 pub ear_got : (past due : List Entry) (by : ℕ) (line held : List ℕ) (v : EarValue) → IsSoft v.child due → is_ended past v.child ≡ false
     → length line ≤ longest_line → length held ≤ length v.held
     → ((bytes : List ℕ) (lines : List (List ℕ)) → Cut bytes lines v.held → Cut bytes (lines ++ line ∷ []) held)

@@ -17,7 +17,7 @@ use Rattle.journal_model.proofs.Soft.{is_soft, is_soft_why, soft_got, soft_mute,
 use Rattle.std.proofs.lemmas.Bool.{and_parts as both, eqb-true as same_number}
 use Rattle.ann_key.proofs.Numbers.{same_number as same}
 
--- ---- two stretches, one behind the other
+-- ---- two stretches, one after the other
 
 pub owed_from-append : (o : Opening) (past owed xs ys : List Entry)
     → owed_from o past owed (xs ++ ys) ≡ owed_from o (past ++ xs) (owed_from o past owed xs) ys

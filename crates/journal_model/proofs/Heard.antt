@@ -36,7 +36,7 @@ silent c past (e ∷ ys) h =
     let n = no_line c e.what (got_lines ys c) h in
     rw (n.0, silent c (past ++ e ∷ []) ys n.1) refl
 
--- no line of c was got behind
+-- no line of c was got after
 pub heard_on : (c : ℕ) (past more : List Entry) → got_lines more c ≡ [] → is_heard_in_turn past c ≡ true → is_heard_in_turn (past ++ more) c ≡ true
 heard_on c past more none h = heard-append c [] past more ∙ (rw (h, silent c past more none) refl)
 

@@ -43,7 +43,7 @@ pub record Inv (o : Opening) (past : List Entry) : Type 0 where
   pub silent : (c : ℕ) → has_spoken past c ≡ false → asked_jobs past c ≡ []
   pub fresh : (c j : ℕ) → length (asked_jobs past c) ≤ j → is_asked past c j ≡ false
 
--- what held of the jobs, seen from behind a group
+-- what held of the jobs, seen from after a group
 pub earlier : (o : Opening) (past group rest : List Entry) (c j : ℕ) → Inv o past → Fits (replies_at o ((past ++ group) ++ rest)) (part past c j) (verdict_of past c j)
 earlier o past group rest c j inv =
     subst (λ (journal : List Entry). Fits (replies_at o journal) (part past c j) (verdict_of past c j)) (sym (append_assoc past group rest)) (inv.jobs (group ++ rest) c j)
@@ -145,7 +145,7 @@ plain_inv o past by w inv may n p v =
 
 -- ---- a request
 
--- a child is asked behind its first line alone
+-- a child is asked after its first line alone
 greeted : (o : Opening) (past : List Entry) (c : ℕ) → Inv o past → is_greeted past c (length (asked_jobs past c)) ≡ true → has_spoken past c ≡ true
 greeted o past c inv allows = go (has_spoken past c) refl
   where

@@ -21,7 +21,7 @@ entry by w = record { by = by; what = w }
 abbrev pub is_asked : List Entry → ℕ → ℕ → Bool
 is_asked past c j = list_any (λ k. k == j) (asked_jobs past c)
 
--- ---- one stretch behind another
+-- ---- one stretch after another
 
 pub first_of-append : {X : Type 0} (xs ys : List X) → first_of (xs ++ ys) ≡ option_or (first_of xs) (first_of ys)
 first_of-append [] ys = refl

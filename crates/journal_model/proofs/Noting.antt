@@ -44,7 +44,7 @@ group_notes o past e rest f = by_kind e.by e.what f
     by_kind by (Lead child job name) f = one_ask o past (λ (xs : List Entry). each_of (noted o) xs ≡ []) by child job name rest f (λ b c j t line. refl)
     by_kind by w f = subst (λ (xs : List Entry). each_of (noted o) xs ≡ []) (sym f) (due_notes o past (entry by w))
 
--- what counts in two lists goes on to count in both with the same notes behind them
+-- what counts in two lists goes on to count in both with the same notes after them
 counting-append : (xs ys notes : List Note) (key uuid : List ℕ) (chunk : ℕ) → counting xs key uuid chunk ≡ counting ys key uuid chunk
     → counting (xs ++ notes) key uuid chunk ≡ counting (ys ++ notes) key uuid chunk
 counting-append xs ys [] key uuid chunk h =
@@ -95,7 +95,7 @@ own_place x =
     let uuid : bytes_eq x.line.uuid x.line.uuid ≡ true = (bytes_eq-Decides x.line.uuid x.line.uuid).1 refl in
     rw (key, uuid, same x.line.chunk) refl
 
--- none of the notes that stand behind one is of its place
+-- none of the notes that stand after one is of its place
 behind_none : (x : Note) (xs : List Note) → list_all (is_before x) xs ≡ true → (key uuid : List ℕ) (chunk : ℕ) → is_of key uuid chunk x ≡ true
     → counting xs key uuid chunk ≡ None
 behind_none x [] all key uuid chunk own = refl

@@ -63,7 +63,7 @@ come_names_none o past c by (End child why) rest h p =
     and_false (child == c) (is_place p why) (stop_names_none past child p why (and_right (is_live past child) (may_stop past child why) h))
 come_names_none o past c by w rest h p = refl
 
--- a part behind a legal journal grows by what the group adds
+-- a part after a legal journal grows by what the group adds
 pub part-group : (o : Opening) (c j : ℕ) (past : List Entry) (e : Entry) (due : List Entry) → may_come o past e.by e.what ≡ true
     → part (past ++ e ∷ due) c j ≡ part past c j ++ part_from c j past (e ∷ due)
 part-group o c j past e due h = part_from-append c j [] past (e ∷ due) (come_names_none o past c e.by e.what due h)

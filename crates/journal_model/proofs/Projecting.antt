@@ -121,7 +121,7 @@ heard_item past child c j k line for opened = go (child == c) refl
             let J : j ≡ k = same_number j k e' in
             rw (subst (λ (x : ℕ). is_open past c x ≡ true) J h) refl
 
--- What the line and what is due behind it make of parts and verdicts: the job that it is for grows by the line and these replies,
+-- What the line and what is due after it make of parts and verdicts: the job that it is for grows by the line and these replies,
 -- and gets this verdict, if one.
 record Joins (past : List Entry) (by child j : ℕ) (line : List ℕ) (due : List Entry) (rs : List (ℕ × List ℕ)) (w : Option Verdict) : Type 0 where
   part : (c k : ℕ) → part_from c k past (entry by (Got child line) ∷ due)

@@ -1,4 +1,4 @@
--- Registers that were set by each setting in turn hold what a search from behind finds.
+-- Registers that were set by each setting in turn hold what a search from the end finds.
 use Rattle.std.proofs.Common.{◌≡◌, ℕ, Bool, true, false, cond, not, ◌&&◌, List, [], ◌∷◌, ◌++◌, length, Option, Some, None, unwrap_or, bytes_eq, refl, sym, ap, ◌∙◌, append_assoc}
 use mathlib.Core.Bool.{false≢true}
 use Rattle.std.specs.Prelude.{filter_map}
@@ -89,7 +89,7 @@ replies_same v w (Getstate key) s = ap (λ (x : List ℕ). value_line x ∷ []) 
 replies_same v w (Geturls key prefix) s = ap url_lines (s.urls key prefix)
 replies_same v w m s = refl
 
--- ---- settings behind more entries
+-- ---- settings after more entries
 ends_at-append : (c p : ℕ) (xs ys : List Entry) → NamesNoLine ys → ends_at c p (xs ++ ys) ≡ ends_at c p xs
 ends_at-append c p [] ys h = h c p
 ends_at-append c p (x ∷ xs) ys h = refl

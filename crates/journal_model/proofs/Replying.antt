@@ -1,4 +1,4 @@
--- Replies stand behind their line under its job's tag, and read back as they were.
+-- Replies stand after their line under its job's tag, and read back as they were.
 use Rattle.std.proofs.Common.{◌≡◌, ℕ, zero, suc, ◌<◌, List, [], ◌∷◌, ◌++◌, refl, sym, ap, subst, ◌∙◌, append_assoc, Bool, true, false, length, ◌==◌, cond, Some, None, Option, arith, length-append}
 use Rattle.std.specs.Prelude.{◌^◌, ◌&&◌, ◌||◌, map, slice_get}
 use Rattle.std.specs.List.{cons_option}
@@ -43,7 +43,7 @@ accepted past more None h = refl
 accepted past more (Some (DoneAt at)) h = ap (λ (e : Option Entry). names_async (remote_reading (got_line e))) (slice_get-left past more at (h at refl))
 accepted past more (Some v) h = refl
 
--- a child stays as it is, tagged or not, behind entries that offer it nothing and settle no job 0 of it
+-- a child stays as it is, tagged or not, after entries that offer it nothing and settle no job 0 of it
 pub tag_kept : (past more : List Entry) (c : ℕ) → IsPlaced past c → any (offers c) more ≡ false → verdict_of more c 0 ≡ None → is_tagged (past ++ more) c ≡ is_tagged past c
 tag_kept past more c placed unoffered none =
     let offer : any (offers c) (past ++ more) ≡ any (offers c) past =
@@ -87,7 +87,7 @@ wire_back past later c j line same small =
 
 -- ---- replies in a part
 
--- the replies with their places, where they are to stand behind before
+-- the replies with their places, where they are to stand after before
 abbrev pub reply_places : List Entry → List Entry → ℕ → ℕ → ℕ → List (List ℕ) → List (ℕ × List ℕ)
 reply_places past before by c j [] = []
 reply_places past before by c j (l ∷ ls) = (length before, l) ∷ reply_places past (before ++ entry by (Put c j (on_wire past c j l)) ∷ []) by c j ls

@@ -621,7 +621,7 @@ group_takes o past e =
     let due = due_takes o past e.by e.what in
     omega (arith, first, due)
 
--- only behind a line stands a reply
+-- only after a line stands a reply
 pub no_reply : (o : Opening) (past : List Entry) (by : ℕ) (w : What) → is_got w ≡ false → count is_put (due_after o past (entry by w)) ≡ 0
 no_reply o past by (End child why) h = verdicts_put by child (Ended why) (open_jobs past child)
 no_reply o past by (Mute child) h = by_life (is_live past child)

@@ -1,4 +1,4 @@
--- The URLs that a search from behind finds are those that the registers hold.
+-- The URLs that a search from the end finds are those that the registers hold.
 use Rattle.std.proofs.Common.{◌≡◌, ℕ, Bool, true, false, cond, ◌&&◌, ◌||◌, List, [], ◌∷◌, filter, Some, None, unwrap_or, bytes_eq, nat_eq, refl, sym, ap, ◌∙◌}
 use mathlib.Core.Bool.{false≢true}
 use Rattle.std.specs.Prelude.{filter_map}

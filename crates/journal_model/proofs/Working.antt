@@ -581,7 +581,7 @@ filter_untasked t [] h = refl
 filter_untasked t (e ∷ xs) h =
     rw (either_left (is_of_task t e.what) (any (is_of_task t) xs) h) (filter_untasked t xs (either_right (is_of_task t e.what) (any (is_of_task t) xs) h))
 
--- behind its last entry, with no open job, nothing that the journal has of the task changes
+-- after its last entry, with no open job, nothing that the journal has of the task changes
 pub part_stays : (past more : List Entry) (t : ℕ) → any (is_of_task t) more ≡ false → has_open_job past t ≡ false → task_part (past ++ more) t ≡ task_part past t
 part_stays past more t none h =
     let jobs : each_of (job_for t) (past ++ more) ≡ each_of (job_for t) past =

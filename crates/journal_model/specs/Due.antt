@@ -1,4 +1,4 @@
--- What an entry makes due: the entries that have to stand directly behind it, made by the same number.
+-- What an entry makes due: the entries that have to stand directly after it, made by the same number.
 use Rattle.std.specs.Prelude.{ℕ, ◌==◌, ◌&&◌, ◌||◌, not, Bool, true, false, if◌then◌else◌, List, [], ◌∷◌, length, Option, Some, None, map, filter, take, slice_get}
 use Rattle.std.specs.List.{list_any}
 use Rattle.journal_model.specs.declared.verdict.Why.{Why}
@@ -21,7 +21,7 @@ use Rattle.annex_model.specs.Hearings.{Hearing, Aside, Part, Settles, Strange, h
 
 -- ---- replies
 
--- the lines that the message is owed behind the entries so far, by what the run began with and what was set since
+-- the lines that the message is owed after the entries so far, by what the run began with and what was set since
 abbrev pub replies : Opening → List Entry → RemoteMessage → List (List ℕ)
 replies o past m = replies_by (values_at o.registers o.identity past) m
 
@@ -52,7 +52,7 @@ verdict_at Absent at = AbsentAt at
 verdict_at Unknown at = UnknownAt at
 verdict_at Unsupported at = UnsupportedAt at
 
--- ---- behind an end, a mute and a line
+-- ---- after an end, a mute and a line
 
 -- the verdicts of the jobs that c's end settles, in rising order
 abbrev pub ended_jobs : List Entry → ℕ → Why → List What

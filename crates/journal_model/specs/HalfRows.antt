@@ -11,7 +11,7 @@ use Rattle.journal_model.specs.Rows.{check_present, sample_key, by_main}
 abbrev pub sample_ear : EarValue
 sample_ear = record { child = 1; given = Some (text (got_lines check_present 1)); left = Some []; faults = 0; number = Some 0; held = [] }
 
--- a byte behind the last line was read and is nowhere
+-- a byte after the last line was read and is nowhere
 abbrev pub dropping_ear : EarValue
 dropping_ear = record sample_ear { given = Some (text (got_lines check_present 1) ++ 65 ∷ []) }
 

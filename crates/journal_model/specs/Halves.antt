@@ -33,7 +33,7 @@ pub record EarWired (journal : List Entry) (ear : EarValue) : Type 0 where
   pub eof : why_of journal ear.child ≡ Some Eof → IfSome ear.left (λ bytes. bytes ≡ [])
   pub fault : why_of journal ear.child ≡ Some ReadFault → 0 < ear.faults
 
--- What was taken is the lines that were sent, and behind an end or a mute the first bytes of the next. No mute comes without
+-- What was taken is the lines that were sent, and after an end or a mute the first bytes of the next. No mute comes without
 -- its cause.
 pub record MouthWired (journal : List Entry) (mouth : MouthValue) : Type 0 where
   pub covered : length (filter (λ e. sends mouth.child e.what) journal) ≤ length (each_of (writes mouth.child) journal)

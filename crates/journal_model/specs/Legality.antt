@@ -213,7 +213,7 @@ prepares c _ = false
 abbrev pub is_prepared : List Entry → ℕ → Bool
 is_prepared past c = is_done (verdict_of past c 1) && any (prepares c) past
 
--- some request may be asked as this job of c: job 0 behind the version, job 1 behind job 0, and later jobs of a prepared child
+-- some request may be asked as this job of c: job 0 after the version, job 1 after job 0, and later jobs of a prepared child
 abbrev pub is_greeted : List Entry → ℕ → ℕ → Bool
 is_greeted past c job =
     if job == 0 then said_version past c

@@ -65,7 +65,7 @@ PartIsAsked journal c j = (part journal c j ≡ []) ↔ (list_any (λ k. k == j)
 abbrev pub IsNamed : HostMessage → Verdict → Type 0
 IsNamed q v = IfSome (final_in v) (λ f. (ms : List (Option RemoteMessage)) × (final_of q ms ≡ Some f.0))
 
--- The Put at this place, by this number in job j of c, is one of the replies that a line is owed, and stands behind that line at
+-- The Put at this place, by this number in job j of c, is one of the replies that a line is owed, and follows that line at
 -- its place among them. The line was got under the same number, and is for that job while it is open.
 pub record IsReply (o : Opening) (journal : List Entry) (at by c j : ℕ) (line : List ℕ) : Type 0 where
   pub from : ℕ

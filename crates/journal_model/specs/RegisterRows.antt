@@ -16,7 +16,7 @@ says child line = by_main (Got child line)
 abbrev pub saying : List (List ℕ) → List Entry
 saying lines = checking ++ map (says 1) lines
 
--- the same, and a second child behind it, in its first job
+-- the same, and a second child after it, in its first job
 abbrev pub with_second : List (List ℕ) → List Entry
 with_second lines =
     saying lines
@@ -37,6 +37,6 @@ tagged_saying line = tagged_greeting ++ says 1 line ∷ []
 abbrev pub before : RegisterFile
 before = with_url (with_config nothing_set (codes "a") (codes "1")) (codes "WORM--a") (codes "http://b") true
 
--- what the message is owed behind the journal
+-- what the message is owed after the journal
 abbrev pub owed : List Entry → RemoteMessage → List (List ℕ)
 owed past m = replies_by (values_at before one_check.identity past) m

@@ -70,7 +70,7 @@ names_url key (Seturlpresent k u) = if bytes_eq key k then Some u else None
 names_url key (Seturlmissing k u) = if bytes_eq key k then Some u else None
 names_url key m = None
 
--- ---- what the registers hold behind the entries so far, where the run began with r
+-- ---- what the registers hold after the entries so far, where the run began with r
 
 -- what the last of the settings that give something gave, and else what was there at first
 abbrev pub last_given : {X : Type 0} → X → (RemoteMessage → Option X) → List RemoteMessage → X
@@ -105,7 +105,7 @@ abbrev pub urls_at : RegisterFile → List Entry → List ℕ → List ℕ → L
 urls_at r past key prefix =
     in_rising_order (filter (λ url. is_present r past key url && starts_with nat_eq url prefix) (named_urls r past key))
 
--- what one may ask for behind the entries so far
+-- what one may ask for after the entries so far
 abbrev pub values_at : RegisterFile → Identity → List Entry → Values
 values_at r i past = record {
   config = config_at r past;

@@ -81,7 +81,7 @@ value_line value = host_line (Value value)
 abbrev pub creds_line : List ℕ × List ℕ → List ℕ
 creds_line login = host_line (Creds login.0 login.1)
 
--- one line for each URL, and one with an empty value behind them
+-- one line for each URL, and one with an empty value after them
 abbrev pub url_lines : List (List ℕ) → List (List ℕ)
 url_lines urls = map value_line urls ++ value_line [] ∷ []
 

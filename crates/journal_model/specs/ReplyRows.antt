@@ -29,7 +29,7 @@ config_asked = saying (codes "GETCONFIG a" ∷ [])
 abbrev pub config_told : List Entry
 config_told = config_asked ++ told (codes "VALUE 1") ∷ by_main (Sent 1) ∷ ends_well 16
 
--- talk and a setting have no reply, and what was set is told behind it
+-- talk and a setting have no reply, and what was set is told after it
 abbrev pub set_and_told : List Entry
 set_and_told =
     saying (codes "PROGRESS 5" ∷ codes "SETCONFIG a 2" ∷ codes "GETCONFIG a" ∷ [])

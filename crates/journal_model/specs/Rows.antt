@@ -138,7 +138,7 @@ tag_left_off =
 
 -- ---- beside an answer, and in place of one
 
--- what is due behind a line that ends the child with these jobs open
+-- what is due after a line that ends the child with these jobs open
 abbrev pub end_with : Why → List ℕ → List What
 end_with why jobs = End 1 why ∷ map (λ j. Settled 1 j (Ended why)) jobs
 

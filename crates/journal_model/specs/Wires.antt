@@ -33,7 +33,7 @@ are_short lines = list_all (λ line. nat_le (length line) longest_line) lines
 abbrev pub IsLittle : List ℕ → Type 0
 IsLittle rest = length rest ≤ longest_line + most_read
 
--- What was taken is the text of the sent lines, and behind an end or a mute the first bytes of the next line, which may be
+-- What was taken is the text of the sent lines, and after an end or a mute the first bytes of the next line, which may be
 -- none or all of them.
 pub record Took (journal : List Entry) (c : ℕ) (taken : List ℕ) : Type 0 where
   pub begun : ℕ

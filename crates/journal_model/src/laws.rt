@@ -42,7 +42,7 @@ pub fn missing_verdict_is_illegal()
 {}
 
 /// Entries that may not come: an Ask before the greeting allows it, a Claim of a claimed task, a Sent with nothing to send,
-/// a verdict without a final line, an End as closed with an open job, a Got behind an End.
+/// a verdict without a final line, an End as closed with an open job, a Got after an End.
 pub fn refused_entries()
     ensures ask_early { may_come one_check (take 1 check_present) 0 (Ask 1 0 0 (codes "EXTENSIONS INFO GETGITREMOTENAME")) ≡ false }
     ensures prepare_early { may_come one_check (take 5 check_present) 0 (Ask 1 1 0 (codes "PREPARE")) ≡ false }
@@ -126,7 +126,7 @@ pub fn strange_lines()
 {}
 
 /// A child is not ended for a full journal while there is room. The main thread may ask for a list of configs, whose first line
-/// settles nothing; behind it the request can't be unsupported.
+/// settles nothing; after it the request can't be unsupported.
 pub fn room_and_lists()
     ensures not_full { is_full checking ≡ false }
     ensures no_end { may_come one_check checking 0 (End 1 Full) ≡ false }

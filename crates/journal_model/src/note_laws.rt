@@ -25,7 +25,7 @@ pub fn notes_follow()
     ensures current { (o : Opening) (past : List Entry) (key : List ℕ) (layouts : List (ℕ × ℕ)) → IsTrue (in_order o.notes) → IsCurrent (with_notes o.notes (each_of (noted o) past)) key o.identity.uuid layouts → AreCurrentAt o past key layouts }
 {}
 
-/// Behind more entries stand the notes before and then those of the entries. In a group the first entry alone may note something.
+/// After more entries stand the notes before and then those of the entries. In a group the first entry alone may note something.
 pub fn notes_grow()
     ensures grow { (o : Opening) (past more : List Entry) → notes_at o (past ++ more) ≡ notes_at o past ++ each_of (noted o) more }
     ensures group { (o : Opening) (past : List Entry) (e : Entry) (rest : List Entry) → IsGroup o past (e ∷ rest) → each_of (noted o) rest ≡ [] }

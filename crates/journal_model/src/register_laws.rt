@@ -21,7 +21,7 @@ pub fn registers_follow()
     ensures rising { (r : RegisterFile) (past : List Entry) (key prefix : List ℕ) → IsStrictlySortedBy by_bytes (urls_at r past key prefix) }
 {}
 
-/// Behind more entries the settings are those before and then those that the entries make, unless the first of them ends a
+/// After more entries the settings are those before and then those that the entries make, unless the first of them ends a
 /// child at an earlier line.
 pub fn settings_grow()
     ensures grow { (past rest : List Entry) → NamesNoLine rest → settings (past ++ rest) ≡ settings past ++ settings_from past rest }
@@ -39,7 +39,7 @@ pub fn said_fields_fit()
     ensures lines { (m : RemoteMessage) (line : List ℕ) → RemoteSpells m line → IsTrue (not (has_newline line)) → IsTrue (are_line_fields m) }
 {}
 
-/// Settings, and what is owed behind them.
+/// Settings, and what is owed after them.
 pub fn worked_settings()
     ensures other_child { owed (with_second (codes "SETSTATE WORM--a s" ∷ [])) (Getstate (codes "WORM--a")) ≡ codes "VALUE s" ∷ [] }
     ensures later_child { owed (with_second (codes "SETSTATE WORM--a s" ∷ []) ++ says 2 (codes "SETSTATE WORM--a t") ∷ []) (Getstate (codes "WORM--a")) ≡ codes "VALUE t" ∷ [] }

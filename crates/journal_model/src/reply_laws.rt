@@ -15,7 +15,7 @@ ghost use Rattle.journal_model.specs.Projection.{PutsReply};
 ghost use Rattle.journal_model.specs.Rows.{one_check, sample_key, by_main, greeting, two_checks, one_left};
 ghost use Rattle.journal_model.specs.ReplyRows.{with_settings, told, config_asked, config_told, set_and_told, urls_told, directory_told, state_told, tagged_told, told_twice, not_told, other_value, by_other, ended_for_asking, told_behind_final, talk_told, setting_told, urls_cut, urls_crossed, state_unseen, other_tag, other_job, no_tag};
 
-/// In a legal journal each Put is one of the replies that a line is owed, behind it at its place.
+/// In a legal journal each Put is one of the replies that a line is owed, after it at its place.
 pub fn puts_reply()
     ensures { (o : Opening) (journal : List Entry) → Legal o journal → PutsReply o journal }
 {}

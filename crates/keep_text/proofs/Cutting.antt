@@ -1,4 +1,4 @@
--- The first line of a text, and what stands behind its end.
+-- The first line of a text, and what follows its end.
 use Rattle.std.proofs.Common.{◌≡◌, ℕ, suc, ◌+◌, ◌<◌, ◌≤◌, ◌==◌, Bool, true, false, not, cond, List, [], ◌∷◌, take, drop, length, refl, sym, ap, ◌∙◌, arith, length-drop}
 use mathlib.Core.Bool.{false≢true}
 use Rattle.std.specs.List.{before_first, after_first, position_or_len}

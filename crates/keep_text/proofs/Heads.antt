@@ -1,4 +1,4 @@
--- A text by its first line and those behind it.
+-- A text by its first line and those after it.
 use Rattle.std.proofs.Common.{◌≡◌, ℕ, Bool, true, false, cond, List, ◌∷◌, Some, sym, ap, ◌∙◌}
 use Rattle.std.specs.Prelude.{bytes_eq}
 use Rattle.reg_file.specs.Registers.{RegisterFile, nothing_set}

@@ -67,7 +67,7 @@ rest_fits : (rest tail : List ℕ) → Followed (Rest rest ∷ []) tail → not 
 rest_fits rest tail (inl e) h = line_fits rest (ap (λ (t : List ℕ). not (has_newline t)) (sym e) ∙ h)
 rest_fits rest tail (inr e) h = ap is_line e.1
 
--- a field, and the rest behind it
+-- a field, and the rest after it
 fields_fit : (first rest field more tail : List ℕ) → tail ≡ 32 ∷ field ++ more → field ≡ first → annex.is_word first ≡ true → Followed (Rest rest ∷ []) more
     → not (has_newline tail) ≡ true → (is_word first ≡ true) × (is_line rest ≡ true)
 fields_fit first rest field more tail e is word f h =

@@ -32,7 +32,7 @@ module _ (key uuid : List ℕ) (chunk : ℕ) where
       ap (fold newer None) (filter-append (is_of key uuid chunk) xs ys)
       ∙ fold-append newer None (filter (is_of key uuid chunk) xs) (filter (is_of key uuid chunk) ys)
 
-  -- where two lists count alike, they still do with the same notes behind both
+  -- where two lists count alike, they still do with the same notes after both
   pub counting_goes_on : (xs ys more : List Note) → counting xs key uuid chunk ≡ counting ys key uuid chunk → counting (xs ++ more) key uuid chunk ≡ counting (ys ++ more) key uuid chunk
   counting_goes_on xs ys more h =
       counting-append xs more

@@ -77,7 +77,7 @@ module _ {X Y : Type 0} (show : X → Y) (p : Y → Bool) (written : Y → List 
       ∙ append_assoc start (made show p written (take i xs)) (made show p written (x ∷ []))
       ∙ ap (λ (t : List ℕ). start ++ t) (sym (ap (made show p written) next ∙ made-append show p written (take i xs) (x ∷ [])))
 
--- ---- three texts behind a first line
+-- ---- three texts after a first line
 pub whole_text : (first : List ℕ) (a b c : List (List ℕ)) (t0 t1 t2 t3 : List ℕ) → t0 ≡ first ++ 10 ∷ [] → t1 ≡ t0 ++ text a → t2 ≡ t1 ++ text b → t3 ≡ t2 ++ text c
     → t3 ≡ text (first ∷ (a ++ b ++ c))
 whole_text first a b c t0 t1 t2 t3 h0 h1 h2 h3 =

@@ -50,7 +50,7 @@ settings_in lines = filter_map (λ line. setting_of (kept_reading line)) lines
 abbrev pub notes_in : List (List ℕ) → List Note
 notes_in lines = filter_map (λ line. note_of (kept_reading line)) lines
 
--- the registers that the text's lines set, one behind the other
+-- the registers that the text's lines set, one after the other
 abbrev pub registers_of : List ℕ → RegisterFile
 registers_of bytes = set_by_lines nothing_set (settings_in (behind_head (lines_in bytes)))
 
@@ -67,7 +67,7 @@ abbrev pub IsFaultOf : List ℕ → KeepError → Type 0
 IsFaultOf bytes (BadLine line) = bad_line bytes ≡ Some line
 IsFaultOf bytes NoMemory = Unit {0}
 
--- the same, of the lines behind the head
+-- the same, of the lines after the head
 abbrev pub IsFirstFault : List (List ℕ) → KeepError → Type 0
 IsFirstFault lines (BadLine line) = first_bad 2 lines ≡ Some line
 IsFirstFault lines NoMemory = Unit {0}

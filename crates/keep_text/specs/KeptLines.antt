@@ -18,7 +18,7 @@ pub data KeptLine : Type 0 where
   Url : (key url : List ℕ) → KeptLine
   Chunks : (key log : List ℕ) → KeptLine
 
--- the first word and the fields, each behind a space. An empty last field may lack its space
+-- the first word and the fields, each after a space. An empty last field may lack its space
 abbrev pub kept_row : KeptLine → List ℕ × List Param
 kept_row (Setting name value) = (codes "config", Word name ∷ Rest value ∷ [])
 kept_row (Expression expression) = (codes "wanted", Rest expression ∷ [])

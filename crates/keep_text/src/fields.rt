@@ -1,4 +1,4 @@
-// The first word of a line, and the fields behind it.
+// The first word of a line, and the fields after it.
 ghost use Rattle.std.specs.Prelude.{◌≡◌, ◌==◌, position, option_map, option_copied, Some, bytes_eq};
 ghost use Rattle.std.specs.List.{list_any};
 ghost use Rattle.ann_key.specs.KeyRefs.{text_of};

@@ -7,7 +7,7 @@ ghost use Rattle.chunk_log.specs.declared.note.Note.{Note};
 ghost use Rattle.keep_text.specs.KeptFiles.{lines_in, bad_line, registers_of, notes_of, kept_text, cut_note, IsKeepable};
 ghost use Rattle.keep_text.specs.KeptLines.{KeptLine, KeptSpells, kept_reading};
 
-/// The lines of a text are those that were put one behind the other; the last may lack its end.
+/// The lines of a text are those that were put one after the other; the last may lack its end.
 pub fn lines_are_cut()
     ensures ended { (lines : List (List ℕ)) → IsTrue (list_all (λ line. not (has_newline line)) lines) → lines_in (text lines) ≡ lines }
     ensures unended { (lines : List (List ℕ)) (byte : ℕ) (more : List ℕ) → IsTrue (list_all (λ line. not (has_newline line)) lines) → IsTrue (not (has_newline (byte ∷ more))) → lines_in (text lines ++ byte ∷ more) ≡ lines ++ (byte ∷ more) ∷ [] }

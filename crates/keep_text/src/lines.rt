@@ -10,7 +10,7 @@ fn end_at(text: &[u8]) -> usize
     text.iter().take_while(|b| **b != b'\n').count()
 }
 
-/// The first line, without its end, and what stands behind its end.
+/// The first line, without its end, and what follows its end.
 pub(crate) fn cut_line(text: &[u8]) -> (&[u8], &[u8])
     ensures line { result.0.now ≡ before_first (λ b. b == 10) text.now }
     ensures behind { result.1.now ≡ after_first (λ b. b == 10) text.now }

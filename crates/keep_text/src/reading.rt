@@ -43,7 +43,7 @@ fn is_head(line: &[u8]) -> bool
     line == b"annex-keep 1".as_slice()
 }
 
-// Takes the lines behind the head, which is line 1.
+// Takes the lines after the head, which is line 1.
 fn take_lines(
     alloc: Global,
     registers: &mut Registers,

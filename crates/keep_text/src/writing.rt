@@ -76,7 +76,7 @@ fn push_register(text: &mut Vec<u8>, line: RegLine<'_>) -> Result<(), NoMemory>
     }
 }
 
-// The word and a field behind a space.
+// The word and a field after a space.
 fn push_one(text: &mut Vec<u8>, word: &[u8], field: &[u8]) -> Result<(), NoMemory>
     ensures { OnOk result (text.new.items ≡ text.old.items ++ ((word.now ++ 32 ∷ field.now) ++ 10 ∷ [])) }
 {
@@ -87,7 +87,7 @@ fn push_one(text: &mut Vec<u8>, word: &[u8], field: &[u8]) -> Result<(), NoMemor
     Ok(())
 }
 
-// The word and two fields, each behind a space.
+// The word and two fields, each after a space.
 fn push_two(text: &mut Vec<u8>, word: &[u8], first: &[u8], second: &[u8]) -> Result<(), NoMemory>
     ensures { OnOk result (text.new.items ≡ text.old.items ++ ((word.now ++ 32 ∷ (first.now ++ 32 ∷ second.now)) ++ 10 ∷ [])) }
 {
@@ -156,7 +156,7 @@ pub fn register_line(alloc: Global, line: RegLine<'_>) -> Result<Bytes, NoMemory
     }
 }
 
-// A word and a field behind a space.
+// A word and a field after a space.
 pub(crate) fn written_one(alloc: Global, word: &[u8], field: &[u8]) -> Result<Bytes, NoMemory>
     ensures { IfOk result (λ bytes. bytes ≡ word.now ++ 32 ∷ field.now) }
 {
@@ -166,7 +166,7 @@ pub(crate) fn written_one(alloc: Global, word: &[u8], field: &[u8]) -> Result<By
     Ok(Bytes::from_vec(line))
 }
 
-// A word and two fields, each behind a space.
+// A word and two fields, each after a space.
 pub(crate) fn written_two(
     alloc: Global,
     word: &[u8],

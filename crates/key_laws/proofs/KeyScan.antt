@@ -15,7 +15,7 @@ use Rattle.ann_key.proofs.Errors.{digits_stop as no_digit_field, digits_stop_chu
 
 -- ---- the scan
 
--- whether a size, a time and a chunk were seen; or, behind a size and a time, -S and a number
+-- whether a size, a time and a chunk were seen; or, after a size and a time, -S and a number
 pub data Seen : Type 0 where
   Whole : Bool → Bool → Bool → Seen
   Sized : Bool → Bool → Seen
@@ -44,7 +44,7 @@ abbrev by_letter : ℕ → Seen → ℕ → List ℕ → Option KeyError → Opt
 by_letter total seen letter rest next =
     cond (follows seen letter) (cond (letter == 45) (name_error total rest) (number_then total rest letter next)) (Some (Field (total - length (letter ∷ rest))))
 
--- behind so many fields, and no more than `fuel` of them to come
+-- after so many fields, and no more than `fuel` of them to come
 unfoldable pub scan : ℕ → ℕ → Seen → List ℕ → Option KeyError
 scan total zero seen rest = None
 scan total (suc fuel) seen [] = Some (Field (total - 0))
@@ -60,7 +60,7 @@ key_scan fuel bytes =
     let n : ℕ = prefix_len is_backend_byte bytes in
     cond (nat_lt 0 n && dash (drop n bytes)) (scan (length bytes) fuel (Whole false false false) (drop n bytes)) (Some (Backend n))
 
--- ---- behind a field the scan goes on
+-- ---- after a field the scan goes on
 
 abbrev pub Leads : ℕ → Seen → List ℕ → Seen → List ℕ → Type 0
 Leads total a xs b ys = (k : ℕ) × ((fuel : ℕ) → scan total (fuel + k) a xs ≡ scan total fuel b ys)
@@ -130,7 +130,7 @@ chunk_leads total size mtime (Some c) text rest h stop =
     rw (h.2, append_assoc h.0 (45 ∷ 67 ∷ h.1) rest)
     (leads_on total (Whole size mtime false) (Sized size mtime) (Whole size mtime true) (45 ∷ 83 ∷ (h.0 ++ behind)) behind rest first second)
 
--- ---- behind a front
+-- ---- after a front
 
 abbrev pub seen_of : Begun → Seen
 seen_of (Fields key) = Whole (is_some key.size) (is_some key.mtime) (is_some key.chunk)
@@ -155,7 +155,7 @@ backend_leads backend rest fuel class d =
     let len : prefix_len is_backend_byte (backend ++ rest) ≡ length backend = prefix_len_front is_backend_byte backend rest c.1 (no_backend rest d) in
     rw (len, c.0, drop-append_seam backend rest, d) refl
 
--- the scan comes to what stands behind the front, which begins with no digit and, behind a backend alone, with a dash
+-- the scan comes to what follows the front, which begins with no digit and, after a backend alone, with a dash
 abbrev pub Comes : List ℕ → Seen → List ℕ → Type 0
 Comes bytes seen rest = (k : ℕ) × ((fuel : ℕ) → key_scan (fuel + k) bytes ≡ scan (length bytes) fuel seen rest)
 

@@ -58,7 +58,7 @@ follows_is : (begun : Begun) (b : ℕ) → may_follow begun b ≡ follows (seen_
 follows_is (Fields key) b = refl
 follows_is (ChunkSize key) b = refl
 
--- behind what was begun stands no digit and, behind a backend alone, a dash
+-- after what was begun stands no digit and, after a backend alone, a dash
 begun_comes : (front rest : List ℕ) (begun : Begun) → IsBegun front begun → prefix_len is_digit rest ≡ 0 → (ends_in_number begun ≡ false → dash rest ≡ true)
     → Comes (front ++ rest) (seen_of begun) rest
 begun_comes front rest (Fields key) s stop d = fields_come front rest key s stop (λ a b c. d (rw (a, b, c) refl))

@@ -16,7 +16,7 @@ some_behind-push p before (y ∷ ys) x =
     ∙ sym (or_assoc (p before y) (some_behind p (before ++ y ∷ []) ys) (p ((before ++ y ∷ []) ++ ys) x))
     ∙ ap (λ b. (p before y || some_behind p (before ++ y ∷ []) ys) || p b x) (append_assoc before (y ∷ []) ys)
 
--- the message that is answered behind one more
+-- the message that is answered after one more
 abbrev pub request_pushed : Option HostMessage → HostMessage → Option HostMessage
 request_pushed request (Value value) = request
 request_pushed request m = Some m
@@ -35,7 +35,7 @@ suffix_len-push : {A : Type 0} (p : A → Bool) (xs : List A) (x : A)
     → suffix_len p (xs ++ x ∷ []) ≡ cond (p x) (1 + suffix_len p xs) 0
 suffix_len-push p xs x = ap (prefix_len p) (reverse-append xs (x ∷ []))
 
--- an element that passes ends what stands behind the last one that passes
+-- an element that passes ends what follows the last one that passes
 after_last-push_yes : {A : Type 0} (p : A → Bool) (xs : List A) (x : A) → p x ≡ true → after_last p (xs ++ x ∷ []) ≡ []
 after_last-push_yes p xs x passes =
     let kept : suffix_len (λ y. not (p y)) (xs ++ x ∷ []) ≡ 0 =

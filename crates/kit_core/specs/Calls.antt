@@ -17,7 +17,7 @@ is_line_said Yes = true
 is_line_said No = true
 is_line_said (Failure text) = not (has_newline text)
 
--- the calls that are told, and this one behind them, unless no memory was found for it
+-- the calls that are told, and this one after them, unless no memory was found for it
 abbrev pub called : {E : Type 0} → Option (List Call) → Asked → Result Said E → Option (List Call)
 called told asked (Ok said) = option_map (λ calls. calls ++ record { asked = asked; said = said } ∷ []) told
 called told asked (Err e) = told

@@ -24,7 +24,7 @@ messages h = map (λ e. e.message) h
 abbrev pub calls_of : List Heard → List Call
 calls_of h = filter_map (λ e. e.call) h
 
--- some element passes the test behind those that stand before it: `before`, and the earlier ones of the list
+-- some element passes the test after those that stand before it: `before`, and the earlier ones of the list
 abbrev pub some_behind : {A : Type 0} → (List A → A → Bool) → List A → List A → Bool
 some_behind p before [] = false
 some_behind p before (x ∷ xs) = p before x || some_behind p (before ++ x ∷ []) xs
@@ -63,7 +63,7 @@ is_error m = false
 abbrev pub request_of : List HostMessage → Option HostMessage
 request_of ms = last_or None (filter (λ m. not (is_value m)) ms)
 
--- the values behind it
+-- the values after it
 abbrev pub values_of : List HostMessage → List (List ℕ)
 values_of ms = map value_in (after_last (λ m. not (is_value m)) ms)
 
@@ -81,7 +81,7 @@ is_readying (Some Prepare) = true
 is_readying (Some Initremote) = true
 is_readying request = false
 
--- a VALUE is awaited: PREPARE or INITREMOTE has fewer values behind it than there are settings
+-- a VALUE is awaited: PREPARE or INITREMOTE has fewer values after it than there are settings
 abbrev pub awaits_value : List (List ℕ) → List HostMessage → Bool
 awaits_value settings ms = is_readying (request_of ms) && is_some (next_setting settings ms)
 
@@ -150,7 +150,7 @@ pub data Due : Type 0 where
 abbrev pub refusal : HostMessage → List ℕ → Due
 refusal request text = Line (final_line (Some request) (Failure text))
 
--- the next setting is asked for; behind the last one, with these values, the remote gets ready
+-- the next setting is asked for; after the last one, with these values, the remote gets ready
 abbrev pub readying : Option (List ℕ) → List (List ℕ) → Due
 readying (Some name) values = Line (Getconfig name)
 readying None values = Asks (AskPrepare values)
@@ -196,7 +196,7 @@ abbrev pub live_due : Bool → Due → Due
 live_due true due = Silence
 live_due false due = due
 
--- what the message makes due behind what was heard
+-- what the message makes due after what was heard
 abbrev pub due_of : List (List ℕ) → List Heard → HostMessage → Due
 due_of settings h m =
     live_due (is_over settings (messages h))
@@ -220,12 +220,12 @@ said_by (Asks asked) request (Some call) = final_line request call.said ∷ []
 abbrev pub IsAskedBy : Due → Option Call → Type 0
 IsAskedBy due call = asked_by due ≡ option_map (λ c. c.asked) call
 
--- the lines that are said to one message, behind what was heard before it
+-- the lines that are said to one message, after what was heard before it
 abbrev pub lines_to : List (List ℕ) → List Heard → Heard → List (List ℕ)
 lines_to settings before e =
     map remote_line (said_by (due_of settings before e.message) (request_of (messages before ++ e.message ∷ [])) e.call)
 
--- the lines that are said to the messages of a list, behind those heard before it
+-- the lines that are said to the messages of a list, after those heard before it
 abbrev pub lines_behind : List (List ℕ) → List Heard → List Heard → List (List ℕ)
 lines_behind settings before [] = []
 lines_behind settings before (e ∷ rest) = lines_to settings before e ++ lines_behind settings (before ++ e ∷ []) rest
@@ -233,7 +233,7 @@ lines_behind settings before (e ∷ rest) = lines_to settings before e ++ lines_
 abbrev pub lines_said : List (List ℕ) → List Heard → List (List ℕ)
 lines_said settings h = lines_behind settings [] h
 
--- for each message exactly the call was made that is due behind those heard before it
+-- for each message exactly the call was made that is due after those heard before it
 abbrev pub IsServedBehind : List (List ℕ) → List Heard → List Heard → Type 0
 IsServedBehind settings before [] = Unit {0}
 IsServedBehind settings before (e ∷ rest) =
@@ -242,14 +242,14 @@ IsServedBehind settings before (e ∷ rest) =
 abbrev pub IsServed : List (List ℕ) → List Heard → Type 0
 IsServed settings h = IsServedBehind settings [] h
 
--- the calls that are told, and this one behind them
+-- the calls that are told, and this one after them
 abbrev pub with_call : Option (List Call) → Option Call → Option (List Call)
 with_call told None = told
 with_call told (Some call) = option_map (λ calls. calls ++ call ∷ []) told
 
 -- ---- one step
 
--- Behind what was heard, the message had this call made, these lines said, and left the kit over or not.
+-- After what was heard, the message had this call made, these lines said, and left the kit over or not.
 pub record IsStep (settings : List (List ℕ)) (h : List Heard) (m : HostMessage) (call : Option Call) (say : List (List ℕ)) (over : Bool) : Type 0 where
   pub asks : IsAskedBy (due_of settings h m) call
   pub says : say ≡ lines_to settings h (record { message = m; call = call })

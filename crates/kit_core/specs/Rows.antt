@@ -77,7 +77,7 @@ again_session =
 abbrev pub transfer_session : List Heard
 transfer_session = heard (AskExtensions (codes "INFO")) ∷ heard (Transfer true key (codes "f")) ∷ []
 
--- a value that nobody asked for, and what comes behind it
+-- a value that nobody asked for, and what comes after it
 abbrev pub value_session : List Heard
 value_session = heard (Value (codes "x")) ∷ heard Getcost ∷ []
 

@@ -33,7 +33,7 @@ stage_by true awaits request values = Over
 stage_by false true request values = Readying (is_prepare request) values
 stage_by false false request values = Waiting
 
--- where it stands behind these messages
+-- where it stands after these messages
 abbrev pub stage_of : List (List ℕ) → List HostMessage → Stage
 stage_of settings ms = stage_by (is_over settings ms) (awaits_value settings ms) (request_of ms) (values_of ms)
 
@@ -117,7 +117,7 @@ pub record Tries {R : Type 0} (calls : R → Option (List Call)) (old new : KitV
 
 -- ---- one step
 
--- The message had one call made, or none, and it is the one that is due behind whatever the kit followed; these lines are said,
+-- The message had one call made, or none, and it is the one that is due after whatever the kit followed; these lines are said,
 -- and the kit is over or not. It follows what was heard with this message.
 pub record Steps {R : Type 0} (calls : R → Option (List Call)) (settings : List (List ℕ)) (old new : KitValue R) (m : HostMessage) (say : List (List ℕ)) (over : Bool) : Type 0 where
   pub call : Option Call

@@ -143,7 +143,7 @@ impl<R: Remote> Kit<R> {
         self.finish(prepare_request(by_prepare), &said)
     }
 
-    // Asks for the next setting; behind the last one the remote gets ready.
+    // Asks for the next setting; after the last one the remote gets ready.
     fn ready(&mut self, by_prepare: bool, values: Values) -> Result<Lines, NoMemory>
         requires small { length values < 2 ^ 32 }
         requires lines { IsTrue (are_lines values) }

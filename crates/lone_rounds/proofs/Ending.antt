@@ -287,7 +287,7 @@ left_some o journal n is some = some_left (is_claimed journal) (numbers_of o) (�
 pub left_nothing : (o : Opening) (journal : List Entry) (n : ℕ) → n ≡ length (unclaimed o journal) → n ≡ 0 → are_all_claimed o journal ≡ true
 left_nothing o journal n is z = none_left (is_claimed journal) (numbers_of o) (sym is ∙ z)
 
--- where tasks are left behind all starts, each child is spent
+-- where tasks are left after all starts, each child is spent
 pub over_spent : {o : Opening} {may : Bool} {limit made : ℕ} {offer : Bool} {journal : List Entry} → Spaced o may made offer journal → IsOver o limit made journal → are_all_claimed o journal ≡ false
     → (made ≡ limit) × AreSpent journal
 over_spent {o} {may} {limit} {made} {offer} {journal} b over left = (first over, second b.spent)

@@ -88,7 +88,7 @@ due_in prepared over awaits values m =
 abbrev awaits_in : Option HostMessage → List (List ℕ) → HostMessage → Bool
 awaits_in request values m = is_readying (request_pushed request m) && is_some (slice_get settings (length (values_pushed values m)))
 
--- with one setting, no VALUE is awaited behind one
+-- with one setting, no VALUE is awaited after one
 no_second : (n : ℕ) → slice_get settings (n + 1) ≡ None
 no_second n = let e : n + 1 ≡ suc n = omega arith in ap (slice_get settings) e
 
@@ -141,7 +141,7 @@ comes_in prepared false false request said values m call ok asked =
 
 -- ---- the same of what was heard
 
--- an expected message, behind what was heard
+-- an expected message, after what was heard
 pub comes : (h : List Heard) (e : Heard) → is_over settings (messages (h ++ e ∷ [])) ≡ false → IsAskedBy (due_of settings h e.message) e.call
     → Comes e.message (awaits_value settings (messages h)) (awaits_value settings (messages (h ++ e ∷ []))) (lines_to settings h e)
 comes h e ok asked = there (request_of-push ms m) (values_of-push ms m)
@@ -179,7 +179,7 @@ comes h e ok asked = there (request_of-push ms m) (values_of-push ms m)
 
 -- ---- all lines that were taken
 
--- what holds of no line, and behind one more, holds of all
+-- what holds of no line, and after one more, holds of all
 pub by_last : {X : Type 0} (P : List X → Type 0) → P [] → ((xs : List X) (x : X) → P xs → P (xs ++ x ∷ [])) → (xs : List X) → P xs
 by_last {X} P base step xs = along [] xs base
   where
@@ -193,7 +193,7 @@ pub record AreExpected (taken : List Taken) : Type 0 where
   pub expected : is_over settings (messages (heard taken)) ≡ false
   pub served : IsServed settings (heard taken)
 
--- the last line of them, behind the others
+-- the last line of them, after the others
 pub record IsLastTaken (before : List Taken) (t : Taken) : Type 0 where
   pub message : HostMessage
   pub reads : host_reading t.line ≡ Some message

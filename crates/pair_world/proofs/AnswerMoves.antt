@@ -79,7 +79,7 @@ answered_still old new added l journal answers h c j at v is place =
 
 -- ---- a step of the core
 
--- behind a step of the core, where what settles a job anew is an answer
+-- after a step of the core, where what settles a job anew is an answer
 answered_step : (old new : WorldValue) (by : ℕ) (event : Event) → AreLinked old → new.journal ≡ old.journal ++ (step_of old.opening old.journal by event).group → new.answers ≡ old.answers
     → ((c j at : ℕ) (w : What) → (step_of old.opening old.journal by event).group ≡ group_of old.opening old.journal by w → Settling old.journal w c j at → IsAnsweredBy new c j at)
     → AreAnswered old → AreAnswered new

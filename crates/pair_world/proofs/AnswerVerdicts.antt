@@ -1,4 +1,4 @@
--- A verdict that names a line stands behind that line, and settles a job that was open then.
+-- A verdict that names a line follows that line, and settles a job that was open then.
 use Rattle.std.proofs.Common.{ℕ, ◌≡◌, ◌+◌, ◌<◌, ◌^◌, ◌⊎◌, inl, inr, Bool, true, false, not, cond, List, [], ◌∷◌, ◌++◌, length, map, Option, Some, None, refl, sym, ap, subst, ◌∙◌, arith, length-append}
 use Rattle.std.specs.Prelude.{◌&&◌, ◌==◌, filter}
 use Rattle.std.specs.List.{cons_option}

@@ -347,7 +347,7 @@ odd_stays o past by shut event e =
     let odd_reply : is_odd (step_of o past by event).reply ≡ true = sym (told_odd past shut event (step_of o past by event).reply) ∙ e in
     (refused_step o past by event odd_reply, odd_shut o past by shut event odd_reply)
 
--- ---- one child behind a stretch
+-- ---- one child after a stretch
 
 pub fed_on : (past more : List Entry) (c : ℕ) (p : PairValue) → sent_count more c ≡ 0 → IsFed past c p → IsFed (past ++ more) c p
 fed_on past more c p sent h = record {

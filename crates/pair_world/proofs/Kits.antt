@@ -41,7 +41,7 @@ told_apart : (c d : CueValue) → told_calls c ≡ told_calls d → (c.word ≡ 
 unfolding head_said tail_of
 told_apart c d t = (ap (head_said c.word) t, ap tail_of t)
 
--- a cue that told its word and nothing else tells this call behind it
+-- a cue that told its word and nothing else tells this call after it
 told_one : (before after : CueValue) (made : Option Call) → before.calls ≡ [] → Some (told_calls after) ≡ with_call (Some (told_calls before)) made
     → (after.word ≡ before.word) × (after.calls ≡ as_list made)
 told_one before after None none e =

@@ -44,7 +44,7 @@ all_of (x ∷ xs) e = go (x == 10) e (λ k. all_of xs k)
 pub first_all : (side : List ℕ) → has_newline side ≡ false → first_line side ≡ side
 first_all side none = ap (λ (n : ℕ). take n side) (all_of side none) ∙ take_all (length side) side (omega arith)
 
--- the bytes are the first line, its byte 10 and what stands behind
+-- the bytes are the first line, its byte 10 and what follows
 pub first_split : (side : List ℕ) → has_newline side ≡ true → side ≡ first_line side ++ 10 ∷ after_line side
 first_split side h = split_line side (has_end side h)
 

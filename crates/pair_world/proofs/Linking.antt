@@ -289,7 +289,7 @@ linked_new o journal c legal none =
       read = record { bytes = ap (λ (ls : List (List ℕ)). text ls ++ [] ++ text (codes "VERSION 1" ∷ [])) n.got };
     }
 
--- the child behind the others
+-- the child after the others
 last_pair : (pairs : List PairValue) (p : PairValue) (d : ℕ) → d ≡ length pairs + 1 → pair_of (pairs ++ p ∷ []) d ≡ p
 last_pair pairs p d e =
     pair_at (pairs ++ p ∷ []) d (omega (arith, e))

@@ -1,4 +1,4 @@
--- What a line of a child that keeps step makes due, and that the child keeps step behind it.
+-- What a line of a child that keeps step makes due, and that the child keeps step after it.
 use Rattle.std.proofs.Common.{ℕ, ◌≡◌, ◌+◌, ◌==◌, inl, inr, Bool, true, false, not, cond, List, [], ◌∷◌, ◌++◌, length, map, filter, filter_map, Option, Some, None, is_some, codes, bytes_eq, unwrap_or, refl, sym, ap, subst, ◌∙◌, arith, length-append}
 use Rattle.std.specs.Prelude.{◌&&◌, ◌||◌}
 use Rattle.std.specs.List.{list_all, list_any, cons_option}

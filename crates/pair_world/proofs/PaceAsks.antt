@@ -261,7 +261,7 @@ ask_in_step o past by c job task line legal h may unled =
       nothing = refl;
     }
 
--- ---- a request behind its name
+-- ---- a request after its name
 
 pub pair_apart : (by child c job task : ℕ) (name line : List ℕ) → (child == c) ≡ false → any (touches c) (pair by child job task name line) ≡ false
 pair_apart by child c job task name line n = rw n refl

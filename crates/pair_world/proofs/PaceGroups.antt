@@ -34,7 +34,7 @@ pub record JournalInStep (o : Opening) (journal : List Entry) : Type 0 where
   pub unset : settings_made journal ≡ []
   pub children : (c : ℕ) → ChildInStep journal c
 
--- so it is behind the stretch, and no child is ended in it for what it said
+-- so it is after the stretch, and no child is ended in it for what it said
 pub record Goes (o : Opening) (past more : List Entry) : Type 0 where
   pub in_step : JournalInStep o (past ++ more)
   pub peaceful : any finds_fault more ≡ false

@@ -180,7 +180,7 @@ pub record HeardBusy (journal : List Entry) (c : ℕ) (p : PairValue) (request :
   pub fine : is_fine reply ≡ true
   pub next : GoesOn reply (stage_of settings (written journal c)) ⊎ Finishes request reply (stage_of settings (written journal c))
 
--- where nothing more is said to the messages behind the front, and the last of all is no name, there are none
+-- where nothing more is said to the messages after the front, and the last of all is no name, there are none
 none_later : (front later earlier : List HostMessage) (m : HostMessage) → front ++ later ≡ earlier ++ m ∷ [] → replies_to later ≡ 0 → is_name m ≡ false → later ≡ []
 none_later [] later earlier m e none n =
     absurd (omega (arith, ap replies_to e, replies_to-append earlier (m ∷ []), one_reply m n, none))

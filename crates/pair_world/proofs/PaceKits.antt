@@ -220,7 +220,7 @@ says_one r vs p (Value v) call q h e n asked is a fields c = values_say r vs v c
 says_one r vs p (Creds user password) call q h e n asked is a fields c = no_creds (is_readying r && is_some (slice_get settings (length vs))) user password e
 says_one r vs p (HostError text) call q h e n asked is a fields c = absurd cc
 
--- ---- behind what was heard
+-- ---- after what was heard
 
 -- the kit isn't over, and expects the message
 pub record Expects (ms : List HostMessage) (m : HostMessage) : Type 0 where

@@ -141,7 +141,7 @@ expects_request ms q on waits asking = record {
 pub expects_name : (ms : List HostMessage) (name : List ℕ) → is_over settings ms ≡ false → stage_of settings ms ≡ Waiting → Expects ms (Export name)
 expects_name ms name on waits = record { before = on; no_error = refl; expected = ap (λ (b : Bool). is_unexpected b (Export name)) (not_awaiting ms on waits) }
 
--- behind a name a request
+-- after a name a request
 pub expects_named : (ms : List HostMessage) (name : List ℕ) (q : HostMessage) → is_over settings (ms ++ Export name ∷ []) ≡ false → is_asking q ≡ true → Expects (ms ++ Export name ∷ []) q
 expects_named ms name q on asking =
     let named : List HostMessage = ms ++ Export name ∷ [] in

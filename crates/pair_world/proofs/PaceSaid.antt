@@ -103,7 +103,7 @@ abbrev pub AreSound : List Heard → Type 0
 AreSound [] = Unit {0}
 AreSound (e ∷ h) = IsSound e × AreSound h
 
--- the rest is expected behind those before it
+-- the rest is expected after those before it
 abbrev AreExpected : List HostMessage → List HostMessage → Type 0
 AreExpected before ms = some_behind (ends_kit settings) before ms ≡ false
 

@@ -76,7 +76,7 @@ remove_granted key = ap (λ (b : Bool). cond (is_success (cond b (Some Done) Non
 
 -- ---- what is due, and what is known of it
 
--- what is answered is this request, its line is read as it, and the kit may hear any request behind it
+-- what is answered is this request, its line is read as it, and the kit may hear any request after it
 pub record IsCall (request read : Option HostMessage) (free : Bool) (m : HostMessage) : Type 0 where
   pub request_is : request ≡ Some m
   pub read_is : read ≡ Some m
@@ -162,7 +162,7 @@ suits_due h m read free call = go (is_over settings (messages h)) refl (is_unexp
         suits_work (next_setting settings (messages h ++ m ∷ [])) (values_of (messages h ++ m ∷ [])) (is_prepared h) (awaits_value settings (messages h))
         (request_of (messages h)) (request_of (messages h ++ m ∷ [])) read free m (request_of-push (messages h) m) ready f (call e f)
 
--- ---- behind a call
+-- ---- after a call
 
 pub call_request : (earlier : Option HostMessage) (m : HostMessage) → is_call m ≡ true → request_pushed earlier m ≡ Some m
 call_request earlier (Value value) called = cc

@@ -76,7 +76,7 @@ stored_before answers a key bytes calm l = record {
 
 -- ---- the map of keys
 
--- what is stored under a key, behind an answer with these bytes that stores it, removes it, or does neither
+-- what is stored under a key, after an answer with these bytes that stores it, removes it, or does neither
 abbrev pub kept : Bool → Bool → List ℕ → Option (List ℕ) → Option (List ℕ)
 kept stored removed bytes before = cond stored (Some bytes) (cond removed None before)
 

@@ -66,7 +66,7 @@ abbrev pub noted : List ℕ → Option (List ℕ) → List (List ℕ × List ℕ
 noted request None = []
 noted request (Some line) = (request, line) ∷ []
 
--- the answer that is given once this line was taken, behind those before
+-- the answer that is given once this line was taken, after those before
 abbrev pub answer_with : List Taken → Taken → Option Heard → List (List ℕ × List ℕ)
 answer_with before t None = []
 answer_with before t (Some e) =

@@ -21,7 +21,7 @@ pub record IsCue (word : Said) (calls : List Call) : Type 0 where
   pub line : IsTrue (is_line_said word)
 
 -- What a cue tells of its calls: first its word, as if it had said it to a call, and then the calls. A kit keeps of its remote what
--- that tells, so it is known of a cue behind a kit's step that its word is the one that it was given.
+-- that tells, so it is known of a cue after a kit's step that its word is the one that it was given.
 abbrev pub told_calls : CueValue → List Call
 told_calls cue = record { asked = Prepare []; said = cue.word } ∷ cue.calls
 

@@ -34,7 +34,7 @@ IsMade false old Does (Did reply) new = Does reply new
 abbrev pub reply_to : WorldValue → ℕ → Event → Reply
 reply_to w by event = told w.journal w.shut event (step_of w.opening w.journal by event).reply
 
--- the world behind an event of its core
+-- the world after an event of its core
 abbrev pub stepped : WorldValue → ℕ → Event → WorldValue
 stepped w by event = record w { journal = w.journal ++ (step_of w.opening w.journal by event).group; shut = shut_by by event w.shut }
 

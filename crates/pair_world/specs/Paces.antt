@@ -94,7 +94,7 @@ pub record KeepsStep (journal : List Entry) (c : ℕ) : Type 0 where
   pub untagged : is_tagged journal c ≡ false
   pub turn : IsSilent journal c ⊎ (IsIdle journal c ⊎ IsBusy journal c)
 
--- So it is of each child, from what a run may begin with. No kit set anything, no child was found mute, and behind its end too a
+-- So it is of each child, from what a run may begin with. No kit set anything, no child was found mute, and after its end too a
 -- child's kit expects what was written to it.
 pub record AreInStep (w : WorldValue) : Type 0 where
   pub begins : MayBegin w.opening

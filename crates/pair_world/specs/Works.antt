@@ -89,7 +89,7 @@ pub record Serves (keys files : Items) (asked : Option Asked) (new_keys new_file
 
 -- ---- one line
 
--- a kit's step: the call was answered by the word, and behind whatever the kit followed it was due, these lines are said, and the
+-- a kit's step: the call was answered by the word, and after whatever the kit followed it was due, these lines are said, and the
 -- kit follows that with the message
 pub record StepsBy (said : Said) (old new : KitValue CueValue) (m : HostMessage) (call : Option Call) (say : List (List ℕ)) : Type 0 where
   pub word : IfSome call (λ c. c.said ≡ said)

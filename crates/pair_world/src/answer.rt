@@ -1,6 +1,6 @@
 use ann_key::Bytes;
 
-/// An answer of a kit: the child, the line of its request, the last line that it said to it, and the bytes that the call behind
+/// An answer of a kit: the child, the line of its request, the last line that it said to it, and the bytes that the call after
 /// that line put under a key or in a file. Lines are without byte 10.
 #[derive(Drop)]
 pub(crate) struct Answer {

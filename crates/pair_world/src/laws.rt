@@ -70,7 +70,7 @@ pub fn nothing_to_do()
     ensures other { (o : Opening) (reply : Reply) (new : WorldValue) → Moves (arrived o) (Hear 2) (Did reply) new → ⊥ }
 {}
 
-/// A RETRIEVE gives what the last STORE of the key put, whatever became of other keys. Behind a REMOVE of the key there is none that
+/// A RETRIEVE gives what the last STORE of the key put, whatever became of other keys. After a REMOVE of the key there is none that
 /// succeeds, and it gives neither other bytes nor those of an earlier STORE.
 pub fn last_stored()
     ensures given { GiveLastStored (stored (codes "one") ∷ removed (codes "WORM--b") ∷ retrieved (codes "one") ∷ []) }

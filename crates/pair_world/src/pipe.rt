@@ -49,7 +49,7 @@ fn drop_line_of(bytes: &mut Vec<u8>)
     }
 }
 
-// Moves the first bytes behind those of another.
+// Moves the first bytes after those of another.
 fn move_front(from: &mut Vec<u8>, to: &mut Vec<u8>, n: usize) -> Result<(), NoMemory>
     requires { n ≤ vec_len from.old }
     ensures { OnOk result ((from.new.items ≡ drop n from.old.items) × (to.new.items ≡ to.old.items ++ take n from.old.items)) }

@@ -363,7 +363,7 @@ impl World {
     }
 
     /// The answer of that number, from 0: the child, the line of its request, the last line that its kit said to it, and the bytes
-    /// that the call behind it put under a key or in a file. None exactly where there is none. It takes no memory.
+    /// that the call after it put under a key or in a file. None exactly where there is none. It takes no memory.
     pub fn answer(&self, n: usize) -> Option<(u32, &[u8], &[u8], &[u8])>
         ensures { MatchOption result (slice_get self.now.answers n ≡ None) (λ a. slice_get self.now.answers n ≡ Some (record { child = a.0; request = a.1.now; line = a.2.now; bytes = a.3.now })) }
     {

@@ -1,4 +1,4 @@
--- Entries in order, put one behind the other into an empty list, give the list itself.
+-- Entries in order, put one after the other into an empty list, give the list itself.
 use Rattle.std.proofs.Common.{◌≡◌, ℕ, ◌==◌, Bool, true, false, ◌&&◌, List, [], ◌∷◌, ◌++◌, map, fold, length, nat_lt, if◌then◌else◌, refl, sym, ap, ◌∙◌, arith}
 use Rattle.std.specs.declared.cmp.Ordering.{Ordering}
 use Rattle.std.specs.declared.cmp.Ordering.TheVariants.{Less, Greater}

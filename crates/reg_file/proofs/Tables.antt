@@ -30,7 +30,7 @@ alike x y e = sym (is_eq-by_bytes x y) ∙ ap is_eq e
 apart : (x y q : List ℕ) → bytes_eq x y ≡ false → bytes_eq q y ≡ true → bytes_eq q x ≡ true → ⊥
 apart x y q other is_y is_x = false≢true (sym other ∙ subst (λ z. bytes_eq z y ≡ true) (same_bytes q x is_x) is_y)
 
--- ---- tests one behind the other
+-- ---- tests one after the other
 cond-same : {A : Type 0} (b : Bool) (x : A) → cond b x x ≡ x
 cond-same true x = refl
 cond-same false x = refl

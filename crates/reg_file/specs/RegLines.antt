@@ -1,4 +1,4 @@
--- The set registers one behind the other, as a kept file has them.
+-- The set registers one after the other, as a kept file has them.
 use Rattle.std.specs.Prelude.{ℕ, Bool, ◌&&◌, List, [], ◌∷◌, ◌++◌, map, length, nat_lt, fold, true}
 use Rattle.reg_file.specs.declared.line.RegLine.{RegLine}
 use Rattle.reg_file.specs.declared.line.RegLine.TheVariants.{Config, Wanted, State, Url}

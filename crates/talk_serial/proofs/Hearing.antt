@@ -1,4 +1,4 @@
--- What is heard, and what may stand behind a talk so far.
+-- What is heard, and what may follow a talk so far.
 use Rattle.std.proofs.Common.{◌≡◌, ℕ, List, [], ◌∷◌, ◌++◌, refl, sym, ap, ◌∙◌, Bool, true, false, Option, Some, None, if◌then◌else◌, append_assoc, append-nil, subst}
 use mathlib.Core.Logic.{inl, inr}
 use Rattle.std.specs.Prelude.{IsSome, IsTrue, ◌⊎◌, map}

@@ -57,7 +57,7 @@ at_shape s q [] m h =
     ∙ ap (λ (x : Heard). if is_unsupported (Some m ∷ []) then Settled Unsupported else x) (line_first s q m)
 at_shape s q (a ∷ ms) m h = rw (more_lines a ms (Some m)) (later_line s q a ms m h)
 
--- what is heard by the stage is what is heard behind what was said
+-- what is heard by the stage is what is heard after what was said
 pub heard_behind : (t : Talked) (ms : List (Option RemoteMessage)) (m : RemoteMessage) → Follows t ms → is_over t ≡ false
     → heard_by t m ≡ heard (message_of t.request) ms m
 heard_behind t ms m follows live =

@@ -15,7 +15,7 @@ heard_as Part = HeardPart
 heard_as (Settles f) = Settled f
 heard_as Strange = Foul
 
--- what the message is to the request, behind these that were no asides
+-- what the message is to the request, after these that were no asides
 abbrev pub heard : HostMessage → List (Option RemoteMessage) → RemoteMessage → Heard
 heard q ms m = if is_aside m then HeardAside else heard_as (hearing_of (Some q) (ms ++ Some m ∷ []))
 
@@ -54,7 +54,7 @@ from_remote at text = record { side = Remote; at = at; text = text }
 abbrev pub from_host : ℕ × List ℕ → Item
 from_host line = record { side = Host; at = line.0; text = line.1 }
 
--- behind a part that talks so far, a line whose message settles the talk makes a conversation of it with that final, and no other does
+-- after a part that talks so far, a line whose message settles the talk makes a conversation of it with that final, and no other does
 abbrev pub SettledMakesConv : Type 0
 SettledMakesConv =
     (replies : ℕ → List (List ℕ)) (q : HostMessage) (part : List Item) (at : ℕ) (text : List ℕ) (m : RemoteMessage) (f : Final)
@@ -86,7 +86,7 @@ AsideTalksOn =
     → map (λ (line : ℕ × List ℕ). line.1) lines ≡ replies at
     → Talking replies q (part ++ from_remote at text ∷ map from_host lines)
 
--- each of the messages is taken as one more line, behind those before it
+-- each of the messages is taken as one more line, after those before it
 abbrev pub are_taken : HostMessage → List (Option RemoteMessage) → List RemoteMessage → Bool
 are_taken q ms [] = true
 are_taken q ms (m ∷ more) = is_taken (heard q ms m) && are_taken q (ms ++ Some m ∷ []) more

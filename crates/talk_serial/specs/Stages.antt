@@ -35,7 +35,7 @@ abbrev pub heard_by : Talked → RemoteMessage → Heard
 heard_by t m =
     if is_over t then Foul else if is_aside m then Aside else answer_heard (message_of t.request) t.stage m
 
--- behind a part
+-- after a part
 abbrev pub stage_behind : RemoteMessage → Stage
 stage_behind m = if is_infofield (Some m) then Half else Between
 

@@ -1,7 +1,7 @@
 // Laws over the definitions, each the contract of a function with nothing to do.
 ghost use Rattle.talk_serial.specs.Hearings.{SettledMakesConv, FoulCannotFollow, PartTalksOn, AsideTalksOn, TakenAnswers};
 
-/// Behind a talk so far, a message that is heard as settling it makes a whole conversation with that final, one that is heard
+/// After a talk so far, a message that is heard as settling it makes a whole conversation with that final, one that is heard
 /// as a part or as an aside goes on, and one that is heard as foul can't follow.
 pub fn hearing_is_talking()
     ensures settled { SettledMakesConv }

@@ -159,7 +159,7 @@ impl Talk {
         }
     }
 
-    /// What the message is to the talk, behind what was said. Behind a whole answer each is foul. It takes no memory.
+    /// What the message is to the talk, after what was said. After a whole answer each is foul. It takes no memory.
     pub fn hear(&mut self, message: &RemoteMsg<'_>) -> Heard
         ensures answer { (ms : List (Option RemoteMessage)) → Follows self.old ms → is_over self.old ≡ false → result ≡ heard (message_of self.old.request) ms (remote_shown message.now) }
         ensures over { is_over self.old ≡ true → result ≡ Foul }

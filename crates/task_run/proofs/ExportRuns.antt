@@ -40,7 +40,7 @@ asks_for_named : (ask : ℕ → List ℕ → HostMessage) (text name : List ℕ)
 asks_for_named ask text name key None v r n k = k
 asks_for_named ask text name key (Some q) v r n k = rw (k, n) (refl, r)
 
--- the one request, of the task's key, stands behind the task's name
+-- the one request, of the task's key, follows the task's name
 pub asks_of_name : (ask : ℕ → List ℕ → HostMessage) (text name : List ℕ) (key : Parts) (request : Option HostMessage) (v : Verdict) → key_reading text ≡ Some key → key_named (ask 1 text) ≡ text
     → KeepsRequest (ask 1 text) request v → AsksOfName ask (key ∷ []) name (named name request v ∷ [])
 asks_of_name ask text name key request v r n k = record { in_order = (asks_for_named ask text name key request v r n k, tt); named = refl }

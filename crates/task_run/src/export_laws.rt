@@ -10,7 +10,7 @@ ghost use Rattle.task_run.specs.Runs.{TaskRun};
 ghost use Rattle.task_run.specs.Rows.{asks, asks_named, fetched_1, first_turn, got_abc, part_gone, renamed, setup_of, sized};
 ghost use Rattle.task_run.specs.ExportRows.{checks_docs, docs_task, drops_docs, get_docs, gets_docs, rename_docs, renames_docs, store_docs, stores_docs};
 
-/// A file is stored once, behind its name, and where its length is the key's size. Without that name, behind another, or by a request that
+/// A file is stored once, after its name, and where its length is the key's size. Without that name, after another, or by a request that
 /// is of no export, it is no run.
 pub fn export_store_runs()
     ensures stored { TaskRun store_docs (first_turn 1) (setup_of 0) [] (stores_docs (Done 14)) (sized (codes "f") 2) [] Stored }
@@ -44,7 +44,7 @@ pub fn export_name_runs()
     ensures looked { TaskRun (docs_task XDrop) (first_turn 1) (setup_of 0) [] (drops_docs (Done 14)) (sized (codes "f") 2) [] Dropped → ⊥ }
 {}
 
-/// A get fetches into a file of the task's own, behind the name, moves that to part, and renames part where what was read fits the key.
+/// A get fetches into a file of the task's own, after the name, moves that to part, and renames part where what was read fits the key.
 pub fn export_get_runs()
     ensures wrong_length { TaskRun get_docs (first_turn 1) (setup_of 0) [] (gets_docs (Done 14)) (sized fetched_1 2 ++ part_gone) [] (SizeAnswer 2) }
     ensures failed { TaskRun get_docs (first_turn 1) (setup_of 0) [] (gets_docs (Failed 14)) [] [] (FailedAnswer 14) }

@@ -30,7 +30,7 @@ split_at_mark p m only bytes some =
     ⊎_elim (λ inside. inside) (λ past. absurd (some (drop_all (at + 1) bytes (omega arith)))) (cases_lt at (length bytes)) in
     split_at_first p bytes 0 within ∙ ap (λ x. before_first p bytes ++ x ∷ after_first p bytes) (only _ (passes_at_first p bytes 0 within))
 
--- what stands before and behind the space, or the byte 9, that follows a list without one
+-- what stands before and after the space, or the byte 9, that follows a list without one
 pub before_space : (word rest : List ℕ) → list_any is_space word ≡ false → before_first is_space (word ++ 32 ∷ rest) ≡ word
 before_space = before_mark is_space 32 refl
 
@@ -43,7 +43,7 @@ before_tab = before_mark is_tab 9 refl
 pub after_tab : (word rest : List ℕ) → list_any is_tab word ≡ false → after_first is_tab (word ++ 9 ∷ rest) ≡ rest
 after_tab = after_mark is_tab 9 refl
 
--- where something stands behind the first space, or the first byte 9, there is one
+-- where something follows the first space, or the first byte 9, there is one
 pub split_at_space : (bytes : List ℕ) → (after_first is_space bytes ≡ [] → ⊥)
     → bytes ≡ before_first is_space bytes ++ 32 ∷ after_first is_space bytes
 split_at_space = split_at_mark is_space 32 (λ b is. eqb-true b 32 is)

@@ -1,4 +1,4 @@
--- The parts of what stands behind a line's word.
+-- The parts of what follows a line's word.
 use Rattle.std.proofs.Common.{◌≡◌, ℕ, ◌==◌, ◌&&◌, Bool, true, false, not, List, [], ◌∷◌, ◌++◌, length, refl, sym, ap, ◌∙◌, if◌then◌else◌}
 use Rattle.std.specs.List.{list_any, before_first, after_first}
 use Rattle.std.proofs.lemmas.Bool.{false≢true, and_parts, not-true, not-false, eqb-true}
@@ -10,9 +10,9 @@ use Rattle.task_text.specs.declared.task.Work.{Work}
 use Rattle.task_text.specs.declared.task.Work.TheVariants.{Store, Get, Check, Drop, XStore, XGet, XCheck, XDrop, XRename}
 use Rattle.task_text.proofs.Marks.{before_space, after_space, before_tab, after_tab, split_at_space, split_at_tab, none_before}
 
--- ---- what is written behind the word has its parts
+-- ---- what is written after the word has its parts
 
--- these are the parts of what stands behind the word
+-- these are the parts of what follows the word
 pub record AreParts (work : Work) (rest key file name onto : List ℕ) : Type 0 where
   pub key_is : key_in work rest ≡ key
   pub file_is : file_in work (after_first is_space rest) ≡ file
@@ -99,7 +99,7 @@ parts_of_rest XRename key file name onto rest e none f n o apart =
       onto_is = second_of_two name onto _ words (tabless name n);
     }
 
--- ---- parts that are right make up what stands behind the word
+-- ---- parts that are right make up what follows the word
 
 no_empty_key : (key : List ℕ) → is_key key ≡ true → key ≡ [] → ⊥
 no_empty_key key h e = false≢true (ap is_key (sym e) ∙ h)
@@ -131,7 +131,7 @@ whole_rest XCheck rest file name onto = split_at_space rest (no_empty_name _ (no
 whole_rest XDrop rest file name onto = split_at_space rest (no_empty_name _ (not-false _ name))
 whole_rest XRename rest file name onto = two_words rest (not-false _ onto)
 
--- where the key is one, something stands behind the word
+-- where the key is one, something follows the word
 pub some_rest : (work : Work) (rest : List ℕ) → is_key (key_in work rest) ≡ true → rest ≡ [] → ⊥
 some_rest Check rest key = no_empty_key rest key
 some_rest Drop rest key = no_empty_key rest key

@@ -39,7 +39,7 @@ pub record IsTask (task : Task) : Type 0 where
   pub onto_class : IsTrue (if has_onto task.work then is_name task.onto else length task.onto == 0)
   pub apart : IsTrue (not (has_name task.work && list_any is_tab task.file))
 
--- what stands behind the key: a space and the file, the name, or two of the three with a byte 9 between them
+-- what follows the key: a space and the file, the name, or two of the three with a byte 9 between them
 abbrev pub behind_key : Work → List ℕ → List ℕ → List ℕ → List ℕ
 behind_key Store file name onto = 32 ∷ file
 behind_key Get file name onto = 32 ∷ file
@@ -51,7 +51,7 @@ behind_key XCheck file name onto = 32 ∷ name
 behind_key XDrop file name onto = 32 ∷ name
 behind_key XRename file name onto = 32 ∷ name ++ 9 ∷ onto
 
--- the word, a space and the key, and then what stands behind it
+-- the word, a space and the key, and then what follows it
 abbrev pub line_of : Task → List ℕ
 line_of task = word_of task.work ++ 32 ∷ (task.key ++ behind_key task.work task.file task.name task.onto)
 
@@ -68,14 +68,14 @@ is_space b = b == 32
 abbrev pub work_at : List ℕ → Option Work
 work_at line = work_of (before_first is_space line)
 
--- of what stands behind the word's space, the key is all or, where anything follows it, reaches to the next space or the end
+-- of what follows the word's space, the key is all or, where anything follows it, reaches to the next space or the end
 abbrev pub key_in : Work → List ℕ → List ℕ
 key_in Check rest = rest
 key_in Drop rest = rest
 key_in _ rest = before_first is_space rest
 
--- Of what stands behind the key's space, the first word is all or, where the work has two, reaches to the first byte 9 or the end.
--- The second is all behind that byte.
+-- Of what follows the key's space, the first word is all or, where the work has two, reaches to the first byte 9 or the end.
+-- The second is all after that byte.
 abbrev pub file_in : Work → List ℕ → List ℕ
 file_in Store words = words
 file_in Get words = words
@@ -98,7 +98,7 @@ onto_in _ words = []
 abbrev pub key_at : Work → List ℕ → List ℕ
 key_at work line = key_in work (after_first is_space line)
 
--- what stands behind the key's space
+-- what follows the key's space
 abbrev pub words_at : List ℕ → List ℕ
 words_at line = after_first is_space (after_first is_space line)
 

@@ -58,7 +58,7 @@ fn make_task(
     })
 }
 
-// The parts of what stands behind a line's word. Those that the work hasn't are empty.
+// The parts of what follows a line's word. Those that the work hasn't are empty.
 #[derive(Clone, Copy)]
 struct Parts<'a> {
     key: &'a [u8],
@@ -109,7 +109,7 @@ fn parts_of(work: Work, rest: &[u8]) -> Parts<'_>
     }
 }
 
-// What stands before the first space, or all, and what stands behind it.
+// What stands before the first space, or all, and what follows it.
 fn split_at_space(bytes: &[u8]) -> (&[u8], &[u8])
     ensures before { result.0.now ≡ before_first is_space bytes.now }
     ensures behind { result.1.now ≡ after_first is_space bytes.now }
@@ -125,7 +125,7 @@ fn split_at_tab(bytes: &[u8]) -> (&[u8], &[u8])
     cut_at(bytes, before_tab(bytes))
 }
 
-// What stands before this place, and what stands behind it.
+// What stands before this place, and what follows it.
 fn cut_at(bytes: &[u8], at: usize) -> (&[u8], &[u8])
     requires within { at ≤ length bytes.now }
     ensures before { result.0.now ≡ take at bytes.now }
@@ -240,7 +240,7 @@ pub fn write_task(alloc: Global, task: &Task) -> Result<Bytes, NoMemory>
     Ok(Bytes::from_vec(line))
 }
 
-// What stands behind the key.
+// What follows the key.
 fn push_words(line: &mut Vec<u8>, task: &Task) -> Result<(), NoMemory>
     ensures { OnOk result (line.new.items ≡ line.old.items ++ behind_key task.now.work task.now.file task.now.name task.now.onto) }
 {

@@ -1,4 +1,4 @@
--- The first byte 10 of a list, and what stands before and behind it.
+-- The first byte 10 of a list, and what stands before and after it.
 use Rattle.std.proofs.Common.{◌≡◌, ℕ, ◌+◌, ◌-◌, ◌<◌, ◌≤◌, ◌==◌, Bool, true, false, not, cond, suc, List, [], ◌∷◌, ◌++◌, IsTrue, Some, None, length, take, drop, refl, sym, ap, ◌∙◌, arith, ⊎_elim, append_assoc}
 use Rattle.std.specs.List.{position_or_len}
 use Rattle.std.proofs.lemmas.Bool.{false≢true, cases_lt, eqb-true}
@@ -44,7 +44,7 @@ ends_within limit bytes has =
 pub no_newline_before : (bytes : List ℕ) → has_newline (first_line bytes) ≡ false
 no_newline_before bytes = take_lacks (end_of bytes) bytes (λ k a b. a)
 
--- the bytes are the first line, its byte 10 and what stands behind
+-- the bytes are the first line, its byte 10 and what follows
 pub split_line : (bytes : List ℕ) → end_of bytes < length bytes → bytes ≡ first_line bytes ++ 10 ∷ after_line bytes
 split_line bytes within =
     split_at_first (λ b. b == 10) bytes 0 within

@@ -31,7 +31,7 @@ first_line bytes = before_first (λ b. b == 10) bytes
 abbrev pub after_line : List ℕ → List ℕ
 after_line bytes = after_first (λ b. b == 10) bytes
 
--- what was read up to `before` and cut is cut the same with the piece behind it, and leaves `after`
+-- what was read up to `before` and cut is cut the same with the piece after it, and leaves `after`
 abbrev pub TakesPiece : List ℕ → List ℕ → List ℕ → Type 0
 TakesPiece before piece after =
     (bytes : List ℕ) (lines : List (List ℕ)) → Cut bytes lines before → Cut (bytes ++ piece) lines after

@@ -135,7 +135,7 @@ impl Splitter {
         Bytes::from_vec(bytes)
     }
 
-    // Moves the held bytes to the front, where `wanted` more don't fit behind them. It waits until at
+    // Moves the held bytes to the front, where `wanted` more don't fit after them. It waits until at
     // least as many bytes are dropped as are moved, so that the moves cost no more than the pushes.
     fn compact(&mut self, wanted: usize)
         ensures bytes { self.new.bytes ≡ self.old.bytes }

@@ -1,4 +1,4 @@
-// The command word of a line, and the parameters behind it, by their classes.
+// The command word of a line, and the parameters after it, by their classes.
 ghost use Rattle.std.specs.Prelude.{◌≡◌, ◌≤◌, ◌==◌, length, Some, option_map, option_copied, position, bytes_eq, true};
 ghost use Rattle.std.specs.List.{list_all, list_any};
 ghost use Rattle.ann_key.specs.KeyRefs.{text_of};

@@ -6,7 +6,7 @@ ghost use Rattle.wire_msg.specs.Shown.{params_shown};
 use ann_key::{Bytes, KeyRef, NoMemory};
 use std::alloc::Global;
 
-/// What stands behind the command word: true for `STORE` and for `GLOBAL`.
+/// What follows the command word: true for `STORE` and for `GLOBAL`.
 #[derive(Clone, Copy)]
 pub(super) enum Parameters<'a> {
     Bare,
@@ -39,7 +39,7 @@ pub(super) fn rest_of<'a>(parameters: Parameters<'a>) -> &'a [u8]
     }
 }
 
-/// The word, and each parameter behind a space.
+/// The word, and each parameter after a space.
 pub(super) fn line(
     alloc: Global,
     word: &[u8],

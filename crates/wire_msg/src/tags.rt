@@ -51,7 +51,7 @@ fn tagged(alloc: Global, job: u64, message: &[u8]) -> Result<Bytes, NoMemory>
     Ok(Bytes::from_vec(line))
 }
 
-/// The line of the message for that job: `J`, the number without leading zeros, and the message, each behind a space.
+/// The line of the message for that job: `J`, the number without leading zeros, and the message, each after a space.
 /// Untagged, it gives number and message back.
 pub fn tag(alloc: Global, job: u64, message: &[u8]) -> Result<Bytes, NoMemory>
     ensures line { IfOk result (λ b. b ≡ tagged_line job message.now) }

@@ -18,7 +18,7 @@ turn_at : (c at : ℕ) (entries : List Entry) (e : Entry) → slice_get entries 
 turn_at c at entries e there =
     ap (λ (past : List Entry). last_turn past c) (one_more entries at e there) ∙ fold-append (turn_after c) None (take at entries) (e ∷ [])
 
--- what was found is the last, where nothing came behind it
+-- what was found is the last, where nothing came after it
 pub turn_found : (c back : ℕ) (entries : List Entry) (e : Entry) (turn : Turn) → back < length entries → slice_get entries (length entries - 1 - back) ≡ Some e
     → turn_in c e.what ≡ Some turn → last_turn entries c ≡ last_turn (take (length entries - back) entries) c → last_turn entries c ≡ Some turn
 turn_found c back entries e turn within there is behind =

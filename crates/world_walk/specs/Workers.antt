@@ -98,7 +98,7 @@ answer_for task (Some t) (Some verdict) = Some (AnswerEvent task (answer_by (suc
 answer_for task (Some t) None = None
 answer_for task None verdict = None
 
--- Behind the first job the child is to get ready, and behind a job of a task that the worker holds it is answered.
+-- After the first job the child is to get ready, and after a job of a task that the worker holds it is answered.
 abbrev pub behind_job : Opening → List Entry → ℕ → ℕ → ℕ → Option Event
 behind_job o past c job task =
     if job == 0 then Some (AskEvent c 0 Prepare)

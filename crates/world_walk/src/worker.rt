@@ -197,7 +197,7 @@ fn answer_for(opening: &Opening, task: u32, verdict: Option<Verdict>) -> Option<
     })
 }
 
-// What comes behind a job that is settled.
+// What comes after a job that is settled.
 fn behind_job(
     opening: &Opening,
     journal: &Journal,

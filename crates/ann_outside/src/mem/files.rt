@@ -125,7 +125,7 @@ pub fn copy_of(
     }
 }
 
-// The file's bytes with the piece behind them; none where there is no such file.
+// The file's bytes with the piece after them; none where there is no such file.
 pub fn joined(
     alloc: Global,
     files: &[(Text, Bytes)],
