@@ -1,6 +1,6 @@
-use Rattle.std.proofs.Common.{Bool, true, false, ◌++◌, Ok, subst, ◌∙◌}
+use Rattle.std.proofs.Common.{Bool, true, false, [], ◌++◌, Ok, refl, subst, ◌∙◌}
 use Rattle.std.proofs.lemmas.Result.{err_from_is_err_and}
-use Rattle.task_input.proofs.Given.{given_both}
+use Rattle.task_input.proofs.Given.{given_both, given_none}
 use Rattle.audit_run.specs.Steps.{IsStep}
 use Rattle.audit_run.proofs.Pieces.{step_fails, took_end_of, less_still}
 use Rattle.audit_run.proofs.reading.take_all.Goals as goal
@@ -47,3 +47,12 @@ loop-intake-preserved g c =
       opened = now.open;
       number = now.number ∙ was.number;
     }
+
+pub loop-intake-init : goal.loop-intake-init
+loop-intake-init g c = record {
+  bytes = ([], given_none (g.S.Source.given c.args.source.now) (g.S.Source.left c.args.source.now), c.new-intake.ensures c.args.limits.now);
+  silent = (λ e. e, λ e. e);
+  faults = refl;
+  opened = c.requires;
+  number = refl;
+}
