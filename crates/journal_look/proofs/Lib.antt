@@ -9,3 +9,4 @@ pub mod InWay
 pub mod Taking
 pub mod Working
 pub mod Across
+pub mod Settling

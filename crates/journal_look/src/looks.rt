@@ -204,7 +204,7 @@ pub fn due_at(journal: &Journal, n: u64, at: u64, child: u32, unsent: bool) -> O
     requires { n ≤ length journal.now.entries }
     ensures { result ≡ job_at journal.now.entries n at child unsent }
 {
-    dues::job_at(&journal.entries(), n as usize, at as usize, child, unsent)
+    dues::job_at(journal, n as usize, at as usize, child, unsent)
 }
 
 /// A place before which no end or mute of a child settles the job that an entry asks.
