@@ -101,6 +101,24 @@ def case_a_child_dies_with_eight_jobs_open_then_a_start_fails_and_then_a_child_d
     expect_run(room, "./remote", checks(*EIGHT, "i", "j"), out, jobs=8, starts=3, children=2, busy=8)
 
 
+@limits(60)
+def case_a_child_dies_with_its_first_job_open_after_thousands_of_others(room):
+    count = 3000
+    room.children("remote", f"""
+greet("ASYNC")
+asked = answered = 0
+for tag, words in requests():
+    asked += 1
+    if words[1] != "WORM--0":
+        say(tag + "CHECKPRESENT-SUCCESS " + words[1])
+        answered += 1
+    if asked == {count} and answered == {count} - 1:
+        break
+""")
+    out = "1 ended eof\n" + "".join(f"{task} present\n" for task in range(2, count + 1))
+    expect_run(room, "./remote", checks(*range(count)), out, jobs=8, busy=2)
+
+
 def case_a_child_that_ends_in_its_greeting_costs_a_task(room):
     room.children("remote", """
 say("VERSION 1")
