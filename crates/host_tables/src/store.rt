@@ -56,6 +56,7 @@ impl LineStore {
         ensures for_bytes { OnOk result (total self.new.lines + bytes ≤ self.new.space) }
         ensures room { self.old.room ≤ self.new.room }
         ensures space { self.old.space ≤ self.new.space }
+        ensures err { OnErr result (self.new ≡ self.old) }
     {
         self.ends.reserve(lines)?;
         self.bytes.reserve(bytes)?;
@@ -86,7 +87,7 @@ impl LineStore {
     /// Appends the line.
     pub fn push(&mut self, line: &[u8]) -> Result<(), NoMemory>
         ensures ok { OnOk result (self.new.lines ≡ self.old.lines ++ line.now ∷ []) }
-        ensures err { OnErr result (self.new.lines ≡ self.old.lines) }
+        ensures err { OnErr result (self.new ≡ self.old) }
         ensures room { self.old.room ≤ self.new.room }
         ensures space { self.old.space ≤ self.new.space }
     {
