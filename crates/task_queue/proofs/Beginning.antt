@@ -11,7 +11,6 @@ use Rattle.task_queue.specs.declared.groups.Groups.{Groups}
 use Rattle.task_queue.specs.declared.queue.Queue.{Queue}
 use Rattle.task_queue.specs.Blocks.{AreInBlocks}
 use Rattle.task_queue.specs.Groups.{AreChained, AreGroups, AreWithin, IsFirst, is_set, number_at}
-use Rattle.task_queue.specs.Held.{HasReadyBefore}
 use Rattle.task_queue.specs.Kept.{AreKept}
 use Rattle.task_queue.specs.Ways.{AreReady}
 use Rattle.task_queue.specs.Queues.{HasRoom, IsOrdered, IsPlaced, IsQueued, is_among}

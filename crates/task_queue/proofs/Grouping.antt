@@ -9,7 +9,7 @@ use Rattle.journal_model.specs.declared.opening.Opening.{Opening}
 use Rattle.journal_model.specs.Legality.{both_conflict, clashes, conflicts, is_empty, share_name, task_of}
 use Rattle.task_queue.specs.declared.alike.By.{By}
 use Rattle.task_queue.specs.declared.alike.By.TheVariants.{Key, File}
-use Rattle.task_queue.specs.Groups.{Alone, AreChained, AreFirsts, AreGroups, AreNext, AreWithin, Badge, IsFirst, Text, badge_by, badge_in, badge_of, is_set, number_at, text_at, text_of}
+use Rattle.task_queue.specs.Groups.{Alone, AreChained, AreFirsts, AreGroups, AreNext, AreWithin, IsFirst, Text, badge_by, badge_in, badge_of, is_set, number_at, text_at, text_of}
 use Rattle.task_queue.proofs.Places.{at_set, beyond, down_other, still_down}
 
 -- ---- the task of a number

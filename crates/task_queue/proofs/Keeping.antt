@@ -1,5 +1,5 @@
 -- The tables of groups stay right, and the next of a group is ready.
-use Rattle.std.proofs.Common.{◌≡◌, ◌∙◌, ℕ, ◌+◌, ◌<◌, ◌≤◌, ◌⊎◌, Vec, List, refl, sym, ap, subst, Bool, true, false, length, set, min, arith, inl, inr}
+use Rattle.std.proofs.Common.{◌≡◌, ◌∙◌, ℕ, ◌<◌, ◌≤◌, ◌⊎◌, Vec, List, refl, sym, ap, subst, Bool, true, false, length, set, min, arith, inl, inr}
 use Rattle.std.specs.declared.alloc.Global.{Global}
 use Rattle.std.proofs.lemmas.List.{length-set}
 use Rattle.task_queue.specs.declared.groups.Groups.{Groups}

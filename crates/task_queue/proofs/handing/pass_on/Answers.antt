@@ -1,4 +1,4 @@
-use Rattle.std.proofs.Common.{◌≡◌, ◌∙◌, ℕ, ◌+◌, ◌<◌, List, refl, ap, length, arith, false}
+use Rattle.std.proofs.Common.{◌≡◌, ◌∙◌, ℕ, ◌+◌, ◌<◌, List, ap, length, arith, false}
 use Rattle.task_queue.specs.Groups.{number_at}
 use Rattle.task_queue.proofs.Grouping.{found_next}
 use Rattle.task_queue.proofs.Keeping.{handed_on, not_handed}

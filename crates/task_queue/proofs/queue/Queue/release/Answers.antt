@@ -1,4 +1,4 @@
-use Rattle.std.proofs.Common.{◌≡◌, ℕ, ◌<◌, List, Bool, sym, ap, subst, length, arith}
+use Rattle.std.proofs.Common.{ℕ, List, Bool, sym, ap, subst, length, arith}
 use Rattle.task_queue.specs.Kept.{AreKept, CallsFirst}
 use Rattle.task_queue.specs.Woken.{AreWoken}
 use Rattle.task_queue.proofs.Ordering.{let_go_of, let_go_ordered}

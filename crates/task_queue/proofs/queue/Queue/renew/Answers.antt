@@ -1,4 +1,4 @@
-use Rattle.std.proofs.Common.{◌≡◌, ℕ, ◌<◌, Vec, Bool, ap, length, arith}
+use Rattle.std.proofs.Common.{◌<◌, Vec, Bool, ap, length, arith}
 use Rattle.std.specs.declared.alloc.Global.{Global}
 use Rattle.task_queue.proofs.Ordering.{renewed_of, renewed_ordered, renewed_room}
 use Rattle.task_queue.proofs.queue.Queue.renew.Goals as goal
