@@ -159,3 +159,42 @@ serve({"TRANSFER STORE WORM--b f": "TRANSFER-SUCCESS STORE WORM--b"})
     journal = expect_run(room, "./remote", tasks, "1 stored\n2 stored\n3 stored\n", jobs=8, busy=2)
     require(journal.waits(1, 2), "the second store of the file is claimed before the first is answered")
     require(journal.most_busy() == 2, "three tasks are open at once")
+
+
+@limits(60)
+@table([
+    ("one file", 3000, "f", "f"),
+    ("one file, and now and then the same with .part", 3000, "f", "f.part"),
+])
+def thousands_of_tasks_of_one_file_are_done_one_after_the_other(room, count, file, seldom):
+    room.write("f", "abc")
+    room.write("f.part", "abc")
+    room.children("remote", TAGGED + """
+for tag, words in requests():
+    say(tag + f"TRANSFER-SUCCESS {words[1]} {words[2]}")
+""")
+    tasks = "".join(f"store WORM--{n} {seldom if n % 100 == 7 else file}\n" for n in range(count))
+    out = "".join(f"{n + 1} stored\n" for n in range(count))
+    journal = expect_run(room, "./remote", tasks, out, jobs=8)
+    require(journal.most_busy() == 1, "two tasks of one file are open at once")
+
+
+@limits(60)
+def case_checks_go_on_beside_thousands_of_tasks_of_one_file(room):
+    # nothing is answered before a store and seven checks are asked
+    room.write("f", "abc")
+    room.children("remote", TAGGED + """
+def answer(tag, words):
+    store = words[0] == "TRANSFER"
+    say(tag + (f"TRANSFER-SUCCESS {words[1]} {words[2]}" if store else f"CHECKPRESENT-SUCCESS {words[1]}"))
+
+first = [untagged(hear()) for _ in range(8)]
+for tag, line in first:
+    answer(tag, line.split(" "))
+for tag, words in requests():
+    answer(tag, words)
+""")
+    stores, later = 2000, 1000
+    tasks = "".join(f"store WORM--{n} f\n" for n in range(stores)) + checks(*range(stores, stores + later))
+    out = "".join(f"{n + 1} {'stored' if n < stores else 'present'}\n" for n in range(stores + later))
+    expect_run(room, "./remote", tasks, out, jobs=8, busy=8)

@@ -9,9 +9,12 @@ use Rattle.journal_model.specs.declared.opening.Opening.{Opening}
 use Rattle.journal_model.specs.Legality.{both_conflict, is_busy, is_claimed, is_free, least_free, numbers_of, task_of}
 use Rattle.journal_model.proofs.Named.{any_there}
 use Rattle.task_queue.specs.Blocks.{IsNextMark}
-use Rattle.task_queue.specs.Groups.{is_set, number_at}
+use Rattle.task_queue.specs.declared.alike.By.{By}
+use Rattle.task_queue.specs.declared.alike.By.TheVariants.{Key, File}
+use Rattle.task_queue.specs.Groups.{AreGroups, is_set, number_at}
+use Rattle.task_queue.specs.Held.{IsHeld}
 use Rattle.task_queue.specs.Queues.{IsOf, IsOrdered, IsPlaced, IsQueued, is_among}
-use Rattle.task_queue.specs.Ways.{AreBare, is_in_way}
+use Rattle.task_queue.specs.Ways.{AreBare}
 use Rattle.task_queue.specs.declared.queue.Queue.{Queue}
 use Rattle.task_queue.proofs.Grouping.{same_conflict}
 use Rattle.task_queue.proofs.Places.{beyond}
@@ -87,14 +90,18 @@ unfree o past q t are some below bare = go (is_set q.claimed.items t) refl
         let task = are.ordered.busy.each b among in
         blocked o past b t task.0 (omega (arith, task.1, are.fits.long)) (sym (are.said.busy b) ∙ among) conflict
 
-    placed : IsPlaced q.groups.of.items q.busy.items q.waits.items q.ready.flags.items t → is_free o past t ≡ false
+    held : (by : By) (groups : List ℕ) → AreGroups by o groups → IsHeld groups q.busy.items q.ready.flags.items t → is_free o past t ≡ false
+    held by groups alike (inl g) =
+        let w = any_found (λ (b : ℕ). number_at groups b == number_at groups t) q.busy.items g in
+        let task = are.ordered.busy.each w.0 w.1 in
+        by_busy w.0 w.1 (same_conflict by o groups w.0 t alike task.0 (omega (arith, task.1, are.fits.long, alike.long)) (eqb-true (number_at groups w.0) (number_at groups t) w.2))
+    held by groups alike (inr h) = absurd (let bad : false ≡ true = sym (bare.each h.number (omega (arith, h.before))) ∙ h.marked in cc)
+
+    placed : IsPlaced q.keys.of.items q.files.of.items q.busy.items q.waits.items q.ready.flags.items t → is_free o past t ≡ false
     placed (inl r) = absurd (let bad : false ≡ true = sym (bare.each t (omega arith)) ∙ r in cc)
     placed (inr (inl w)) = by_busy (number_at q.waits.items t) w (are.fits.waits t (are.ordered.busy.each (number_at q.waits.items t) w).0)
-    placed (inr (inr (inl g))) =
-        let w = any_found (λ (b : ℕ). number_at q.groups.of.items b == number_at q.groups.of.items t) q.busy.items g in
-        let task = are.ordered.busy.each w.0 w.1 in
-        by_busy w.0 w.1 (same_conflict o q.groups.of.items w.0 t are.fits.groups task.0 (omega (arith, task.1, are.ordered.long.groups)) (eqb-true (number_at q.groups.of.items w.0) (number_at q.groups.of.items t) w.2))
-    placed (inr (inr (inr h))) = absurd (let bad : false ≡ true = sym (bare.each h.number (omega (arith, h.before))) ∙ h.marked in cc)
+    placed (inr (inr (inl h))) = held Key q.keys.of.items are.fits.keys h
+    placed (inr (inr (inr h))) = held File q.files.of.items are.fits.files h
 
     go : (c : Bool) → is_set q.claimed.items t ≡ c → is_free o past t ≡ false
     go true e =
@@ -105,7 +112,7 @@ unfree o past q t are some below bare = go (is_set q.claimed.items t) refl
 -- ---- a ready task that no busy one is in the way of
 
 pub unhindered : (o : Opening) (past : List Entry) (q : Queue) (t : ℕ) → IsQueued o past q → 0 < t → t < length q.claimed.items → is_set q.ready.flags.items t ≡ true
-    → find (λ b. is_in_way o q.groups.of.items b t) q.busy.items ≡ None → is_free o past t ≡ true
+    → find (λ b. both_conflict (task_of o b) (task_of o t)) q.busy.items ≡ None → is_free o past t ≡ true
 unhindered o past q t are some below ready none =
     let unclaimed : is_claimed past t ≡ false = sym (are.said.claimed t some below) ∙ are.ordered.unclaimed.each t ready in
     and_from (not (is_claimed past t)) (not (list_any (λ u. is_busy past u && both_conflict (task_of o u) (task_of o t)) (numbers_of o)))
@@ -116,25 +123,10 @@ unhindered o past q t are some below ready none =
     apart h =
         let w = any_found (λ (u : ℕ). is_busy past u && both_conflict (task_of o u) (task_of o t)) (numbers_of o) h in
         let both = and_parts (is_busy past w.0) (both_conflict (task_of o w.0) (task_of o t)) w.2 in
-        let hindered : list_any (λ (b : ℕ). is_in_way o q.groups.of.items b t) q.busy.items ≡ true =
-        any_there (λ (b : ℕ). is_in_way o q.groups.of.items b t) w.0 q.busy.items (are.said.busy w.0 ∙ both.0)
-        (or_right (number_at q.groups.of.items w.0 == number_at q.groups.of.items t) (both_conflict (task_of o w.0) (task_of o t)) both.1) in
-        let bad : false ≡ true = sym (found_none (λ (b : ℕ). is_in_way o q.groups.of.items b t) q.busy.items none) ∙ hindered in
+        let hindered : list_any (λ (b : ℕ). both_conflict (task_of o b) (task_of o t)) q.busy.items ≡ true =
+        any_there (λ (b : ℕ). both_conflict (task_of o b) (task_of o t)) w.0 q.busy.items (are.said.busy w.0 ∙ both.0) both.1 in
+        let bad : false ≡ true = sym (found_none (λ (b : ℕ). both_conflict (task_of o b) (task_of o t)) q.busy.items none) ∙ hindered in
         cc
-
--- a busy task that was found in the way conflicts
-pub hindered : (o : Opening) (q : Queue) (b t : ℕ) → IsOrdered q → IsOf o q → find (λ b. is_in_way o q.groups.of.items b t) q.busy.items ≡ Some b
-    → (is_among q.busy.items b ≡ true) × (both_conflict (task_of o b) (task_of o t) ≡ true)
-hindered o q b t ordered fits found = (found_at.0, go (or_cases (number_at q.groups.of.items b == number_at q.groups.of.items t) (both_conflict (task_of o b) (task_of o t)) found_at.1))
-  where
-    found_at : (is_among q.busy.items b ≡ true) × (is_in_way o q.groups.of.items b t ≡ true)
-    found_at = found_some (λ (x : ℕ). is_in_way o q.groups.of.items x t) q.busy.items b found
-
-    go : ((number_at q.groups.of.items b == number_at q.groups.of.items t) ≡ true) ⊎ (both_conflict (task_of o b) (task_of o t) ≡ true) → both_conflict (task_of o b) (task_of o t) ≡ true
-    go (inl e) =
-        let task = ordered.busy.each b found_at.0 in
-        same_conflict o q.groups.of.items b t fits.groups task.0 (omega (arith, task.1, ordered.long.groups)) (eqb-true (number_at q.groups.of.items b) (number_at q.groups.of.items t) e)
-    go (inr k) = k
 
 -- ---- the least free task
 
@@ -166,7 +158,7 @@ bare_less : (flags : List Bool) (low less : ℕ) → less ≤ low → AreBare fl
 bare_less flags low less more bare = record { each = λ t below. bare.each t (omega (arith, more, below)) }
 
 pub least_found : (o : Opening) (past : List Entry) (q : Queue) (t : ℕ) → IsQueued o past q → 0 < t → t < length q.claimed.items → AreBare q.ready.flags.items t → is_set q.ready.flags.items t ≡ true
-    → find (λ b. is_in_way o q.groups.of.items b t) q.busy.items ≡ None → least_free o past ≡ Some t
+    → find (λ b. both_conflict (task_of o b) (task_of o t)) q.busy.items ≡ None → least_free o past ≡ Some t
 least_found o past q t are some below bare ready none =
     least_some (is_free o past) 1 (length o.tasks) t (omega (arith, some)) (omega (arith, below, are.fits.long))
     (λ s from less. unfree o past q s are (omega (arith, from)) (omega (arith, less, below)) (bare_less q.ready.flags.items t (s + 1) (omega (arith, less)) bare))

@@ -1,5 +1,6 @@
 pub mod Places
 pub mod Grouping
+pub mod Keeping
 pub mod Placing
 pub mod Ordering
 pub mod Finding

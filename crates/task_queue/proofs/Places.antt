@@ -75,6 +75,9 @@ pub count_up : (flags : List Bool) (n : ℕ) → n < length flags → is_set fla
 count_up flags n within h =
     omega (arith, ap one_if_not h, sum_by-set one_if_not flags n true false within)
 
+pub count_down : (flags : List Bool) (n : ℕ) → n < length flags → count_by not (set flags n false) ≤ count_by not flags + 1
+count_down flags n within = omega (arith, sum_by-set one_if_not flags n false false within)
+
 -- ---- the busy ones
 
 pub any_more : (p : ℕ → Bool) (xs : List ℕ) (x : ℕ) → list_any p xs ≡ true → list_any p (xs ++ x ∷ []) ≡ true

@@ -1,155 +1,170 @@
 -- Each task that isn't claimed stays placed.
-use Rattle.std.proofs.Common.{◌≡◌, ◌∙◌, cond, ℕ, ◌+◌, ◌<◌, ◌≤◌, ◌⊎◌, List, [], ◌∷◌, ◌++◌, refl, sym, ap, subst, Bool, true, false, not, length, set, arith, inl, inr, get_or-set_other, get_or-set_same}
+use Rattle.std.proofs.Common.{◌≡◌, ◌∙◌, cond, ℕ, ◌+◌, ◌<◌, ◌⊎◌, List, [], ◌∷◌, ◌++◌, refl, sym, ap, subst, Bool, true, false, not, length, set, arith, inl, inr}
 use Rattle.std.specs.Prelude.{◌==◌, ◌&&◌, filter}
+use Rattle.std.specs.List.{list_any}
 use Rattle.std.proofs.lemmas.Bool.{and_from, and_parts, cases_eq, eqb-true, eq-eqb, not-true, not_from_false}
 use Rattle.std.proofs.lemmas.List.{length-set}
-use Rattle.journal_model.proofs.Named.{any_there}
-use Rattle.task_queue.specs.Groups.{IsFirst, is_set, number_at}
-use Rattle.task_queue.specs.Queues.{ArePlaced, IsPlaced, is_among, is_group_busy}
+use Rattle.task_queue.specs.Groups.{is_set, number_at}
+use Rattle.task_queue.specs.Held.{HasReadyBefore, IsHandedOn, IsHeld, is_group_busy}
+use Rattle.task_queue.specs.Queues.{ArePlaced, IsPlaced, is_among}
 use Rattle.task_queue.specs.Woken.{AreWatched, AreWoken}
-use Rattle.task_queue.proofs.Places.{any_last, any_more, any_without, at_set, down_other, marked, marked_from, set_here, still_down, unmarked}
+use Rattle.task_queue.proofs.Places.{any_last, any_more, any_without, down_other, marked, marked_from, set_here, still_down, unmarked}
 
-after : (v t : ℕ) → v ≤ t → (v ≡ t) ⊎ (v < t)
-after v t more = grind arith
+same_busy : (groups busy : List ℕ) (s t : ℕ) → number_at groups s ≡ number_at groups t → is_group_busy groups busy t ≡ true → is_group_busy groups busy s ≡ true
+same_busy groups busy s t same h = ap (λ (g : ℕ). list_any (λ (b : ℕ). number_at groups b == g) busy) same ∙ h
 
-same_groups : (groups busy : List ℕ) (b t : ℕ) → is_among busy b ≡ true → number_at groups b ≡ number_at groups t → is_group_busy groups busy t ≡ true
-same_groups groups busy b t among same =
-    any_there (λ (x : ℕ). number_at groups x == number_at groups t) b busy among (eq-eqb (number_at groups b) (number_at groups t) same)
+-- ready flags of which only that one may have been taken down
+abbrev pub AreBut : ℕ → List Bool → List Bool → Type 0
+AreBut u old new = (t : ℕ) → (t ≡ u → ⊥) → is_set old t ≡ true → is_set new t ≡ true
 
--- ---- a ready task is put off: a busy one of its group is in its way
+before_but : (groups : List ℕ) (old new : List Bool) (u t : ℕ) → AreBut u old new → (h : HasReadyBefore groups old t) → (h.number ≡ u → ⊥) → HasReadyBefore groups new t
+before_but groups old new u t kept h apart = record { number = h.number; before = h.before; marked = kept h.number apart h.marked; same = h.same }
 
-pub off_group : (groups busy waits : List ℕ) (claimed ready : List Bool) (u b : ℕ) → is_among busy b ≡ true → number_at groups b ≡ number_at groups u
-    → ArePlaced groups busy waits claimed ready → ArePlaced groups busy waits claimed (set ready u false)
-off_group groups busy waits claimed ready u b among same are = record { each = λ t some below free. go t (are.each t some below free) }
+-- what is held stays so where more is ready
+pub held_more : (groups busy : List ℕ) (old new : List Bool) (t : ℕ) → ((s : ℕ) → is_set old s ≡ true → is_set new s ≡ true) → IsHeld groups busy old t → IsHeld groups busy new t
+held_more groups busy old new t kept (inl g) = inl g
+held_more groups busy old new t kept (inr h) = inr (record { number = h.number; before = h.before; marked = kept h.number h.marked; same = h.same })
+
+-- ---- a ready task is put off
+
+-- each unclaimed task after that one of its group is ready or held
+abbrev pub Follows : List ℕ → List ℕ → List Bool → List Bool → ℕ → Type 0
+Follows groups busy claimed ready u =
+    (t : ℕ) → u < t → t < length claimed → is_set claimed t ≡ false → number_at groups t ≡ number_at groups u → (is_set ready t ≡ true) ⊎ IsHeld groups busy ready t
+
+pub follows : (groups busy : List ℕ) (claimed old new : List Bool) (u : ℕ) (held : Bool) → length groups ≡ length claimed → length old ≡ length claimed → held ≡ is_group_busy groups busy u
+    → IsHandedOn groups claimed (number_at groups u) (u + 1) held old new → Follows groups busy claimed new u
+follows groups busy claimed old new u held groups_long old_long is handed = λ t more below free same. go t more below free same held refl
   where
-    held : (t : ℕ) → number_at groups t ≡ number_at groups u → is_group_busy groups busy t ≡ true
-    held t e = same_groups groups busy b t among (same ∙ sym e)
-
-    go : (t : ℕ) → IsPlaced groups busy waits ready t → IsPlaced groups busy waits (set ready u false) t
-    go t (inl r) = by (unmarked ready u t r)
+    go : (t : ℕ) → u < t → t < length claimed → is_set claimed t ≡ false → number_at groups t ≡ number_at groups u → (c : Bool) → held ≡ c → (is_set new t ≡ true) ⊎ IsHeld groups busy new t
+    go t more below free same true e = inr (inl (same_busy groups busy t u same (sym is ∙ e)))
+    go t more below free same false e = by (handed.first e t (omega (arith, more)) (omega (arith, below, groups_long)) (omega (arith, below, old_long)) free same)
       where
-        by : (t ≡ u) ⊎ (is_set (set ready u false) t ≡ true) → IsPlaced groups busy waits (set ready u false) t
-        by (inl e) = inr (inr (inl (held t (ap (number_at groups) e))))
-        by (inr k) = inl k
-    go t (inr (inl w)) = inr (inl w)
-    go t (inr (inr (inl g))) = inr (inr (inl g))
-    go t (inr (inr (inr h))) = by (unmarked ready u h.number h.marked)
-      where
-        by : (h.number ≡ u) ⊎ (is_set (set ready u false) h.number ≡ true) → IsPlaced groups busy waits (set ready u false) t
-        by (inl e) = inr (inr (inl (held t (sym h.same ∙ ap (number_at groups) e))))
-        by (inr k) = inr (inr (inr (record { number = h.number; before = h.before; marked = k; same = h.same })))
+        by : (is_set new t ≡ true) ⊎ HasReadyBefore groups new t → (is_set new t ≡ true) ⊎ IsHeld groups busy new t
+        by (inl r) = inl r
+        by (inr h) = inr (inr h)
 
--- ---- another one is in its way: it waits for that one, and the next of its group is ready
-
-pub off_other : (groups busy waits : List ℕ) (claimed ready : List Bool) (u b v : ℕ) → u < length claimed → length groups ≡ length claimed → length ready ≡ length claimed → length waits ≡ length claimed
-    → is_among busy b ≡ true → IsFirst groups claimed (number_at groups u) (u + 1) v
-    → ArePlaced groups busy waits claimed ready → ArePlaced groups busy (set waits u b) claimed (set (set ready u false) v true)
-off_other groups busy waits claimed ready u b v within groups_long ready_long waits_long among first are = record { each = λ t some below free. go t below free (are.each t some below free) }
+pub follows_more : (groups busy : List ℕ) (claimed old new : List Bool) (u : ℕ) → ((t : ℕ) → is_set old t ≡ true → is_set new t ≡ true) → Follows groups busy claimed old u → Follows groups busy claimed new u
+follows_more groups busy claimed old new u kept are = λ t more below free same. by t (are t more below free same)
   where
-    here : is_among busy (number_at (set waits u b) u) ≡ true
-    here = subst (λ (n : ℕ). is_among busy n ≡ true) (sym (get_or-set_same waits u b 0 (omega (arith, within, waits_long)))) among
+    by : (t : ℕ) → (is_set old t ≡ true) ⊎ IsHeld groups busy old t → (is_set new t ≡ true) ⊎ IsHeld groups busy new t
+    by t (inl r) = inl (kept t r)
+    by t (inr h) = inr (held_more groups busy old new t kept h)
 
-    still : (t : ℕ) → is_among busy (number_at waits t) ≡ true → is_among busy (number_at (set waits u b) t) ≡ true
-    still t h = at_set (λ (n : ℕ). is_among busy n ≡ true) waits u t b 0 (λ e w. among) (λ other. h)
+held_off : (groups busy : List ℕ) (claimed old new : List Bool) (u t : ℕ) → AreBut u old new → Follows groups busy claimed new u → t < length claimed → is_set claimed t ≡ false → IsHeld groups busy old t
+    → (is_set new t ≡ true) ⊎ IsHeld groups busy new t
+held_off groups busy claimed old new u t kept follow below free (inl g) = inr (inl g)
+held_off groups busy claimed old new u t kept follow below free (inr h) = go (cases_eq h.number u)
+  where
+    go : (h.number ≡ u) ⊎ (h.number ≡ u → ⊥) → (is_set new t ≡ true) ⊎ IsHeld groups busy new t
+    go (inl e) = follow t (omega (arith, e, h.before)) below free (sym h.same ∙ ap (number_at groups) e)
+    go (inr apart) = inr (inr (before_but groups old new u t kept h apart))
 
-    stays : (t : ℕ) → (t ≡ u → ⊥) → is_set ready t ≡ true → is_set (set (set ready u false) v true) t ≡ true
-    stays t apart h = marked (set ready u false) v t (get_or-set_other ready u t false false apart ∙ h)
+by_keys : (keys files busy waits : List ℕ) (ready : List Bool) (t : ℕ) → (is_set ready t ≡ true) ⊎ IsHeld keys busy ready t → IsPlaced keys files busy waits ready t
+by_keys keys files busy waits ready t (inl r) = inl r
+by_keys keys files busy waits ready t (inr h) = inr (inr (inl h))
 
-    fresh : v < length claimed → is_set (set (set ready u false) v true) v ≡ true
-    fresh below = set_here (set ready u false) v true (omega (arith, below, ready_long, length-set ready u false))
+by_files : (keys files busy waits : List ℕ) (ready : List Bool) (t : ℕ) → (is_set ready t ≡ true) ⊎ IsHeld files busy ready t → IsPlaced keys files busy waits ready t
+by_files keys files busy waits ready t (inl r) = inl r
+by_files keys files busy waits ready t (inr h) = inr (inr (inr h))
 
-    follows : (t : ℕ) → t < length claimed → is_set claimed t ≡ false → u < t → number_at groups t ≡ number_at groups u → IsPlaced groups busy (set waits u b) (set (set ready u false) v true) t
-    follows t below free more same = by (after v t (first.least t (omega (arith, more)) (omega (arith, below, groups_long)) same free))
-      where
-        by : (v ≡ t) ⊎ (v < t) → IsPlaced groups busy (set waits u b) (set (set ready u false) v true) t
-        by (inl e) = inl (subst (λ (k : ℕ). is_set (set (set ready u false) v true) k ≡ true) e (fresh (omega (arith, e, below))))
-        by (inr less) = inr (inr (inr (record { number = v; before = less; marked = fresh (omega (arith, less, below)); same = first.own (omega (arith, less, below, groups_long)) ∙ sym same })))
-
-    go : (t : ℕ) → t < length claimed → is_set claimed t ≡ false → IsPlaced groups busy waits ready t → IsPlaced groups busy (set waits u b) (set (set ready u false) v true) t
+pub off_placed : (keys files busy waits after : List ℕ) (claimed old new : List Bool) (u : ℕ) → AreBut u old new → Follows keys busy claimed new u → Follows files busy claimed new u
+    → ((t : ℕ) → is_among busy (number_at waits t) ≡ true → is_among busy (number_at after t) ≡ true) → IsPlaced keys files busy after new u
+    → ArePlaced keys files busy waits claimed old → ArePlaced keys files busy after claimed new
+off_placed keys files busy waits after claimed old new u kept by_key by_file still own are = record { each = λ t some below free. go t below free (are.each t some below free) }
+  where
+    go : (t : ℕ) → t < length claimed → is_set claimed t ≡ false → IsPlaced keys files busy waits old t → IsPlaced keys files busy after new t
     go t below free (inl r) = by (cases_eq t u)
       where
-        by : (t ≡ u) ⊎ (t ≡ u → ⊥) → IsPlaced groups busy (set waits u b) (set (set ready u false) v true) t
-        by (inl e) = inr (inl (subst (λ (k : ℕ). is_among busy (number_at (set waits u b) k) ≡ true) (sym e) here))
-        by (inr apart) = inl (stays t apart r)
+        by : (t ≡ u) ⊎ (t ≡ u → ⊥) → IsPlaced keys files busy after new t
+        by (inl e) = subst (λ (k : ℕ). IsPlaced keys files busy after new k) (sym e) own
+        by (inr apart) = inl (kept t apart r)
     go t below free (inr (inl w)) = inr (inl (still t w))
-    go t below free (inr (inr (inl g))) = inr (inr (inl g))
-    go t below free (inr (inr (inr h))) = by (cases_eq h.number u)
-      where
-        by : (h.number ≡ u) ⊎ (h.number ≡ u → ⊥) → IsPlaced groups busy (set waits u b) (set (set ready u false) v true) t
-        by (inl e) = follows t below free (omega (arith, e, h.before)) (sym h.same ∙ ap (number_at groups) e)
-        by (inr apart) = inr (inr (inr (record { number = h.number; before = h.before; marked = stays h.number apart h.marked; same = h.same })))
+    go t below free (inr (inr (inl h))) = by_keys keys files busy after new t (held_off keys busy claimed old new u t kept by_key below free h)
+    go t below free (inr (inr (inr h))) = by_files keys files busy after new t (held_off files busy claimed old new u t kept by_file below free h)
 
 -- ---- a task is claimed
 
-pub claimed_placed : (groups busy waits : List ℕ) (claimed ready : List Bool) (u : ℕ) → ArePlaced groups busy waits claimed ready
-    → ArePlaced groups (busy ++ u ∷ []) waits (set claimed u true) (set ready u false)
-claimed_placed groups busy waits claimed ready u are = record {
+held_claimed : (groups busy : List ℕ) (ready : List Bool) (u t : ℕ) → IsHeld groups busy ready t → IsHeld groups (busy ++ u ∷ []) (set ready u false) t
+held_claimed groups busy ready u t (inl g) = inl (any_more (λ (b : ℕ). number_at groups b == number_at groups t) busy u g)
+held_claimed groups busy ready u t (inr h) = go (unmarked ready u h.number h.marked)
+  where
+    go : (h.number ≡ u) ⊎ (is_set (set ready u false) h.number ≡ true) → IsHeld groups (busy ++ u ∷ []) (set ready u false) t
+    go (inl e) = inl (any_last (λ (b : ℕ). number_at groups b == number_at groups t) busy u (eq-eqb (number_at groups u) (number_at groups t) (ap (number_at groups) (sym e) ∙ h.same)))
+    go (inr k) = inr (record { number = h.number; before = h.before; marked = k; same = h.same })
+
+pub claimed_placed : (keys files busy waits : List ℕ) (claimed ready : List Bool) (u : ℕ) → ArePlaced keys files busy waits claimed ready
+    → ArePlaced keys files (busy ++ u ∷ []) waits (set claimed u true) (set ready u false)
+claimed_placed keys files busy waits claimed ready u are = record {
   each = λ t some below free. go t (are.each t some (omega (arith, below, length-set claimed u true)) (still_down claimed u t free));
 }
   where
-    held : (t : ℕ) → number_at groups t ≡ number_at groups u → is_group_busy groups (busy ++ u ∷ []) t ≡ true
-    held t e = any_last (λ (x : ℕ). number_at groups x == number_at groups t) busy u (eq-eqb (number_at groups u) (number_at groups t) (sym e))
+    held : (t : ℕ) → t ≡ u → is_group_busy keys (busy ++ u ∷ []) t ≡ true
+    held t e = any_last (λ (b : ℕ). number_at keys b == number_at keys t) busy u (eq-eqb (number_at keys u) (number_at keys t) (ap (number_at keys) (sym e)))
 
-    go : (t : ℕ) → IsPlaced groups busy waits ready t → IsPlaced groups (busy ++ u ∷ []) waits (set ready u false) t
+    go : (t : ℕ) → IsPlaced keys files busy waits ready t → IsPlaced keys files (busy ++ u ∷ []) waits (set ready u false) t
     go t (inl r) = by (unmarked ready u t r)
       where
-        by : (t ≡ u) ⊎ (is_set (set ready u false) t ≡ true) → IsPlaced groups (busy ++ u ∷ []) waits (set ready u false) t
-        by (inl e) = inr (inr (inl (held t (ap (number_at groups) e))))
+        by : (t ≡ u) ⊎ (is_set (set ready u false) t ≡ true) → IsPlaced keys files (busy ++ u ∷ []) waits (set ready u false) t
+        by (inl e) = inr (inr (inl (inl (held t e))))
         by (inr k) = inl k
-    go t (inr (inl w)) = inr (inl (any_more (λ (x : ℕ). x == number_at waits t) busy u w))
-    go t (inr (inr (inl g))) = inr (inr (inl (any_more (λ (x : ℕ). number_at groups x == number_at groups t) busy u g)))
-    go t (inr (inr (inr h))) = by (unmarked ready u h.number h.marked)
-      where
-        by : (h.number ≡ u) ⊎ (is_set (set ready u false) h.number ≡ true) → IsPlaced groups (busy ++ u ∷ []) waits (set ready u false) t
-        by (inl e) = inr (inr (inl (held t (sym h.same ∙ ap (number_at groups) e))))
-        by (inr k) = inr (inr (inr (record { number = h.number; before = h.before; marked = k; same = h.same })))
+    go t (inr (inl w)) = inr (inl (any_more (λ (b : ℕ). b == number_at waits t) busy u w))
+    go t (inr (inr (inl h))) = inr (inr (inl (held_claimed keys busy ready u t h)))
+    go t (inr (inr (inr h))) = inr (inr (inr (held_claimed files busy ready u t h)))
 
--- ---- a busy task is let go: those that waited for it are ready, and the first of its group
+-- ---- a busy task is let go: those that waited for it are ready, and the first of each of its groups
 
-pub let_go_placed : (groups busy waits : List ℕ) (claimed ready woken : List Bool) (u v : ℕ) → length groups ≡ length claimed → length woken ≡ length claimed
-    → ((t : ℕ) → is_set ready t ≡ true → is_set woken t ≡ true)
-    → ((t : ℕ) → t < length claimed → number_at waits t ≡ u → is_set claimed t ≡ false → is_set woken t ≡ true)
-    → IsFirst groups claimed (number_at groups u) 0 v
-    → ArePlaced groups busy waits claimed ready → ArePlaced groups (filter (λ b. not (b == u)) busy) waits claimed (set woken v true)
-let_go_placed groups busy waits claimed ready woken u v groups_long woken_long kept wakes first are = record { each = λ t some below free. go t below free (are.each t some below free) }
+-- each unclaimed task of its group is ready, or one before it is
+abbrev pub IsCalledOn : List ℕ → List Bool → List Bool → ℕ → Type 0
+IsCalledOn groups claimed ready u =
+    (t : ℕ) → t < length claimed → is_set claimed t ≡ false → number_at groups t ≡ number_at groups u → (is_set ready t ≡ true) ⊎ HasReadyBefore groups ready t
+
+held_without : (groups busy : List ℕ) (claimed old new : List Bool) (u t : ℕ) → ((s : ℕ) → is_set old s ≡ true → is_set new s ≡ true) → IsCalledOn groups claimed new u
+    → t < length claimed → is_set claimed t ≡ false → IsHeld groups busy old t → (is_set new t ≡ true) ⊎ IsHeld groups (filter (λ b. not (b == u)) busy) new t
+held_without groups busy claimed old new u t kept called below free (inr h) =
+    inr (inr (record { number = h.number; before = h.before; marked = kept h.number h.marked; same = h.same }))
+held_without groups busy claimed old new u t kept called below free (inl g) = go (any_without (λ (b : ℕ). number_at groups b == number_at groups t) u busy g)
   where
-    fresh : v < length claimed → is_set (set woken v true) v ≡ true
-    fresh below = set_here woken v true (omega (arith, below, woken_long))
+    by : (is_set new t ≡ true) ⊎ HasReadyBefore groups new t → (is_set new t ≡ true) ⊎ IsHeld groups (filter (λ (b : ℕ). not (b == u)) busy) new t
+    by (inl r) = inl r
+    by (inr h) = inr (inr h)
 
-    follows : (t : ℕ) → t < length claimed → is_set claimed t ≡ false → number_at groups t ≡ number_at groups u → IsPlaced groups (filter (λ (b : ℕ). not (b == u)) busy) waits (set woken v true) t
-    follows t below free same = by (after v t (first.least t (omega arith) (omega (arith, below, groups_long)) same free))
-      where
-        by : (v ≡ t) ⊎ (v < t) → IsPlaced groups (filter (λ (b : ℕ). not (b == u)) busy) waits (set woken v true) t
-        by (inl e) = inl (subst (λ (k : ℕ). is_set (set woken v true) k ≡ true) e (fresh (omega (arith, e, below))))
-        by (inr less) = inr (inr (inr (record { number = v; before = less; marked = fresh (omega (arith, less, below)); same = first.own (omega (arith, less, below, groups_long)) ∙ sym same })))
+    go : ((number_at groups u == number_at groups t) ≡ true) ⊎ (is_group_busy groups (filter (λ (b : ℕ). not (b == u)) busy) t ≡ true)
+        → (is_set new t ≡ true) ⊎ IsHeld groups (filter (λ (b : ℕ). not (b == u)) busy) new t
+    go (inl e) = by (called t below free (sym (eqb-true (number_at groups u) (number_at groups t) e)))
+    go (inr k) = inr (inl k)
 
-    go : (t : ℕ) → t < length claimed → is_set claimed t ≡ false → IsPlaced groups busy waits ready t → IsPlaced groups (filter (λ (b : ℕ). not (b == u)) busy) waits (set woken v true) t
-    go t below free (inl r) = inl (marked woken v t (kept t r))
+pub let_go_placed : (keys files busy waits : List ℕ) (claimed old new : List Bool) (u : ℕ) → ((t : ℕ) → is_set old t ≡ true → is_set new t ≡ true)
+    → ((t : ℕ) → t < length claimed → number_at waits t ≡ u → is_set claimed t ≡ false → is_set new t ≡ true)
+    → IsCalledOn keys claimed new u → IsCalledOn files claimed new u → ArePlaced keys files busy waits claimed old
+    → ArePlaced keys files (filter (λ b. not (b == u)) busy) waits claimed new
+let_go_placed keys files busy waits claimed old new u kept wakes by_key by_file are = record { each = λ t some below free. go t below free (are.each t some below free) }
+  where
+    go : (t : ℕ) → t < length claimed → is_set claimed t ≡ false → IsPlaced keys files busy waits old t → IsPlaced keys files (filter (λ (b : ℕ). not (b == u)) busy) waits new t
+    go t below free (inl r) = inl (kept t r)
     go t below free (inr (inl w)) = by (any_without (λ (b : ℕ). b == number_at waits t) u busy w)
       where
-        by : ((u == number_at waits t) ≡ true) ⊎ (is_among (filter (λ (b : ℕ). not (b == u)) busy) (number_at waits t) ≡ true) → IsPlaced groups (filter (λ (b : ℕ). not (b == u)) busy) waits (set woken v true) t
-        by (inl e) = inl (marked woken v t (wakes t below (sym (eqb-true u (number_at waits t) e)) free))
+        by : ((u == number_at waits t) ≡ true) ⊎ (is_among (filter (λ (b : ℕ). not (b == u)) busy) (number_at waits t) ≡ true) → IsPlaced keys files (filter (λ (b : ℕ). not (b == u)) busy) waits new t
+        by (inl e) = inl (wakes t below (sym (eqb-true u (number_at waits t) e)) free)
         by (inr k) = inr (inl k)
-    go t below free (inr (inr (inl g))) = by (any_without (λ (b : ℕ). number_at groups b == number_at groups t) u busy g)
-      where
-        by : ((number_at groups u == number_at groups t) ≡ true) ⊎ (is_group_busy groups (filter (λ (b : ℕ). not (b == u)) busy) t ≡ true) → IsPlaced groups (filter (λ (b : ℕ). not (b == u)) busy) waits (set woken v true) t
-        by (inl e) = follows t below free (sym (eqb-true (number_at groups u) (number_at groups t) e))
-        by (inr k) = inr (inr (inl k))
-    go t below free (inr (inr (inr h))) = inr (inr (inr (record { number = h.number; before = h.before; marked = marked woken v h.number (kept h.number h.marked); same = h.same })))
+    go t below free (inr (inr (inl h))) =
+        by_keys keys files (filter (λ (b : ℕ). not (b == u)) busy) waits new t (held_without keys busy claimed old new u t kept by_key below free h)
+    go t below free (inr (inr (inr h))) =
+        by_files keys files (filter (λ (b : ℕ). not (b == u)) busy) waits new t (held_without files busy claimed old new u t kept by_file below free h)
 
 -- ---- a task is to be claimed again
 
-pub renewed_placed : (groups busy waits : List ℕ) (claimed ready : List Bool) (u : ℕ) → length ready ≡ length claimed → ArePlaced groups busy waits claimed ready
-    → ArePlaced groups busy waits (set claimed u false) (set ready u true)
-renewed_placed groups busy waits claimed ready u long are = record { each = λ t some below free. by t some (omega (arith, below, length-set claimed u false)) free (cases_eq t u) }
+pub renewed_placed : (keys files busy waits : List ℕ) (claimed ready : List Bool) (u : ℕ) → length ready ≡ length claimed → ArePlaced keys files busy waits claimed ready
+    → ArePlaced keys files busy waits (set claimed u false) (set ready u true)
+renewed_placed keys files busy waits claimed ready u long are = record { each = λ t some below free. by t some (omega (arith, below, length-set claimed u false)) free (cases_eq t u) }
   where
-    go : (t : ℕ) → IsPlaced groups busy waits ready t → IsPlaced groups busy waits (set ready u true) t
+    go : (t : ℕ) → IsPlaced keys files busy waits ready t → IsPlaced keys files busy waits (set ready u true) t
     go t (inl r) = inl (marked ready u t r)
     go t (inr (inl w)) = inr (inl w)
-    go t (inr (inr (inl g))) = inr (inr (inl g))
-    go t (inr (inr (inr h))) = inr (inr (inr (record { number = h.number; before = h.before; marked = marked ready u h.number h.marked; same = h.same })))
+    go t (inr (inr (inl h))) = inr (inr (inl (held_more keys busy ready (set ready u true) t (marked ready u) h)))
+    go t (inr (inr (inr h))) = inr (inr (inr (held_more files busy ready (set ready u true) t (marked ready u) h)))
 
-    by : (t : ℕ) → 0 < t → t < length claimed → is_set (set claimed u false) t ≡ false → (t ≡ u) ⊎ (t ≡ u → ⊥) → IsPlaced groups busy waits (set ready u true) t
+    by : (t : ℕ) → 0 < t → t < length claimed → is_set (set claimed u false) t ≡ false → (t ≡ u) ⊎ (t ≡ u → ⊥) → IsPlaced keys files busy waits (set ready u true) t
     by t some below free (inl e) = inl (subst (λ (k : ℕ). is_set (set ready u true) k ≡ true) (sym e) (set_here ready u true (omega (arith, e, below, long))))
     by t some below free (inr apart) = go t (are.each t some below (down_other claimed u t apart free))
 

@@ -1,8 +1,11 @@
--- Tasks that have the same key are a group. What is kept of groups, by the numbers of tasks.
-use Rattle.std.specs.Prelude.{ℕ, ◌≡◌, ◌+◌, ◌<◌, ◌≤◌, Bool, false, List, [], length, Option, option_map}
+-- Tasks of the same key are a group, and so are those that name the same file. What is kept of groups, by the numbers of tasks.
+use Rattle.std.specs.Prelude.{ℕ, ◌≡◌, ◌+◌, ◌<◌, ◌≤◌, Bool, false, List, [], length, Option, Some, None}
 use Rattle.std.specs.List.{slice_index_or}
+use Rattle.task_text.specs.declared.task.Task.{Task}
 use Rattle.journal_model.specs.declared.opening.Opening.{Opening}
 use Rattle.journal_model.specs.Legality.{task_of}
+use Rattle.task_queue.specs.declared.alike.By.{By}
+use Rattle.task_queue.specs.declared.alike.By.TheVariants.{Key, File}
 
 -- the number at a place, which is 0 past the end
 abbrev pub number_at : List ℕ → ℕ → ℕ
@@ -12,14 +15,35 @@ number_at numbers t = slice_index_or numbers t 0
 abbrev pub is_set : List Bool → ℕ → Bool
 is_set flags t = slice_index_or flags t false
 
--- the key of the task of a number
-abbrev pub key_of : Opening → ℕ → Option (List ℕ)
-key_of o t = option_map (λ task. task.key) (task_of o t)
+-- the text by which a task is of a group; an empty one makes no group
+abbrev pub text_of : By → Task → List ℕ
+text_of Key task = task.key
+text_of File task = task.file
 
--- each task has the number of its group, which is that of a task with the same key
-pub record AreGroups (o : Opening) (groups : List ℕ) : Type 0 where
+abbrev pub text_at : By → Option Task → List ℕ
+text_at by None = []
+text_at by (Some task) = text_of by task
+
+-- what the tasks of one group have in common: their text, or the number of the only one, whose text is empty
+pub data Badge : Type 0 where
+  Text : List ℕ → Badge
+  Alone : ℕ → Badge
+
+abbrev pub badge_by : ℕ → List ℕ → Badge
+badge_by t [] = Alone t
+badge_by t text = Text text
+
+abbrev pub badge_in : By → ℕ → Option Task → Badge
+badge_in by t None = Alone 0
+badge_in by t (Some task) = badge_by t (text_of by task)
+
+abbrev pub badge_of : By → Opening → ℕ → Badge
+badge_of by o t = badge_in by t (task_of o t)
+
+-- each task has the number of its group, which is that of a task of the group
+pub record AreGroups (by : By) (o : Opening) (groups : List ℕ) : Type 0 where
   pub long : length groups ≡ length o.tasks + 1
-  pub alike : (t : ℕ) → key_of o (number_at groups t) ≡ key_of o t
+  pub alike : (t : ℕ) → badge_of by o (number_at groups t) ≡ badge_of by o t
 
 -- each number of a group is that of a task, or 0
 pub record AreWithin (groups : List ℕ) : Type 0 where

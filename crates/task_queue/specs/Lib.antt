@@ -1,4 +1,6 @@
 pub mod Groups
+pub mod Held
+pub mod Kept
 pub mod Blocks
 pub mod Queues
 pub mod Woken

@@ -6,9 +6,12 @@ use Rattle.journal_model.specs.declared.entry.What.TheVariants.{Claim, Answer as
 use Rattle.journal_model.specs.declared.entry.Entry.{Entry}
 use Rattle.journal_model.specs.declared.opening.Opening.{Opening}
 use Rattle.journal_model.specs.Legality.{both_conflict, claimed_after, is_busy, is_claimed, task_of}
-use Rattle.task_queue.specs.Groups.{AreFirsts, AreGroups, AreNext, AreWithin, is_set, number_at}
+use Rattle.task_queue.specs.Groups.{AreGroups, is_set, number_at}
+use Rattle.task_queue.specs.Held.{IsHeld}
+use Rattle.task_queue.specs.Kept.{AreKept}
 use Rattle.task_queue.specs.Blocks.{AreInBlocks}
 use Rattle.task_queue.specs.Woken.{AreWatched}
+use Rattle.task_queue.specs.declared.alike.By.TheVariants.{Key, File}
 use Rattle.task_queue.specs.declared.queue.Queue.{Queue}
 
 -- ---- why a task that isn't claimed needn't be looked at
@@ -16,24 +19,13 @@ use Rattle.task_queue.specs.declared.queue.Queue.{Queue}
 abbrev pub is_among : List ℕ → ℕ → Bool
 is_among busy t = list_any (λ b. b == t) busy
 
--- a busy task is of the task's group
-abbrev pub is_group_busy : List ℕ → List ℕ → ℕ → Bool
-is_group_busy groups busy t = list_any (λ b. number_at groups b == number_at groups t) busy
+-- it is ready, to be looked at; or it waits for a busy task; or it is held by its key's group, or by its file's
+abbrev pub IsPlaced : List ℕ → List ℕ → List ℕ → List ℕ → List Bool → ℕ → Type 0
+IsPlaced keys files busy waits ready t =
+    (is_set ready t ≡ true) ⊎ ((is_among busy (number_at waits t) ≡ true) ⊎ (IsHeld keys busy ready t ⊎ IsHeld files busy ready t))
 
--- a task before it of its group is ready
-pub record HasReadyBefore (groups : List ℕ) (ready : List Bool) (t : ℕ) : Type 0 where
-  pub number : ℕ
-  pub before : number < t
-  pub marked : is_set ready number ≡ true
-  pub same : number_at groups number ≡ number_at groups t
-
--- it is ready, to be looked at; or it waits for a busy task, or one of its group is busy, or one before it of its group is ready
-abbrev pub IsPlaced : List ℕ → List ℕ → List ℕ → List Bool → ℕ → Type 0
-IsPlaced groups busy waits ready t =
-    (is_set ready t ≡ true) ⊎ ((is_among busy (number_at waits t) ≡ true) ⊎ ((is_group_busy groups busy t ≡ true) ⊎ HasReadyBefore groups ready t))
-
-pub record ArePlaced (groups busy waits : List ℕ) (claimed ready : List Bool) : Type 0 where
-  pub each : (t : ℕ) → 0 < t → t < length claimed → is_set claimed t ≡ false → IsPlaced groups busy waits ready t
+pub record ArePlaced (keys files busy waits : List ℕ) (claimed ready : List Bool) : Type 0 where
+  pub each : (t : ℕ) → 0 < t → t < length claimed → is_set claimed t ≡ false → IsPlaced keys files busy waits ready t
 
 -- ---- a queue in order
 
@@ -47,7 +39,6 @@ pub record AreTasks (busy : List ℕ) (long : ℕ) : Type 0 where
 
 -- each list has a place for each task, and for 0
 pub record AreLong (q : Queue) : Type 0 where
-  pub groups : length q.groups.of.items ≡ length q.claimed.items
   pub ready : length q.ready.flags.items ≡ length q.claimed.items
   pub waits : length q.waits.items ≡ length q.claimed.items
   pub watched : length q.watched.items ≡ length q.claimed.items
@@ -55,15 +46,14 @@ pub record AreLong (q : Queue) : Type 0 where
 -- number 0, which no task has, counts as claimed
 pub record IsOrdered (q : Queue) : Type 0 where
   pub long : AreLong q
-  pub within : AreWithin q.groups.of.items
-  pub next : AreNext q.groups.of.items q.groups.next.items
-  pub firsts : AreFirsts q.groups.of.items q.claimed.items q.groups.firsts.items
+  pub keys : AreKept q.claimed.items q.keys
+  pub files : AreKept q.claimed.items q.files
   pub blocks : AreInBlocks q.ready.flags.items q.ready.blocks.items
   pub no_task : is_set q.claimed.items 0 ≡ true
   pub busy : AreTasks q.busy.items (length q.claimed.items)
   pub watched : AreWatched q.waits.items q.watched.items
   pub unclaimed : AreUnclaimed q.claimed.items q.ready.flags.items
-  pub placed : ArePlaced q.groups.of.items q.busy.items q.waits.items q.claimed.items q.ready.flags.items
+  pub placed : ArePlaced q.keys.of.items q.files.of.items q.busy.items q.waits.items q.claimed.items q.ready.flags.items
 
 -- there is room for each task that isn't claimed to be busy
 pub record HasRoom (q : Queue) : Type 0 where
@@ -75,7 +65,8 @@ pub record HasRoom (q : Queue) : Type 0 where
 -- it is the queue of the opening's tasks, and each that waits for another one can't be busy at once with it
 pub record IsOf (o : Opening) (q : Queue) : Type 0 where
   pub long : length q.claimed.items ≡ length o.tasks + 1
-  pub groups : AreGroups o q.groups.of.items
+  pub keys : AreGroups Key o q.keys.of.items
+  pub files : AreGroups File o q.files.of.items
   pub waits : (t : ℕ) → 0 < number_at q.waits.items t → both_conflict (task_of o (number_at q.waits.items t)) (task_of o t) ≡ true
 
 -- it says which tasks are claimed and busy
@@ -89,6 +80,12 @@ pub record IsQueued (o : Opening) (past : List Entry) (q : Queue) : Type 0 where
   pub roomy : HasRoom q
   pub fits : IsOf o q
   pub said : IsSaid past q
+
+-- after the change the queue is in order and has room, and it is that of the opening if it was
+pub record IsSound (old new : Queue) : Type 0 where
+  pub ordered : IsOrdered new
+  pub room : HasRoom new
+  pub fits : (o : Opening) → IsOf o old → IsOf o new
 
 -- ---- what comes next
 

@@ -1,12 +1,6 @@
--- Which tasks are in the way of others, and from where on one may be ready.
-use Rattle.std.specs.Prelude.{ℕ, ◌≡◌, ◌<◌, ◌==◌, ◌||◌, Bool, true, false, List, length}
-use Rattle.journal_model.specs.declared.opening.Opening.{Opening}
-use Rattle.journal_model.specs.Legality.{both_conflict, task_of}
+-- From where on a task may be ready.
+use Rattle.std.specs.Prelude.{ℕ, ◌≡◌, ◌<◌, Bool, true, false, List, length}
 use Rattle.task_queue.specs.Groups.{is_set, number_at}
-
--- the task is of the other one's group, or in its way otherwise
-abbrev pub is_in_way : Opening → List ℕ → ℕ → ℕ → Bool
-is_in_way o groups b t = number_at groups b == number_at groups t || both_conflict (task_of o b) (task_of o t)
 
 -- no task below this one is ready
 pub record AreBare (ready : List Bool) (low : ℕ) : Type 0 where

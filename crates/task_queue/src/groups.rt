@@ -1,8 +1,11 @@
-// Tasks that have the same key are a group: at most one of it is busy.
+// Tasks that have the same key are a group, and so are those that name the same file: at most one of it is busy.
 ghost use Rattle.std.specs.Prelude.{ℕ, ◌≡◌, ◌<◌, ◌≤◌, ◌+◌, ◌==◌, ◌^◌, [], Bool, List, length, true, false, IfOk, IsTrue};
+ghost use Rattle.journal_model.specs.Legality.{task_of};
 ghost use Rattle.journal_model.specs.Limits.{most_tasks};
-ghost use Rattle.task_queue.specs.Groups.{AreChained, AreFirsts, AreGroups, AreNext, AreWithin, IsFirst, is_set, key_of, number_at};
+ghost use Rattle.task_queue.specs.declared.alike.By.{By};
+ghost use Rattle.task_queue.specs.Groups.{AreChained, AreFirsts, AreGroups, AreNext, AreWithin, IsFirst, badge_of, is_set, number_at, text_at};
 
+use crate::alike::By;
 use crate::lists::{is_set, number_at, put_number};
 use ann_key::NoMemory;
 use journal_model::Opening;
@@ -18,33 +21,37 @@ pub(super) struct Groups {
     pub firsts: Vec<u32>,
 }
 
-fn key_text(opening: &Opening, task: u32) -> &[u8] {
-    match task_of(opening, task) {
-        Some(task) => task.key.view().text(),
-        None => b"",
+fn text_of(opening: &Opening, by: By, task: u32) -> &[u8]
+    ensures { result.now ≡ text_at by (task_of opening.now task) }
+{
+    let Some(task) = task_of(opening, task) else {
+        return b"";
+    };
+    match by {
+        By::Key => task.key.view().text(),
+        By::File => task.file.view().as_bytes(),
     }
 }
 
-fn by_key(opening: &Opening, one: u32, other: u32) -> Ordering {
-    key_text(opening, one).cmp(key_text(opening, other))
+fn by_text(opening: &Opening, by: By, one: u32, other: u32) -> Ordering {
+    text_of(opening, by, one).cmp(text_of(opening, by, other))
 }
 
-fn has_same_key(opening: &Opening, one: u32, other: u32) -> bool
-    ensures { IsTrue result → key_of opening.now one ≡ key_of opening.now other }
+/// Whether both have the same text. An empty one is none: it says nothing of two tasks that they name no file.
+fn are_alike(opening: &Opening, by: By, one: u32, other: u32) -> bool
+    ensures { IsTrue result → badge_of by opening.now one ≡ badge_of by opening.now other }
 {
-    let Some(one) = task_of(opening, one) else {
+    let text = text_of(opening, by, one);
+    if text.is_empty() {
         return false;
-    };
-    let Some(other) = task_of(opening, other) else {
-        return false;
-    };
-    one.key.view().text() == other.key.view().text()
+    }
+    text == text_of(opening, by, other)
 }
 
 /// Each number from 0 to the last task's.
 fn numbers_of(alloc: Global, opening: &Opening) -> Result<Vec<u32>, NoMemory>
     requires { length opening.now.tasks ≤ most_tasks }
-    ensures { IfOk result (λ numbers. AreGroups opening.now numbers.items × AreWithin numbers.items) }
+    ensures { IfOk result (λ numbers. (by : By) → AreGroups by opening.now numbers.items × AreWithin numbers.items) }
 {
     let mut numbers = Vec::new(alloc);
     for number in 0..opening.tasks.view().len() as u32 + 1 {
@@ -53,20 +60,20 @@ fn numbers_of(alloc: Global, opening: &Opening) -> Result<Vec<u32>, NoMemory>
     Ok(numbers)
 }
 
-/// The same numbers, so that those of tasks with the same key stand side by side.
-fn sorted(alloc: Global, opening: &Opening) -> Result<Vec<u32>, NoMemory>
+/// The same numbers, so that those of tasks with the same text stand side by side.
+fn sorted(alloc: Global, opening: &Opening, by: By) -> Result<Vec<u32>, NoMemory>
     requires { length opening.now.tasks ≤ most_tasks }
 {
     let mut numbers = numbers_of(alloc, opening)?;
-    numbers.sort_unstable_by(|one, other| by_key(opening, *one, *other));
+    numbers.sort_unstable_by(|one, other| by_text(opening, by, *one, *other));
     Ok(numbers)
 }
 
-/// Puts a task into the group of another one, if they have the same key.
-fn join(opening: &Opening, groups: &mut Vec<u32>, one: u32, other: u32)
-    ensures { AreGroups opening.now groups.old.items × AreWithin groups.old.items → AreGroups opening.now groups.new.items × AreWithin groups.new.items }
+/// Puts a task into the group of another one, if they have the same text.
+fn join(opening: &Opening, by: By, groups: &mut Vec<u32>, one: u32, other: u32)
+    ensures { AreGroups by opening.now groups.old.items × AreWithin groups.old.items → AreGroups by opening.now groups.new.items × AreWithin groups.new.items }
 {
-    if !has_same_key(opening, one, other) {
+    if !are_alike(opening, by, one, other) {
         return;
     }
     let group = number_at(groups, one);
@@ -74,15 +81,15 @@ fn join(opening: &Opening, groups: &mut Vec<u32>, one: u32, other: u32)
 }
 
 /// Of each task the number of its group.
-fn grouped(alloc: Global, opening: &Opening) -> Result<Vec<u32>, NoMemory>
+fn grouped(alloc: Global, opening: &Opening, by: By) -> Result<Vec<u32>, NoMemory>
     requires { length opening.now.tasks ≤ most_tasks }
-    ensures { IfOk result (λ groups. AreGroups opening.now groups.items × AreWithin groups.items) }
+    ensures { IfOk result (λ groups. AreGroups by opening.now groups.items × AreWithin groups.items) }
 {
-    let sorted = sorted(alloc, opening)?;
+    let sorted = sorted(alloc, opening, by)?;
     let mut groups = numbers_of(alloc, opening)?;
     let mut before = 0;
     for task in &sorted {
-        join(opening, &mut groups, before, *task);
+        join(opening, by, &mut groups, before, *task);
         before = *task;
     }
     Ok(groups)
@@ -101,13 +108,13 @@ fn chain(groups: &[u32], next: &mut Vec<u32>, firsts: &mut Vec<u32>, task: u32)
 }
 
 /// The groups of an opening, while no task is claimed.
-pub(super) fn groups_of(alloc: Global, opening: &Opening) -> Result<Groups, NoMemory>
+pub(super) fn groups_of(alloc: Global, opening: &Opening, by: By) -> Result<Groups, NoMemory>
     requires { length opening.now.tasks ≤ most_tasks }
-    ensures groups { IfOk result (λ g. AreGroups opening.now g.of.items) }
+    ensures groups { IfOk result (λ g. AreGroups by opening.now g.of.items) }
     ensures within { IfOk result (λ g. AreWithin g.of.items) }
     ensures chained { IfOk result (λ g. AreChained g.of.items g.next.items g.firsts.items 0) }
 {
-    let of = grouped(alloc, opening)?;
+    let of = grouped(alloc, opening, by)?;
     let none = of.len() as u32;
     let mut next = Vec::new(alloc);
     next.resize(of.len(), none)?;

@@ -7,10 +7,12 @@ ghost use Rattle.journal_model.specs.Legality.{both_conflict, least_free, task_o
 ghost use Rattle.journal_model.specs.Limits.{most_tasks};
 ghost use Rattle.task_queue.specs.Groups.{is_set, number_at};
 ghost use Rattle.task_queue.specs.Blocks.{AreInBlocks};
-ghost use Rattle.task_queue.specs.Ways.{AreBare, AreReady, is_in_way};
+ghost use Rattle.task_queue.specs.Ways.{AreBare, AreReady};
 ghost use Rattle.task_queue.specs.Woken.{AreWatched, AreWoken};
 
-use crate::groups::{Groups, first_unclaimed, groups_of};
+use crate::alike::By;
+use crate::groups::{Groups, groups_of};
+use crate::handing::{call_first, pass_on, reopen};
 use crate::lists::{is_set, number_at, put_flag, put_number};
 use crate::marks::{self, Marks};
 use ann_key::NoMemory;
@@ -24,10 +26,13 @@ pub struct Queue {
     claimed: Vec<bool>,
     // in the order of their claims
     busy: Vec<u32>,
-    groups: Groups,
+    // by their keys
+    keys: Groups,
+    // by the files that they name
+    files: Groups,
     // those that a claim looks at
     ready: Marks,
-    // a busy task that is in this one's way by a file or a name
+    // a busy task of neither of this one's groups that is in its way
     waits: Vec<u32>,
     // those that another one waited for
     watched: Vec<bool>,
@@ -72,22 +77,10 @@ fn no_waits(alloc: Global, numbers: usize) -> Result<Vec<u32>, NoMemory>
     Ok(waits)
 }
 
-/// Whether the one task is in the way of the other: most often they have the same key.
-fn is_in_way(opening: &Opening, groups: &Groups, one: u32, other: u32) -> bool
-    ensures { result ≡ is_in_way opening.now groups.now.of.items one other }
+fn find_in_way<'a>(opening: &Opening, busy: &'a [u32], task: u32) -> Option<&'a u32>
+    ensures { option_copied result ≡ find (λ b. both_conflict (task_of opening.now b) (task_of opening.now task)) busy.entry.now }
 {
-    groups.is_same(one, other) || both_conflict(opening, one, other)
-}
-
-fn find_in_way<'a>(
-    opening: &Opening,
-    groups: &Groups,
-    busy: &'a [u32],
-    task: u32,
-) -> Option<&'a u32>
-    ensures { option_copied result ≡ find (λ b. is_in_way opening.now groups.now.of.items b task) busy.entry.now }
-{
-    busy.iter().find(|b| is_in_way(opening, groups, **b, task))
+    busy.iter().find(|b| both_conflict(opening, **b, task))
 }
 
 fn add(busy: &mut Vec<u32>, task: u32)
@@ -106,20 +99,22 @@ fn let_go(busy: &mut Vec<u32>, task: u32)
 }
 
 impl Queue {
-    ghost use Rattle.task_queue.specs.Queues.{HasRoom, IsNext, IsOf, IsOrdered, IsQueued, IsTurned, is_among};
+    ghost use Rattle.task_queue.specs.Queues.{HasRoom, IsNext, IsOf, IsOrdered, IsQueued, IsSound, IsTurned, is_among};
 
     /// The queue of the opening's tasks, none of which is claimed. It takes all the memory that is ever needed.
     pub fn new(alloc: Global, opening: &Opening) -> Result<Queue, NoMemory>
         requires { length opening.now.tasks ≤ most_tasks }
         ensures { IfOk result (IsQueued opening.now []) }
     {
-        let groups = groups_of(alloc, opening)?;
-        let numbers = groups.of.len();
-        let ready = firsts_ready(alloc, &groups.firsts)?;
+        let keys = groups_of(alloc, opening, By::Key)?;
+        let files = groups_of(alloc, opening, By::File)?;
+        let numbers = keys.of.len();
+        let ready = firsts_ready(alloc, &keys.firsts)?;
         Ok(Queue {
             claimed: none_claimed(alloc, numbers)?,
             busy: Vec::with_capacity(alloc, numbers)?,
-            groups,
+            keys,
+            files,
             ready,
             waits: no_waits(alloc, numbers)?,
             watched: flags(alloc, numbers)?,
@@ -128,34 +123,38 @@ impl Queue {
 
     /// A busy task that is in the task's way.
     fn in_way(&self, opening: &Opening, task: u32) -> Option<u32>
-        ensures { result ≡ find (λ b. is_in_way opening.now self.now.groups.of.items b task) self.now.busy.items }
+        ensures { result ≡ find (λ b. both_conflict (task_of opening.now b) (task_of opening.now task)) self.now.busy.items }
     {
-        match find_in_way(opening, &self.groups, &self.busy, task) {
+        match find_in_way(opening, &self.busy, task) {
             Some(other) => Some(*other),
             None => None,
         }
     }
 
-    /// A busy task is in the way of a ready one, which isn't looked at again before that one is let go.
+    /// A busy task is in the way of a ready one, which isn't looked at again before one that is in its way is let go.
     fn put_off(&mut self, task: u32, other: u32)
         requires ordered { IsOrdered self.old }
         requires within { task < length self.old.claimed.items }
         requires busy { is_among self.old.busy.items other ≡ true }
         ensures ordered { IsOrdered self.new }
         ensures fits { (o : Opening) → both_conflict (task_of o other) (task_of o task) ≡ true → IsOf o self.old → IsOf o self.new }
-        ensures claimed { self.new.claimed ≡ self.old.claimed }
-        ensures busy { self.new.busy ≡ self.old.busy }
+        ensures same { (self.new.claimed ≡ self.old.claimed) × (self.new.busy ≡ self.old.busy) }
         ensures bare { AreBare self.old.ready.flags.items task → AreBare self.new.ready.flags.items (task + 1) }
     {
         self.ready.unmark(task);
-        if self.groups.is_same(other, task) {
+        let by_key = pass_on(&mut self.ready, &self.keys, &self.claimed, &self.busy, task);
+        let by_file = pass_on(
+            &mut self.ready,
+            &self.files,
+            &self.claimed,
+            &self.busy,
+            task,
+        );
+        if by_key || by_file {
             return;
         }
         put_number(&mut self.waits, task, other);
         put_flag(&mut self.watched, other as usize, true);
-        let next = number_at(&self.groups.next, task);
-        let next = first_unclaimed(&self.claimed, &self.groups, next);
-        self.ready.mark(next);
     }
 
     /// The first task that is free to be claimed. It takes no memory.
@@ -180,9 +179,7 @@ impl Queue {
         requires ordered { IsOrdered self.old }
         requires room { HasRoom self.old }
         requires next { (0 < task) × (task < length self.old.claimed.items) × (is_set self.old.claimed.items task ≡ false) }
-        ensures ordered { IsOrdered self.new }
-        ensures room { HasRoom self.new }
-        ensures fits { (o : Opening) → IsOf o self.old → IsOf o self.new }
+        ensures sound { IsSound self.old self.new }
         ensures claimed { self.new.claimed.items ≡ slice_set self.old.claimed.items task true }
         ensures busy { self.new.busy.items ≡ self.old.busy.items ++ task ∷ [] }
     {
@@ -194,10 +191,9 @@ impl Queue {
     /// A busy task is let go.
     fn release(&mut self, task: u32)
         requires ordered { IsOrdered self.old }
+        requires room { HasRoom self.old }
         requires busy { is_among self.old.busy.items task ≡ true }
-        ensures ordered { IsOrdered self.new }
-        ensures room { HasRoom self.old → HasRoom self.new }
-        ensures fits { (o : Opening) → IsOf o self.old → IsOf o self.new }
+        ensures sound { IsSound self.old self.new }
         ensures claimed { self.new.claimed ≡ self.old.claimed }
         ensures busy { self.new.busy.items ≡ filter (λ b. not (b == task)) self.old.busy.items }
         ensures less { length self.new.busy.items < length self.old.busy.items }
@@ -209,11 +205,8 @@ impl Queue {
             &self.claimed,
             task,
         );
-        let group = number_at(&self.groups.of, task);
-        let first = number_at(&self.groups.firsts, group);
-        let first = first_unclaimed(&self.claimed, &self.groups, first);
-        put_number(&mut self.groups.firsts, group, first);
-        self.ready.mark(first);
+        call_first(&mut self.ready, &mut self.keys, &self.claimed, task);
+        call_first(&mut self.ready, &mut self.files, &self.claimed, task);
         let_go(&mut self.busy, task);
     }
 
@@ -222,17 +215,14 @@ impl Queue {
         requires ordered { IsOrdered self.old }
         requires room { HasRoom self.old }
         requires busy { is_among self.old.busy.items task ≡ true }
-        ensures ordered { IsOrdered self.new }
-        ensures room { HasRoom self.new }
-        ensures fits { (o : Opening) → IsOf o self.old → IsOf o self.new }
+        ensures sound { IsSound self.old self.new }
         ensures claimed { self.new.claimed.items ≡ slice_set self.old.claimed.items task false }
         ensures busy { self.new.busy.items ≡ filter (λ b. not (b == task)) self.old.busy.items }
     {
         self.release(task);
         put_flag(&mut self.claimed, task as usize, false);
-        let group = number_at(&self.groups.of, task);
-        let first = number_at(&self.groups.firsts, group);
-        put_number(&mut self.groups.firsts, group, first.min(task));
+        reopen(&mut self.keys, task);
+        reopen(&mut self.files, task);
         self.ready.mark(task);
     }
 

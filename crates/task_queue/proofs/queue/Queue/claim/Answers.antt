@@ -9,19 +9,16 @@ add-requires c =
     let one = count_up c.args.self.now.claimed.items c.args.task c.requires.next.1 c.requires.next.2 in
     omega (arith, c.requires.room.left, c.requires.room.room, one)
 
-pub returns-clause-ordered : goal.returns-clause-ordered
-returns-clause-ordered c =
-    claimed_ordered c.args.self.now c.put_flag.new.flags c.unmark.new.self c.add.new.busy c.args.task c.requires.ordered c.requires.next.0 c.requires.next.1
-    c.put_flag.ensures c.unmark.ensures.flags c.unmark.ensures.blocks c.add.ensures.items
-
-pub returns-clause-room : goal.returns-clause-room
-returns-clause-room c =
-    claimed_room c.args.self.now c.put_flag.new.flags c.unmark.new.self c.add.new.busy c.args.task c.requires.room c.requires.next.1 c.requires.next.2
-    c.put_flag.ensures c.add.ensures.items c.add.ensures.room
-
-pub returns-clause-fits : goal.returns-clause-fits
-returns-clause-fits c = λ o fits. record {
-  long = ap length c.put_flag.ensures ∙ length-set c.args.self.now.claimed.items c.args.task _ ∙ fits.long;
-  groups = fits.groups;
-  waits = fits.waits;
+pub returns-clause-sound : goal.returns-clause-sound
+returns-clause-sound c = record {
+  ordered = claimed_ordered c.args.self.now c.put_flag.new.flags c.unmark.new.self c.add.new.busy c.args.task c.requires.ordered c.requires.next.0 c.requires.next.1
+      c.put_flag.ensures c.unmark.ensures.flags c.unmark.ensures.blocks c.add.ensures.items;
+  room = claimed_room c.args.self.now c.put_flag.new.flags c.unmark.new.self c.add.new.busy c.args.task c.requires.room c.requires.next.1 c.requires.next.2
+      c.put_flag.ensures c.add.ensures.items c.add.ensures.room;
+  fits = λ o fits. record {
+    long = ap length c.put_flag.ensures ∙ length-set c.args.self.now.claimed.items c.args.task _ ∙ fits.long;
+    keys = fits.keys;
+    files = fits.files;
+    waits = fits.waits;
+  };
 }

@@ -1,5 +1,6 @@
-use Rattle.std.proofs.Common.{◌∙◌, rules, sym, refl, arith}
-use Rattle.task_queue.proofs.Finding.{bare_all, bare_more, first_bare, hindered, least_found, none_found, same_queued}
+use Rattle.std.proofs.Common.{◌∙◌, ℕ, rules, sym, refl, arith}
+use Rattle.journal_model.specs.Legality.{both_conflict, task_of}
+use Rattle.task_queue.proofs.Finding.{bare_all, bare_more, first_bare, found_some, least_found, none_found, same_queued}
 use Rattle.task_queue.proofs.queue.Queue.first_free.Goals as goal
 
 pub loop-task-init : goal.loop-task-init
@@ -31,7 +32,8 @@ returns-in_default-in_way-clause-kept c = λ past are. (
 
 pub put_off-requires-clause-busy : goal.put_off-requires-clause-busy
 put_off-requires-clause-busy c =
-    (hindered c.args.opening.now c.loop-task.self c.in-Some-in_way.other c.in-Some.task c.loop-task.invariant.ordered c.loop-task.invariant.fits (sym c.in_way.ensures ∙ c.in-Some-in_way.is)).0
+    let o = c.args.opening.now in
+    (found_some (λ (b : ℕ). both_conflict (task_of o b) (task_of o c.in-Some.task)) c.loop-task.self.busy.items c.in-Some-in_way.other (sym c.in_way.ensures ∙ c.in-Some-in_way.is)).0
 
 pub loop-task-preserved : goal.loop-task-preserved
 loop-task-preserved c =
@@ -41,9 +43,10 @@ loop-task-preserved c =
     record {
       some = omega arith;
       ordered = c.put_off.ensures.ordered;
-      fits = c.put_off.ensures.fits o (hindered o q c.in-Some-in_way.other c.in-Some.task is.ordered is.fits (sym c.in_way.ensures ∙ c.in-Some-in_way.is)).1 is.fits;
-      claimed = c.put_off.ensures.claimed ∙ is.claimed;
-      busy = c.put_off.ensures.busy ∙ is.busy;
+      fits = c.put_off.ensures.fits o
+          (found_some (λ (b : ℕ). both_conflict (task_of o b) (task_of o c.in-Some.task)) q.busy.items c.in-Some-in_way.other (sym c.in_way.ensures ∙ c.in-Some-in_way.is)).1 is.fits;
+      claimed = c.put_off.ensures.same.0 ∙ is.claimed;
+      busy = c.put_off.ensures.same.1 ∙ is.busy;
       bare = c.put_off.ensures.bare (bare_more q.ready.flags.items c.loop-task.from c.in-Some.task is.bare c.in-Some.ensures.some);
     }
 

@@ -9,7 +9,8 @@ returns c =
     let q : Queue = record {
       claimed = c.in_ok-none_claimed.field-0;
       busy = c.in_ok-with_capacity.field-0;
-      groups = c.in_ok-groups.groups;
+      keys = c.in_ok-keys.keys;
+      files = c.in_ok-files.files;
       ready = c.in_ok-ready.ready;
       waits = c.in_ok-no_waits.field-0;
       watched = c.in_ok-flags.field-0;
@@ -23,4 +24,7 @@ returns c =
       watched = c.in_ok-flags.ensures;
       ready = subst (λ (firsts : List ℕ). AreReady firsts c.in_ok-ready.ready.flags.items) c.deref.ensures.value c.in_ok-ready.ensures.ready;
     } in
-    new_queued c.args.opening.now q c.len-numbers.result new c.in_ok-groups.ensures.groups c.in_ok-groups.ensures.within c.in_ok-groups.ensures.chained c.in_ok-ready.ensures.in_blocks
+    new_queued c.args.opening.now q c.len-numbers.result new
+    (record { groups = c.in_ok-keys.ensures.groups; within = c.in_ok-keys.ensures.within; chained = c.in_ok-keys.ensures.chained })
+    (record { groups = c.in_ok-files.ensures.groups; within = c.in_ok-files.ensures.within; chained = c.in_ok-files.ensures.chained })
+    c.in_ok-ready.ensures.in_blocks
