@@ -1,6 +1,6 @@
 -- Words for the core's code: an entry's due entries in short, and what is said in an open job.
-use Rattle.std.specs.Prelude.{ℕ, ◌≡◌, ◌+◌, ◌*◌, not, Bool, true, false, if◌then◌else◌, List, [], ◌∷◌, length, Option, Some, None, map, filter, filter_map}
-use Rattle.std.specs.List.{range_with_len, sum_by}
+use Rattle.std.specs.Prelude.{ℕ, ◌≡◌, ◌+◌, ◌*◌, not, Bool, true, false, if◌then◌else◌, List, [], ◌∷◌, ◌++◌, length, Option, Some, None, map, filter, filter_map}
+use Rattle.std.specs.List.{cons_option, range_with_len, sum_by}
 use Rattle.journal_model.specs.declared.verdict.Why.TheVariants.{Error as ErrorAt, Version as VersionFault}
 use Rattle.journal_model.specs.declared.verdict.Verdict.{Verdict}
 use Rattle.journal_model.specs.declared.verdict.Verdict.TheVariants.{Unsent}
@@ -70,9 +70,17 @@ takes_lines Infos = true
 abbrev pub said_by : Option RemoteMessage → List (Option RemoteMessage)
 said_by m = if spells_aside m then [] else m ∷ []
 
--- what is said in the job at the first n places
+-- what is said in the job at a place
+abbrev pub said_there : List Entry → ℕ → ℕ → ℕ → List (Option RemoteMessage)
+said_there journal c j at = said (cons_option (item_at journal c j at) [])
+
+-- and at the first n places
 abbrev pub said_before : List Entry → ℕ → ℕ → ℕ → List (Option RemoteMessage)
 said_before journal c j n = said (filter_map (item_at journal c j) (range_with_len 0 n))
+
+-- the message is the last that was said
+abbrev pub EndsIn : Option RemoteMessage → List (Option RemoteMessage) → Type 0
+EndsIn m all = (ms : List (Option RemoteMessage)) × (all ≡ ms ++ m ∷ [])
 
 -- ---- the jobs that an end or a mute settles
 

@@ -1,23 +1,23 @@
 // What a message is to an open job: the talk about its request, brought to where the job stands.
-ghost use Rattle.std.specs.Prelude.{◌≡◌, ◌++◌, [], List, Option, Some, IfOk, true, false};
-ghost use Rattle.std.specs.List.{cons_option};
-ghost use Rattle.annex_model.specs.Messages.{RemoteMessage, remote_reading};
-ghost use Rattle.annex_model.specs.Talks.{said, awaits, shape_of};
+ghost use Rattle.std.specs.Prelude.{ℕ, ◌≡◌, ◌≤◌, ◌∷◌, [], Some, IfOk, IfSome, MatchOption, true, false};
+ghost use Rattle.annex_model.specs.Messages.{remote_reading};
+ghost use Rattle.annex_model.specs.Talks.{said, awaits, shape_of, spells_aside};
 ghost use Rattle.annex_model.specs.Hearings.{request_in, hearing};
 ghost use Rattle.wire_msg.specs.Shown.{remote_shown, host_shown};
 ghost use Rattle.talk_serial.specs.Requests.{message_of, is_request};
 ghost use Rattle.talk_serial.specs.Talked.{is_over};
 ghost use Rattle.talk_serial.specs.Hearings.{heard_as, Follows};
 ghost use Rattle.journal_model.specs.Journal.{is_open};
-ghost use Rattle.journal_model.specs.Parts.{part, item_at};
+ghost use Rattle.journal_model.specs.Parts.{part};
 ghost use Rattle.journal_model.specs.Legality.{Legal};
-ghost use Rattle.host_core.specs.Moves.{takes_lines, said_by};
+ghost use Rattle.journal_scan.specs.Spans.{IsSpan};
+ghost use Rattle.host_core.specs.Moves.{EndsIn, said_before, said_there, takes_lines};
 
 use ann_key::NoMemory;
-use journal_look::{Journal, request_text, said_at};
+use journal_look::{Journal, Span, open_span, request_text, said_within};
 use journal_model::Opening;
 use std::alloc::Global;
-use talk_serial::{Heard, Request, Talk};
+use talk_serial::{Heard, Request, Talk, is_aside};
 use wire_msg::{HostMsg, RemoteMsg, read_host, read_remote};
 
 /// The request that asks the message.
@@ -38,42 +38,69 @@ fn takes_lines(message: &HostMsg<'_>) -> bool
     matches!(message, HostMsg::Listconfigs | HostMsg::Getinfo)
 }
 
-/// The talk hears a line that the remote said.
-fn hear_line(talk: &mut Talk, text: &[u8])
-    ensures request { talk.new.request ≡ talk.old.request }
-    ensures follows { (ms : List (Option RemoteMessage)) → Follows talk.old ms → awaits (message_of talk.old.request) (ms ++ said_by (remote_reading text.now)) ≡ true → Follows talk.new (ms ++ said_by (remote_reading text.now)) }
+/// Whether the line spells an aside.
+fn is_aside_line(text: &[u8]) -> bool
+    ensures { result ≡ spells_aside (remote_reading text.now) }
 {
     match read_remote(text) {
-        Some(message) => {
-            talk.hear(&message);
-        }
-        None => {}
+        Some(message) => is_aside(&message),
+        None => false,
     }
 }
 
-/// The talk hears what the remote said in the job at that place.
-fn hear_place(talk: &mut Talk, journal: &Journal, child: u32, job: u64, at: u64)
-    ensures request { talk.new.request ≡ talk.old.request }
-    ensures follows { (ms : List (Option RemoteMessage)) → Follows talk.old ms → awaits (message_of talk.old.request) (ms ++ said (cons_option (item_at journal.now.entries child job at) [])) ≡ true → Follows talk.new (ms ++ said (cons_option (item_at journal.now.entries child job at) [])) }
+/// A place up to which the remote said nothing in the job, which may have that span.
+fn first_place(journal: &Journal, span: Option<Span>, child: u32, job: u64) -> u64
+    requires { IfSome span (λ s. IsSpan journal.now.entries child job s) }
+    ensures { (n : ℕ) → n ≤ result → said_before journal.now.entries child job n ≡ [] }
 {
-    match said_at(journal, child, job, at) {
-        Some(text) => hear_line(talk, text),
-        None => {}
+    match span {
+        Some(span) => span.asked as u64,
+        None => 0,
     }
 }
 
-/// The talk about the request, which has heard what the remote said in the job.
+/// The line at that place, where the remote said it in the job, which may have that span, and it spells no aside.
+fn line_said(journal: &Journal, span: Option<Span>, child: u32, job: u64, at: u64) -> Option<&[u8]>
+    requires { IfSome span (λ s. IsSpan journal.now.entries child job s) }
+    ensures { MatchOption result (said_there journal.now.entries child job at ≡ []) (λ text. said_there journal.now.entries child job at ≡ remote_reading text.now ∷ []) }
+{
+    match said_within(journal, span, child, job, at) {
+        Some(text) if !is_aside_line(text) => Some(text),
+        _ => None,
+    }
+}
+
+/// The last line that the remote said in the open job, asides left out. It looks back from the journal's end, to the request at most,
+/// and an aside asks for no such look. So what was passed once is not passed again.
+fn last_said(journal: &Journal, child: u32, job: u64) -> Option<&[u8]>
+    ensures { MatchOption result (said (part journal.now.entries child job) ≡ []) (λ text. EndsIn (remote_reading text.now) (said (part journal.now.entries child job))) }
+{
+    let span = open_span(journal, child, job);
+    let from = first_place(journal, span, child, job);
+    let mut rest = journal.len();
+    while rest > from {
+        rest -= 1;
+        if let Some(text) = line_said(journal, span, child, job, rest) {
+            return Some(text);
+        }
+    }
+    None
+}
+
+/// The talk about the request, which has heard what the remote said in the job. The last line tells how far the answer has come.
 fn replayed(journal: &Journal, child: u32, job: u64, request: Request) -> Talk
     requires { awaits (message_of request) (said (part journal.now.entries child job)) ≡ true }
     ensures request { result.request ≡ request }
     ensures open { is_over result ≡ false }
     ensures follows { Follows result (said (part journal.now.entries child job)) }
 {
-    let mut talk = Talk::ask(request);
-    for at in 0..journal.len() {
-        hear_place(&mut talk, journal, child, job, at);
+    let Some(text) = last_said(journal, child, job) else {
+        return Talk::ask(request);
+    };
+    match read_remote(text) {
+        Some(message) => Talk::after(request, &message),
+        None => unreachable!(),
     }
-    talk
 }
 
 /// The talk about the open job. An answer of one line was not begun.
@@ -117,6 +144,9 @@ pub(super) fn hear(
     requires open { is_open journal.now.entries child job ≡ true }
     ensures { IfOk result (λ h. h ≡ heard_as (hearing (part journal.now.entries child job) (remote_shown message.now))) }
 {
+    if is_aside(message) {
+        return Ok(Heard::Aside);
+    }
     let mut talk = talk_of(alloc, opening, journal, child, job)?;
     let heard = talk.hear(message);
     Ok(heard)

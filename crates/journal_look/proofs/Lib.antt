@@ -10,3 +10,4 @@ pub mod Taking
 pub mod Working
 pub mod Across
 pub mod Settling
+pub mod Spanning

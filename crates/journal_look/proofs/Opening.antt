@@ -1,9 +1,10 @@
 -- Which jobs are open after one more entry, and how jobs were settled.
-use Rattle.std.proofs.Common.{◌≡◌, ◌∙◌, ℕ, suc, ◌+◌, ◌<◌, ◌≤◌, List, [], ◌∷◌, ◌++◌, refl, sym, ap, subst, Bool, true, false, not, cond, Option, Some, None, length, length-append, append-nil, arith, inl, inr}
+use Rattle.std.proofs.Common.{◌≡◌, ◌∙◌, ℕ, suc, ◌+◌, ◌<◌, ◌≤◌, List, [], ◌∷◌, ◌++◌, refl, sym, ap, subst, Bool, true, false, not, cond, Option, Some, None, length, take, length-append, append-nil, arith, inl, inr}
 use Rattle.std.specs.Prelude.{◌==◌, ◌&&◌, ◌||◌, ◌⊎◌, nat_lt, filter, find, option_map, IfSome}
 use Rattle.std.specs.List.{All, list_any, prefix_len, cons_option}
 use Rattle.std.specs.Option.{option_or}
 use Rattle.std.proofs.lemmas.Bool.Decides.{nat_tests}
+use Rattle.std.proofs.lemmas.List.{take-append-le, take_all}
 use Rattle.std.proofs.lemmas.List.Elements.{All-nil, All-head, All-tail, All-push, All-filter, All-weaker, filter-append, filter_map-append}
 use Rattle.std.proofs.lemmas.List.Folds.{list_any-append, prefix_len-append}
 use Rattle.journal_model.specs.declared.verdict.Verdict.{Verdict}
@@ -16,7 +17,7 @@ use Rattle.journal_model.proofs.Looks.{any-append, each_of-append, verdict_of-ap
 use Rattle.journal_scan.specs.Looks.{is_hosts}
 use Rattle.journal_look.specs.declared.jobs.Open.{Open}
 use Rattle.journal_look.specs.declared.jobs.Told.{Told}
-use Rattle.journal_look.specs.Opens.{AreNumbered, AreOpen, AreTold, IsAsked, IsTold, closed, is_this, job_on, jobs_child, jobs_on, keeps_numbers, opened, touches}
+use Rattle.journal_look.specs.Opens.{AreNumbered, AreOpen, AreTold, IsAsked, IsTold, closed, is_idle, is_this, job_on, jobs_child, jobs_on, keeps_numbers, opened, touches}
 use Rattle.ann_key.proofs.Booleans.{or_left as left_one, true_and_false as true_not_false}
 use Rattle.std.proofs.lemmas.Bool.{or_cases as either_one, eqb-true as same_number, ne_eqb as differ, and_parts as both}
 use Rattle.ann_key.proofs.Lists.{any_same}
@@ -222,15 +223,34 @@ not_either c j (e ∷ past) h = go (is_hosts c j e.what) (settles c j e.what) h 
     go false true h r = absurd cc
     go false false h r = r h
 
+-- the settled jobs are those before, and the one that the entry settles
+open_by : (past : List Entry) (e : Entry) (c : ℕ)
+    → open_jobs (past ++ e ∷ []) c ≡ filter (λ j. not (settles c j e.what)) (open_jobs past c) ++ filter (λ j. not (is_settled past c j || settles c j e.what)) (cons_option (asks c e.what) [])
+open_by past e c =
+    ap (filter (λ (j : ℕ). not (is_settled (past ++ e ∷ []) c j))) (asked_more past e c)
+    ∙ filter_same (λ (j : ℕ). not (is_settled (past ++ e ∷ []) c j)) (λ (j : ℕ). not (is_settled past c j || settles c j e.what)) (λ j. ap not (settled_now past e c j ∙ ap (λ (b : Bool). is_settled past c j || b) (right (settles c j e.what)))) (asked_jobs past c ++ cons_option (asks c e.what) [])
+    ∙ filter-append (λ (j : ℕ). not (is_settled past c j || settles c j e.what)) (asked_jobs past c) (cons_option (asks c e.what) [])
+    ∙ ap (λ (l : List ℕ). l ++ filter (λ (j : ℕ). not (is_settled past c j || settles c j e.what)) (cons_option (asks c e.what) []))
+    (filter_same (λ (j : ℕ). not (is_settled past c j || settles c j e.what)) (λ (j : ℕ). not (is_settled past c j) && not (settles c j e.what)) (λ j. neither (is_settled past c j) (settles c j e.what)) (asked_jobs past c)
+    ∙ sym (filter_twice (λ (j : ℕ). not (is_settled past c j)) (λ (j : ℕ). not (settles c j e.what)) (asked_jobs past c)))
+  where
+    right : (b : Bool) → (b || false) ≡ b
+    right true = refl
+    right false = refl
+
+    neither : (a b : Bool) → not (a || b) ≡ (not a && not b)
+    neither true b = refl
+    neither false b = refl
+
 -- ---- the first entry of a job
 
-none_first : (c j : ℕ) (past : List Entry) → any (is_hosts c j) past ≡ false → prefix_len (λ (e : Entry). not (is_hosts c j e.what)) past ≡ length past
-none_first c j [] h = refl
-none_first c j (e ∷ past) h = go (is_hosts c j e.what) h (none_first c j past)
+pub none_first : (p : What → Bool) (past : List Entry) → any p past ≡ false → prefix_len (λ (e : Entry). not (p e.what)) past ≡ length past
+none_first p [] h = refl
+none_first p (e ∷ past) h = go (p e.what) h (none_first p past)
   where
-    go : (b : Bool) → (b || any (is_hosts c j) past) ≡ false
-        → (any (is_hosts c j) past ≡ false → prefix_len (λ (d : Entry). not (is_hosts c j d.what)) past ≡ length past)
-        → cond (not b) (1 + prefix_len (λ (d : Entry). not (is_hosts c j d.what)) past) 0 ≡ suc (length past)
+    go : (b : Bool) → (b || any p past) ≡ false
+        → (any p past ≡ false → prefix_len (λ (d : Entry). not (p d.what)) past ≡ length past)
+        → cond (not b) (1 + prefix_len (λ (d : Entry). not (p d.what)) past) 0 ≡ suc (length past)
     go true h r = absurd cc
     go false h r = let rest = r h in omega arith
 
@@ -270,6 +290,9 @@ first_more past e keeps x is = record {
   within = let within = is.within in let long = length-append past (e ∷ []) in omega arith;
   low = let low = is.low in let long = asked_longer past e x.child in omega arith;
   task = λ t. asked_for_more past e x t ∙ ap (λ (b : Bool). list_any (λ (q : ℕ × ℕ). is_this q.0 q.1 x) (each_of (job_for t) past) || b) (other_job past e.what x t keeps is.low) ∙ plain (list_any (λ (q : ℕ × ℕ). is_this q.0 q.1 x) (each_of (job_for t) past)) ∙ is.task t;
+  alone = λ so.
+      let within = is.within in
+      ap (λ (es : List Entry). first_of (open_jobs es x.child)) (take-append-le (x.at + 1) past (e ∷ []) (omega arith)) ∙ is.alone so;
 }
   where
     plain : (b : Bool) → (b || false) ≡ b
@@ -318,10 +341,11 @@ none_asked c j x t of_child of_job (e ∷ past) h = go e.what h (none_asked c j 
         right false h = h
 
 first_now : (past : List Entry) (by child job task : ℕ) (line : List ℕ) → Keeps past (Ask child job task line) → AreNumbered past
-    → IsAsked (past ++ record { by = by; what = Ask child job task line } ∷ []) (record { child = child; job = job; task = task; at = length past })
-first_now past by child job task line keeps are = record {
+    → (alone : Bool) → (alone ≡ true → open_jobs past child ≡ [])
+    → IsAsked (past ++ record { by = by; what = Ask child job task line } ∷ []) (record { child = child; job = job; task = task; at = length past; alone = alone })
+first_now past by child job task line keeps are alone idle = record {
   place =
-      let whole = none_first child job past (not_either child job past untold).0 in
+      let whole = none_first (is_hosts child job) past (not_either child job past untold).0 in
       let equal : (prefix_len (λ (d : Entry). not (is_hosts child job d.what)) past == length past) ≡ true = subst (λ (n : ℕ). (n == length past) ≡ true) (sym whole) (same (length past)) in
       prefix_len-append (λ (d : Entry). not (is_hosts child job d.what)) past (e ∷ [])
       ∙ (rw (equal, here) (let zero_more : length past + 0 ≡ length past = omega arith in zero_more));
@@ -336,13 +360,20 @@ first_now past by child job task line keeps are = record {
       asked_for_more past e x t
       ∙ ap (λ (b : Bool). b || list_any (λ (q : ℕ × ℕ). is_this q.0 q.1 x) (cons_option (job_for t (Ask child job task line)) [])) (none_asked child job x t refl refl past untold)
       ∙ last t (task == t) refl;
+  alone = λ so.
+      let long = length-append past (e ∷ []) in
+      let whole : take (length past + 1) (past ++ e ∷ []) ≡ past ++ e ∷ [] = take_all (length past + 1) (past ++ e ∷ []) (omega arith) in
+      ap (λ (es : List Entry). first_of (open_jobs es child)) whole
+      ∙ ap first_of (open_by past e child)
+      ∙ ap (λ (ks : List ℕ). first_of (filter (λ (j : ℕ). true) ks ++ filter (λ (j : ℕ). not (is_settled past child j || false)) (cons_option (asks child (Ask child job task line)) []))) (idle so)
+      ∙ (let own = same child in let unsettled = (not_either child job past untold).1 in rw (own, unsettled) refl);
 }
   where
     e : Entry
     e = record { by = by; what = Ask child job task line }
 
     x : Open
-    x = record { child = child; job = job; task = task; at = length past }
+    x = record { child = child; job = job; task = task; at = length past; alone = alone }
 
     number : job ≡ length (asked_jobs past child)
     number = same_number job (length (asked_jobs past child)) keeps
@@ -358,25 +389,6 @@ first_now past by child job task line keeps are = record {
     last t false h = rw h refl
 
 -- ---- the open jobs
-
--- the settled jobs are those before, and the one that the entry settles
-open_by : (past : List Entry) (e : Entry) (c : ℕ)
-    → open_jobs (past ++ e ∷ []) c ≡ filter (λ j. not (settles c j e.what)) (open_jobs past c) ++ filter (λ j. not (is_settled past c j || settles c j e.what)) (cons_option (asks c e.what) [])
-open_by past e c =
-    ap (filter (λ (j : ℕ). not (is_settled (past ++ e ∷ []) c j))) (asked_more past e c)
-    ∙ filter_same (λ (j : ℕ). not (is_settled (past ++ e ∷ []) c j)) (λ (j : ℕ). not (is_settled past c j || settles c j e.what)) (λ j. ap not (settled_now past e c j ∙ ap (λ (b : Bool). is_settled past c j || b) (right (settles c j e.what)))) (asked_jobs past c ++ cons_option (asks c e.what) [])
-    ∙ filter-append (λ (j : ℕ). not (is_settled past c j || settles c j e.what)) (asked_jobs past c) (cons_option (asks c e.what) [])
-    ∙ ap (λ (l : List ℕ). l ++ filter (λ (j : ℕ). not (is_settled past c j || settles c j e.what)) (cons_option (asks c e.what) []))
-    (filter_same (λ (j : ℕ). not (is_settled past c j || settles c j e.what)) (λ (j : ℕ). not (is_settled past c j) && not (settles c j e.what)) (λ j. neither (is_settled past c j) (settles c j e.what)) (asked_jobs past c)
-    ∙ sym (filter_twice (λ (j : ℕ). not (is_settled past c j)) (λ (j : ℕ). not (settles c j e.what)) (asked_jobs past c)))
-  where
-    right : (b : Bool) → (b || false) ≡ b
-    right true = refl
-    right false = refl
-
-    neither : (a b : Bool) → not (a || b) ≡ (not a && not b)
-    neither true b = refl
-    neither false b = refl
 
 all_kept : (ks : List ℕ) → filter (λ (j : ℕ). true) ks ≡ ks
 all_kept [] = refl
@@ -415,7 +427,7 @@ jobs_closed c child job (x ∷ jobs) = go (x.child == c) refl (jobs_closed c chi
 opened_on : (past : List Entry) (w : What) (jobs : List Open) → Keeps past w → AreOpen past jobs → (c : ℕ)
     → jobs_on c (opened (length past) w jobs) ≡ filter (λ j. not (settles c j w)) (open_jobs past c) ++ filter (λ j. not (is_settled past c j || settles c j w)) (cons_option (asks c w) [])
 opened_on past (Ask child job task line) jobs keeps are c =
-    filter_map-append (job_on c) jobs (record { child = child; job = job; task = task; at = length past } ∷ [])
+    filter_map-append (job_on c) jobs (record { child = child; job = job; task = task; at = length past; alone = is_idle child jobs } ∷ [])
     ∙ ap (λ (l : List ℕ). l ++ cons_option (cond (child == c) (Some job) None) []) (are.each c ∙ sym (all_kept (open_jobs past c)))
     ∙ ap (λ (l : List ℕ). filter (λ (j : ℕ). true) (open_jobs past c) ++ l) (go (child == c) refl)
   where
@@ -433,13 +445,23 @@ opened_on past (Settled child job v) jobs keeps are c =
 opened_on past w jobs keeps are c =
     are.each c ∙ sym (all_kept (open_jobs past c)) ∙ sym (append-nil (filter (λ (j : ℕ). true) (open_jobs past c)))
 
+-- a child of which the table has no job
+idle_none : (c : ℕ) (jobs : List Open) → is_idle c jobs ≡ true → jobs_on c jobs ≡ []
+idle_none c [] h = refl
+idle_none c (x ∷ jobs) h = go (x.child == c) h (idle_none c jobs)
+  where
+    go : (b : Bool) → not (b || list_any (λ (y : Open). y.child == c) jobs) ≡ true → (is_idle c jobs ≡ true → jobs_on c jobs ≡ [])
+        → cons_option (cond b (Some x.job) None) (jobs_on c jobs) ≡ []
+    go true h r = absurd cc
+    go false h r = r h
+
 firsts : (past : List Entry) (e : Entry) (jobs : List Open) → Keeps past e.what → AreOpen past jobs → All (IsAsked (past ++ e ∷ [])) (opened (length past) e.what jobs)
 firsts past e jobs keeps are = go e.by e.what keeps (All-weaker (IsAsked past) (IsAsked (past ++ e ∷ [])) (first_more past e keeps) jobs are.first)
   where
     go : (by : ℕ) (w : What) → Keeps past w → All (IsAsked (past ++ record { by = by; what = w } ∷ [])) jobs → All (IsAsked (past ++ record { by = by; what = w } ∷ [])) (opened (length past) w jobs)
     go by (Ask child job task line) keeps all =
-        All-push (IsAsked (past ++ record { by = by; what = Ask child job task line } ∷ [])) jobs (record { child = child; job = job; task = task; at = length past }) all
-        (first_now past by child job task line keeps are.numbered)
+        All-push (IsAsked (past ++ record { by = by; what = Ask child job task line } ∷ [])) jobs (record { child = child; job = job; task = task; at = length past; alone = is_idle child jobs }) all
+        (first_now past by child job task line keeps are.numbered (is_idle child jobs) (λ so. sym (are.each child) ∙ idle_none child jobs so))
     go by (Settled child job v) keeps all =
         All-filter (λ (x : Open). not (is_this child job x)) (IsAsked (past ++ record { by = by; what = Settled child job v } ∷ [])) jobs all
     go by w keeps all = all

@@ -1,10 +1,10 @@
 -- Which jobs are open, and how the last ones were settled, so that a question about one needn't go through the entries.
-use Rattle.std.specs.Prelude.{ℕ, ◌≡◌, ◌<◌, ◌==◌, ◌&&◌, ◌||◌, not, nat_lt, Bool, true, if◌then◌else◌, List, [], ◌∷◌, ◌++◌, length, Option, Some, None, filter, filter_map, IsTrue}
+use Rattle.std.specs.Prelude.{ℕ, ◌≡◌, ◌+◌, ◌<◌, ◌==◌, ◌&&◌, ◌||◌, not, nat_lt, Bool, true, if◌then◌else◌, List, [], ◌∷◌, ◌++◌, length, take, Option, Some, None, filter, filter_map, IsTrue}
 use Rattle.std.specs.List.{All, list_any}
 use Rattle.journal_model.specs.declared.entry.What.{What}
 use Rattle.journal_model.specs.declared.entry.What.TheVariants.{Ask, Put, Verdict as Settled}
 use Rattle.journal_model.specs.declared.entry.Entry.{Entry}
-use Rattle.journal_model.specs.Journal.{any, asked_jobs, each_of, open_jobs, settles, verdict_of}
+use Rattle.journal_model.specs.Journal.{any, asked_jobs, each_of, first_of, open_jobs, settles, verdict_of}
 use Rattle.journal_model.specs.Legality.{job_for}
 use Rattle.journal_scan.specs.Looks.{asked_at, is_hosts}
 use Rattle.journal_look.specs.declared.jobs.Open.{Open}
@@ -52,18 +52,24 @@ jobs_on c jobs = filter_map (job_on c) jobs
 abbrev pub closed : ℕ → ℕ → List Open → List Open
 closed c j jobs = filter (λ x. not (is_this c j x)) jobs
 
+-- no job of the child is in the table
+abbrev pub is_idle : ℕ → List Open → Bool
+is_idle c jobs = not (list_any (λ (x : Open). x.child == c) jobs)
+
 -- the table after one more entry, which stands at that place
 abbrev pub opened : ℕ → What → List Open → List Open
-opened at (Ask child job task line) jobs = jobs ++ record { child = child; job = job; task = task; at = at } ∷ []
+opened at (Ask child job task line) jobs = jobs ++ record { child = child; job = job; task = task; at = at; alone = is_idle child jobs } ∷ []
 opened at (Settled child job verdict) jobs = closed child job jobs
 opened at w jobs = jobs
 
--- The job was asked for its task alone, and its request stands at its place.
+-- The job was asked for its task alone, and its request stands at its place. Where it was asked alone, it was the first of its
+-- child's open jobs then.
 pub record IsAsked (past : List Entry) (x : Open) : Type 0 where
   pub place : asked_at past x.child x.job ≡ x.at
   pub within : x.at < length past
   pub low : x.job < length (asked_jobs past x.child)
   pub task : (t : ℕ) → list_any (λ q. is_this q.0 q.1 x) (each_of (job_for t) past) ≡ (x.task == t)
+  pub alone : x.alone ≡ true → first_of (open_jobs (take (x.at + 1) past) x.child) ≡ Some x.job
 
 pub record AreOpen (past : List Entry) (jobs : List Open) : Type 0 where
   pub numbered : AreNumbered past

@@ -1,26 +1,30 @@
 // Which jobs are open, and how the last ones were settled, entry by entry.
-ghost use Rattle.std.specs.Prelude.{not, nat_le, ◌≤◌, ℕ, Bool, None, ◌≡◌, ◌==◌, ◌<◌, ◌++◌, ◌∷◌, [], List, ◌&&◌, Some, find, length, option_copied, IfSome, IsTrue, true};
+ghost use Rattle.std.specs.Prelude.{not, nat_le, ◌≤◌, ℕ, Bool, None, ◌≡◌, ◌==◌, ◌<◌, ◌++◌, ◌∷◌, [], List, ◌&&◌, Some, find, length, option_copied, IfSome, IsTrue, false, true};
 ghost use Rattle.std.specs.List.{list_all, list_any};
 ghost use Rattle.journal_model.specs.declared.entry.Entry.{Entry};
-ghost use Rattle.journal_model.specs.Journal.{asked_jobs, first_of, is_open, open_jobs, verdict_of};
+ghost use Rattle.journal_model.specs.Journal.{any, asked_jobs, first_of, is_open, offers, open_jobs, verdict_of};
 ghost use Rattle.journal_model.specs.Legality.{has_open_job};
 ghost use Rattle.journal_scan.specs.Looks.{NoneDue, asked_at};
 ghost use Rattle.journal_scan.specs.Shown.{what_shown, entry_shown};
+ghost use Rattle.journal_scan.specs.Spans.{IsSpan};
 ghost use Rattle.journal_look.specs.Lives.{AreKnown};
-ghost use Rattle.journal_look.specs.Opens.{AreJobsKnown, AreOpen, AreTold, IsTold, closed, is_this, jobs_child, keeps_numbers, opened};
+ghost use Rattle.journal_look.specs.Opens.{AreJobsKnown, AreOpen, AreTold, IsTold, closed, is_idle, is_this, jobs_child, keeps_numbers, opened};
 
 use crate::life::{self, Lives};
 use journal_model::Verdict;
+use journal_scan::spans::Span;
 use journal_scan::{EntryRef, WhatRef};
 use std::alloc::{AllocError, Global};
 
-/// An open job, the task that it was asked for, and the place of the entry that asks it.
+/// An open job, the task that it was asked for, the place of the entry that asks it, and whether no other job of its child was open
+/// then.
 #[derive(Clone, Copy)]
 pub(super) struct Open {
     pub child: u32,
     pub job: u64,
     pub task: u32,
     pub at: usize,
+    pub alone: bool,
 }
 
 /// How a job was settled.
@@ -82,6 +86,20 @@ fn put(jobs: &mut Vec<Open>, one: Open) -> bool
     jobs.push(one).is_ok()
 }
 
+/// Whether a job of the child is in the table.
+fn has_child(jobs: &[Open], c: u32) -> bool
+    ensures { result ≡ list_any (λ x. x.child == c) jobs.now }
+{
+    jobs.iter().any(|x| x.child == c)
+}
+
+/// Whether no job of the child is.
+fn is_idle(jobs: &[Open], c: u32) -> bool
+    ensures { result ≡ is_idle c jobs.now }
+{
+    !has_child(jobs, c)
+}
+
 /// The table after one more entry, which stands at that place. False where there is no room for it.
 fn change(jobs: &mut Vec<Open>, at: usize, what: WhatRef<'_>) -> bool
     ensures { IsTrue result → jobs.new.items ≡ opened at (what_shown what.entry) jobs.old.items }
@@ -98,6 +116,7 @@ fn change(jobs: &mut Vec<Open>, at: usize, what: WhatRef<'_>) -> bool
                 job,
                 task,
                 at,
+                alone: is_idle(jobs.as_slice(), child),
             };
             put(jobs, one)
         }
@@ -179,6 +198,19 @@ pub(super) fn place_of(jobs: &[Open], child: u32, job: u64) -> Option<usize>
     match find_job(jobs, child, job) {
         Some(x) => Some(x.at),
         None => None,
+    }
+}
+
+/// The span of an open job that was asked alone, where the table is that of so many entries and its child was offered no tags.
+pub(super) fn span_of(jobs: &[Open], len: usize, child: u32, job: u64) -> Option<Span>
+    ensures { (past : List Entry) → length past ≡ len → AreOpen past jobs.now → any (offers child) past ≡ false → IfSome result (λ s. IsSpan past child job s) }
+{
+    match find_job(jobs, child, job) {
+        Some(x) if x.alone => Some(Span {
+            asked: x.at,
+            settled: len,
+        }),
+        _ => None,
     }
 }
 

@@ -6,11 +6,13 @@ ghost use Rattle.journal_model.specs.Journal.{offers, first_of, any, is_started,
 ghost use Rattle.journal_model.specs.Parts.{item_at};
 ghost use Rattle.journal_model.specs.Legality.{count, is_start, is_empty, is_claimed, numbers_of, least_free, is_prepared, is_greeted, may_ask, is_claimed_by, has_open_job, has_busy_task};
 ghost use Rattle.journal_scan.specs.Looks.{NoneDue, is_no_start, asked_at, request_text, remote_text, job_at};
+ghost use Rattle.journal_scan.specs.Spans.{IsSpan};
 
 use crate::journal::Journal;
 use crate::{cursors, dues, jobs, tasks};
 use ann_key::{Bytes, NoMemory};
 use journal_model::{Opening, Verdict, Why};
+use journal_scan::spans::{self, Span};
 use journal_scan::{children, lines, talks};
 use std::alloc::Global;
 use wire_msg::tag;
@@ -246,7 +248,46 @@ fn place_of(journal: &Journal, child: u32, job: u64) -> Option<usize>
 pub fn said_at(journal: &Journal, child: u32, job: u64, at: u64) -> Option<&[u8]>
     ensures { option_copied result ≡ remote_text (item_at journal.now.entries child job at) }
 {
-    talks::said_at(&journal.entries(), child, job, at as usize)
+    said_within(journal, open_span(journal, child, job), child, job, at)
+}
+
+/// The job's span, where it is open and the span is known without the entries: that of a job that was asked alone, of a child that was
+/// offered no tags.
+pub fn open_span(journal: &Journal, child: u32, job: u64) -> Option<Span>
+    ensures { IfSome result (λ s. IsSpan journal.now.entries child job s) }
+{
+    if is_offered(journal, child) {
+        return None;
+    }
+    match journal.jobs() {
+        Some(list) => jobs::span_of(list, journal.entries().len(), child, job),
+        None => None,
+    }
+}
+
+/// The span of a job that was asked alone, of a child that was offered no tags. It goes through the entries.
+pub fn span_of(journal: &Journal, child: u32, job: u64) -> Option<Span>
+    ensures { IfSome result (λ s. IsSpan journal.now.entries child job s) }
+{
+    spans::span_of(&journal.entries(), child, job)
+}
+
+/// As `said_at`, of a job that may have a span. Without one it goes through what stands before the place: no command asks for lines in
+/// a job of a child that was offered tags.
+pub fn said_within(
+    journal: &Journal,
+    span: Option<Span>,
+    child: u32,
+    job: u64,
+    at: u64,
+) -> Option<&[u8]>
+    requires { IfSome span (λ s. IsSpan journal.now.entries child job s) }
+    ensures { option_copied result ≡ remote_text (item_at journal.now.entries child job at) }
+{
+    match span {
+        Some(span) => spans::said_within(&journal.entries(), span, child, job, at as usize),
+        None => talks::said_at(&journal.entries(), child, job, at as usize),
+    }
 }
 
 // ---- lines

@@ -6,3 +6,4 @@ pub mod NoneBefore
 pub mod Weighing
 pub mod Keeping
 pub mod Parts
+pub mod Spanning

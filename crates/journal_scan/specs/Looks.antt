@@ -5,7 +5,7 @@ use Rattle.journal_model.specs.declared.entry.What.{What}
 use Rattle.journal_model.specs.declared.entry.What.TheVariants.{NoStart, Lead, Ask, Put, Got}
 use Rattle.journal_model.specs.declared.entry.Entry.{Entry}
 use Rattle.std.specs.List.{prefix_len}
-use Rattle.journal_model.specs.Journal.{asks, each_of, writes, addressed, is_settled, is_unsent}
+use Rattle.journal_model.specs.Journal.{asks, each_of, writes, addressed, is_settled, is_unsent, settles}
 
 -- a child couldn't be started
 abbrev pub is_no_start : What → Bool
@@ -43,6 +43,10 @@ hosts_line _ = []
 -- how many entries stand before its request
 abbrev pub asked_at : List Entry → ℕ → ℕ → ℕ
 asked_at entries c j = prefix_len (λ e. not (is_hosts c j e.what)) entries
+
+-- how many entries stand before its verdict
+abbrev pub settled_at : List Entry → ℕ → ℕ → ℕ
+settled_at entries c j = prefix_len (λ e. not (settles c j e.what)) entries
 
 -- the text of the entry's line, without its tag, after these
 abbrev pub text_after : List Entry → ℕ → Option Entry → Option (List ℕ)

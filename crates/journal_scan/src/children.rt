@@ -49,7 +49,8 @@ pub fn is_from(what: WhatRef<'_>, c: u32) -> bool
     }
 }
 
-fn settles(what: WhatRef<'_>, c: u32, j: u64) -> bool
+/// Whether the entry settles the job.
+pub fn settles(what: WhatRef<'_>, c: u32, j: u64) -> bool
     ensures { result ≡ settles c j (what_shown what.entry) }
 {
     match what {

@@ -10,6 +10,7 @@ mod entry;
 pub mod lines;
 mod record;
 mod records;
+pub mod spans;
 pub mod talks;
 
 pub use entries::{Entries, Iter};

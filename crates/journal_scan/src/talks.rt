@@ -32,8 +32,8 @@ pub fn hosts_line<'a>(what: WhatRef<'a>) -> &'a [u8]
     }
 }
 
-/// How many entries stand before the job's request.
-fn before_job(entries: &Entries<'_>, child: u32, job: u64) -> usize
+// How many entries stand before the job's request.
+pub(crate) fn before_job(entries: &Entries<'_>, child: u32, job: u64) -> usize
     ensures value { result ≡ asked_at entries.now child job }
     ensures bound { result ≤ length entries.now }
 {
@@ -106,8 +106,8 @@ fn is_end_at(what: WhatRef<'_>, c: u32, at: u64) -> bool
     }
 }
 
-/// The same of the first of the entries.
-fn ends_at(rest: &Entries<'_>, c: u32, at: u64) -> bool
+// The same of the first of the entries.
+pub(crate) fn ends_at(rest: &Entries<'_>, c: u32, at: u64) -> bool
     ensures { result ≡ ends_at c at rest.now }
 {
     match rest.get(0) {

@@ -89,18 +89,23 @@ last_behind m = go (is_infofield (Some m))
     go true = refl
     go false = refl
 
+-- a talk whose answer goes on after the message
+pub follows_behind : (r : Request) (ms : List (Option RemoteMessage)) (m : RemoteMessage) → awaits (message_of r) (ms ++ Some m ∷ []) ≡ true
+    → Follows (record { request = r; stage = stage_behind m }) (ms ++ Some m ∷ [])
+follows_behind r ms m waits = record {
+  whole = λ over. false_true (sym (last_behind m) ∙ over);
+  waits = λ live. waits;
+  begun = λ live. waiting_behind m ∙ sym (pushed_is_something ms (Some m));
+  half = λ live. half_behind m ∙ sym (ends_in_pushed ms (Some m));
+}
+
 -- a talk goes on by a part, or to its end
 taken_follows : (r : Request) (old : Stage) (ms : List (Option RemoteMessage)) (m : RemoteMessage) (h : Heard)
     → heard (message_of r) ms m ≡ h → is_taken h ≡ true
     → Follows (record { request = r; stage = stage_after old h m }) (ms ++ Some m ∷ [])
 taken_follows r old ms m Aside is taken = false_true taken
 taken_follows r old ms m Foul is taken = false_true taken
-taken_follows r old ms m Part is taken = record {
-  whole = λ over. false_true (sym (last_behind m) ∙ over);
-  waits = λ live. part_waits (final_of (message_of r) (ms ++ Some m ∷ [])) (awaits (message_of r) (ms ++ Some m ∷ [])) (part_plain (is_aside m) _ is);
-  begun = λ live. waiting_behind m ∙ sym (pushed_is_something ms (Some m));
-  half = λ live. half_behind m ∙ sym (ends_in_pushed ms (Some m));
-}
+taken_follows r old ms m Part is taken = follows_behind r ms m (part_waits (final_of (message_of r) (ms ++ Some m ∷ [])) (awaits (message_of r) (ms ++ Some m ∷ [])) (part_plain (is_aside m) _ is))
 taken_follows r old ms m (Settled f) is taken = record {
   whole =
       λ over. some_is (final_of (message_of r) (ms ++ Some m ∷ [])) f

@@ -1,6 +1,6 @@
 ghost use Rattle.std.specs.Prelude.{◌≡◌, ◌||◌, ◌++◌, ◌∷◌, [], List, Option, Some, None, true, false};
 ghost use Rattle.annex_model.specs.Messages.{RemoteMessage};
-ghost use Rattle.annex_model.specs.Talks.{shape_of};
+ghost use Rattle.annex_model.specs.Talks.{shape_of, awaits};
 ghost use Rattle.annex_model.specs.Hearings.{by_answer};
 ghost use Rattle.wire_msg.specs.Shown.{remote_shown};
 ghost use Rattle.talk_serial.specs.Requests.{message_of};
@@ -137,6 +137,18 @@ impl Talk {
         Talk {
             request,
             stage: Stage::Waiting,
+        }
+    }
+
+    /// The talk about the request of whose answer this line was said last, asides left out, and which goes on. It takes no memory.
+    pub fn after(request: Request, last: &RemoteMsg<'_>) -> Talk
+        ensures request { result.request ≡ request }
+        ensures waits { is_over result ≡ false }
+        ensures follows { (ms : List (Option RemoteMessage)) → let all = ms ++ Some (remote_shown last.now) ∷ [] in awaits (message_of request) all ≡ true → Follows result all }
+    {
+        Talk {
+            request,
+            stage: stage_behind(last),
         }
     }
 
