@@ -1,5 +1,5 @@
 // What is printed of a run.
-ghost use Rattle.std.specs.Prelude.{◌≡◌, ◌≤◌, ◌+◌, ◌++◌, ◌∷◌, [], length, map, codes, if◌then◌else◌, IfOk, List, option_map};
+ghost use Rattle.std.specs.Prelude.{◌≡◌, ◌≤◌, ◌+◌, ◌++◌, ◌∷◌, [], length, map, codes, if◌then◌else◌, IfOk, IfSome, List, option_map};
 ghost use Rattle.std.specs.List.{cons_option};
 ghost use Rattle.ann_key.specs.KeyRefs.{text_of};
 ghost use Rattle.annex_model.specs.Lines.{text};
@@ -8,6 +8,7 @@ ghost use Rattle.annex_model.specs.Talks.{said};
 ghost use Rattle.wire_msg.specs.Shown.{host_shown};
 ghost use Rattle.journal_model.specs.Parts.{part, item_at};
 ghost use Rattle.journal_model.specs.Output.{why_words};
+ghost use Rattle.journal_scan.specs.Spans.{IsSpan};
 ghost use Rattle.task_run.specs.TaskRuns.{refusal_of};
 ghost use Rattle.info_run.specs.Infos.{questions, lines_of, job_lines, questions_from, failed_words, gone_lines, unready_lines, child_lines, info_lines};
 ghost use Rattle.info_run.specs.Tellings.{HasTold, HasPrinted, HasAnswered, mute_lines};
@@ -18,7 +19,8 @@ use crate::telling::InfoText;
 use crate::words::{text_at, why_words};
 use ann_key::{Bytes, KeyRef, NoMemory};
 use journal_look::{
-    Journal, has_no_start, is_mute, is_prepared, is_started, said_at, verdict_of, why_of,
+    Journal, Span, has_no_start, is_mute, is_prepared, is_started, said_within, span_of,
+    verdict_of, why_of,
 };
 use journal_model::{Verdict, Why};
 use std::alloc::Global;
@@ -29,14 +31,16 @@ use wire_msg::HostMsg;
 fn push_place(
     told: &mut InfoText,
     journal: &Journal,
+    span: Option<Span>,
     child: u32,
     job: u64,
     question: &HostMsg<'_>,
     at: u64,
 ) -> Result<(), NoMemory>
+    requires { IfSome span (λ s. IsSpan journal.now.entries child job s) }
     ensures { IfOk result (λ _. HasTold (host_shown question.now) (said (cons_option (item_at journal.now.entries child job at) [])) told.old told.new) }
 {
-    match said_at(journal, child, job, at) {
+    match said_within(journal, span, child, job, at) {
         Some(line) => told.hear(question, line),
         None => Ok(()),
     }
@@ -53,8 +57,9 @@ fn push_answer(
     ensures { IfOk result (λ _. HasPrinted (lines_of (host_shown question.now) (said (part journal.now.entries child job))) told.old told.new) }
 {
     told.begin();
+    let span = span_of(journal, child, job);
     for at in 0..journal.len() {
-        push_place(told, journal, child, job, question, at)?;
+        push_place(told, journal, span, child, job, question, at)?;
     }
     Ok(())
 }
