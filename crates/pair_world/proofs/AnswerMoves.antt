@@ -28,26 +28,26 @@ use Rattle.host_core.specs.declared.event.Event.TheVariants.{Got as GotEvent, St
 use Rattle.host_core.specs.declared.event.Reply.{Reply}
 use Rattle.host_core.specs.declared.event.Reply.TheVariants.{Done, Gone}
 use Rattle.host_core.specs.Steps.{step_of, group_of, append, odd, only, gone, may_end}
-use Rattle.pair_world.specs.Cues.{settings}
-use Rattle.pair_world.specs.declared.taken.Taken.{Taken}
-use Rattle.pair_world.specs.declared.answer.Answer.{Answer}
+use Rattle.pair_kit.specs.Cues.{settings}
+use Rattle.pair_kit.specs.declared.taken.Taken.{Taken}
+use Rattle.pair_kit.specs.declared.answer.Answer.{Answer}
 use Rattle.pair_world.specs.declared.step.Move.{Move}
 use Rattle.pair_world.specs.declared.step.Move.TheVariants.{Event as EventMove, Write, ToKit, Work, ToHost, Hear, End as EndMove}
 use Rattle.pair_world.specs.declared.step.Moved.{Moved}
-use Rattle.pair_world.specs.Pairs.{PairValue, taken_lines, is_child, pair_of}
-use Rattle.pair_world.specs.Works.{is_waiting, next_message, bytes_put, answered}
-use Rattle.pair_world.specs.Worlds.{WorldValue, IsLinked, AreLinked}
+use Rattle.pair_kit.specs.Pairs.{PairValue, taken_lines, is_child, pair_of}
+use Rattle.pair_kit.specs.Works.{is_waiting, next_message, bytes_put, answered}
+use Rattle.pair_kit.specs.Worlds.{WorldValue, IsLinked, AreLinked}
 use Rattle.pair_world.specs.Moves.{Moves, is_barred, is_odd, is_unended, DoesEvent, DoesWrite, DoesToKit, DoesToHost, DoesWork, DoesHear, DoesEnd, reply_to, is_amiss, is_silent, is_long, heard_event}
-use Rattle.pair_world.specs.Paces.{IsSilent, IsIdle, IsBusy, KeepsStep, AreInStep}
-use Rattle.pair_world.specs.Answered.{line_for, request_of, answers_of, request_taken, answers_to, shown, IsAnsweredBy, AreAnswered, AreNoted}
+use Rattle.pair_kit.specs.Paces.{IsSilent, IsIdle, IsBusy, KeepsStep, AreInStep}
+use Rattle.pair_kit.specs.Answered.{line_for, request_of, answers_of, request_taken, answers_to, shown, IsAnsweredBy, AreAnswered, AreNoted}
 use Rattle.pair_world.proofs.Journals.{Grows, Starts, Stays, grows_event, quiet_stop}
 use Rattle.pair_world.proofs.Linking.{there, not_silent}
-use Rattle.pair_world.proofs.PaceAsks.{untagged_line}
-use Rattle.pair_world.proofs.PaceHeard.{HeardBusy, heard_busy}
+use Rattle.pair_kit.proofs.PaceAsks.{untagged_line}
+use Rattle.pair_kit.proofs.PaceHeard.{HeardBusy, heard_busy}
 use Rattle.pair_world.proofs.AnswerNotes.{by_made}
-use Rattle.pair_world.proofs.AnswerKits.{AreExpected, IsAnswer, last_answer, asking_line, requests, firsts}
-use Rattle.pair_world.proofs.AnswerAsks.{ask_lines, asks_counted, asks_placed, asks_written}
-use Rattle.pair_world.proofs.AnswerVerdicts.{Settling, step_settles, places_within}
+use Rattle.pair_kit.proofs.AnswerKits.{AreExpected, IsAnswer, last_answer, asking_line, requests, firsts}
+use Rattle.pair_kit.proofs.AnswerAsks.{ask_lines, asks_counted, asks_placed, asks_written}
+use Rattle.pair_kit.proofs.AnswerVerdicts.{Settling, step_settles, places_within}
 use Rattle.ann_key.proofs.Numbers.{same_number as same}
 use Rattle.std.proofs.lemmas.Bool.{eqb-true as same_number}
 use Rattle.ann_key.proofs.Booleans.{true_and_false as true_not_false, left_false as first_false, right_false as second_false}

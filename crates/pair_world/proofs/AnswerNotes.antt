@@ -16,49 +16,24 @@ use Rattle.kit_core.specs.Kits.{Heard, messages, lines_to}
 use Rattle.kit_core.specs.Stages.{stage_of, is_free}
 use Rattle.host_core.specs.declared.event.Reply.{Reply}
 use Rattle.host_core.specs.declared.event.Reply.TheVariants.{Child}
-use Rattle.pair_world.specs.Shelves.{Items}
-use Rattle.pair_world.specs.Cues.{settings}
-use Rattle.pair_world.specs.declared.taken.Taken.{Taken}
-use Rattle.pair_world.specs.declared.answer.Answer.{Answer}
+use Rattle.pair_kit.specs.Shelves.{Items}
+use Rattle.pair_kit.specs.Cues.{settings}
+use Rattle.pair_kit.specs.declared.taken.Taken.{Taken}
+use Rattle.pair_kit.specs.declared.answer.Answer.{Answer}
 use Rattle.pair_world.specs.declared.step.Move.{Move}
 use Rattle.pair_world.specs.declared.step.Move.TheVariants.{Event as EventMove, Write, ToKit, Work, ToHost, Hear, End as EndMove}
 use Rattle.pair_world.specs.declared.step.Moved.{Moved}
 use Rattle.pair_world.specs.declared.step.Moved.TheVariants.{Did, Not}
-use Rattle.pair_world.specs.Pairs.{PairValue, heard, heard_by, new_pair, no_pair, is_child, pair_of, with_pair, moved_to_kit, moved_to_host, written_to}
-use Rattle.pair_world.specs.Works.{call_for, is_waiting, next_message, request_with, last_said, bytes_put, answered, Takes}
-use Rattle.pair_world.specs.Worlds.{WorldValue, AreLinked}
+use Rattle.pair_kit.specs.Pairs.{PairValue, heard, heard_by, new_pair, no_pair, is_child, pair_of, with_pair, moved_to_kit, moved_to_host, written_to}
+use Rattle.pair_kit.specs.Works.{call_for, is_waiting, next_message, request_with, last_said, bytes_put, answered, Takes}
+use Rattle.pair_kit.specs.Worlds.{WorldValue, AreLinked}
 use Rattle.pair_world.specs.Moves.{Moves, IsMade, is_barred, is_odd, is_unended, DoesEvent, DoesWrite, DoesToKit, DoesToHost, DoesTake, DoesWork, DoesHear, DoesEnd, reply_to, begun_by, line_of, is_amiss, is_silent, left_at}
-use Rattle.pair_world.specs.Answered.{answers_of, request_by, request_after, request_taken, noted, answer_with, answers_behind, answers_to, shown, IsNoted, AreNoted}
+use Rattle.pair_kit.specs.Answered.{answers_of, request_by, request_after, request_taken, noted, answer_with, answers_behind, answers_to, shown, IsNoted, AreNoted}
+use Rattle.pair_kit.proofs.AnswerLines.{answers_push, request_push}
 use Rattle.pair_world.proofs.Linking.{child_low, set_same, set_other, there, none_amiss, none_unsent, message_reads}
 use Rattle.ann_key.proofs.Numbers.{same_number as same}
 use Rattle.std.proofs.lemmas.Bool.{eqb-true as same_number}
 use Rattle.ann_key.proofs.Booleans.{true_and_false as true_not_false, left_false as first_false, right_false as second_false}
-
--- ---- one line more
-
-answers_behind-push : (before xs : List Taken) (t : Taken) → answers_behind before (xs ++ t ∷ []) ≡ answers_behind before xs ++ answer_with (before ++ xs) t (heard_by t)
-answers_behind-push before [] t =
-    append-nil (answer_with before t (heard_by t)) ∙ ap (λ (b : List Taken). answer_with b t (heard_by t)) (sym (append-nil before))
-answers_behind-push before (x ∷ rest) t =
-    ap (λ (l : List (List ℕ × List ℕ)). answer_with before x (heard_by x) ++ l) (answers_behind-push (before ++ x ∷ []) rest t)
-    ∙ sym (append_assoc (answer_with before x (heard_by x)) (answers_behind (before ++ x ∷ []) rest) (answer_with ((before ++ x ∷ []) ++ rest) t (heard_by t)))
-    ∙ ap (λ (b : List Taken). (answer_with before x (heard_by x) ++ answers_behind (before ++ x ∷ []) rest) ++ answer_with b t (heard_by t)) (append_assoc before (x ∷ []) rest)
-
-heard_one : (t : Taken) (m : HostMessage) → host_reading t.line ≡ Some m → heard_by t ≡ Some (record { message = m; call = t.call })
-heard_one t m reads = ap (option_map (λ (x : HostMessage). let h : Heard = record { message = x; call = t.call } in h)) reads
-
--- the answer that a line more gives
-pub answers_push : (taken : List Taken) (t : Taken) (m : HostMessage) → host_reading t.line ≡ Some m
-    → answers_to (taken ++ t ∷ [])
-    ≡ answers_to taken
-    ++ noted (request_taken (taken ++ t ∷ [])) (last_said (is_free (stage_of settings (messages (heard (taken ++ t ∷ []))))) (lines_to settings (heard taken) (record { message = m; call = t.call })))
-answers_push taken t m reads =
-    answers_behind-push [] taken t ∙ ap (λ (o : Option Heard). answers_to taken ++ answer_with taken t o) (heard_one t m reads)
-
-pub request_push : (taken : List Taken) (t : Taken) (m : HostMessage) → host_reading t.line ≡ Some m
-    → request_taken (taken ++ t ∷ []) ≡ request_with (request_taken taken) m t.line
-request_push taken t m reads =
-    fold-append request_after [] taken (t ∷ []) ∙ ap (λ (o : Option HostMessage). request_by (request_taken taken) o t.line) reads
 
 -- ---- the answers of one child
 

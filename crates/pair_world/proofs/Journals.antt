@@ -31,8 +31,8 @@ use Rattle.host_core.specs.declared.event.Event.TheVariants.{Claim as ClaimEvent
 use Rattle.host_core.specs.declared.event.Reply.{Reply}
 use Rattle.host_core.specs.declared.event.Reply.TheVariants.{Task as TaskReply, Child, Job, Read, Wait, NoTask, Gone, Over, Done}
 use Rattle.host_core.specs.Steps.{Step, step_of, group_of, append, odd, only, gone, is_gone, claim, ask, asking, closing, next_job, may_request, is_named_well, may_answer, may_add_note, may_end, is_asked, settled_so, next_line, listening, resting, layouts_for, is_awaited, is_idle, are_all_claimed, told, unless_shut, shut_for, shut_by}
-use Rattle.pair_world.specs.Pairs.{PairValue, new_pair}
-use Rattle.pair_world.specs.Worlds.{IsFed, IsRead}
+use Rattle.pair_kit.specs.Pairs.{PairValue, new_pair}
+use Rattle.pair_kit.specs.Worlds.{IsFed, IsRead}
 use Rattle.pair_world.specs.Moves.{begun_by, is_barred, is_odd}
 use Rattle.ann_key.proofs.Numbers.{same_number as same}
 

@@ -8,7 +8,7 @@ use Rattle.std.proofs.lemmas.List.Folds.{list_all-append}
 use Rattle.annex_model.specs.Lines.{text, has_newline}
 use Rattle.annex_model.specs.Messages.{HostMessage, host_reading}
 use Rattle.wire_line.specs.HeldBytes.{first_line, after_line}
-use Rattle.pair_world.proofs.Lines.{first_all, first_split}
+use Rattle.pair_kit.proofs.Lines.{first_all, first_split}
 use Rattle.journal_model.specs.declared.verdict.Why.{Why}
 use Rattle.journal_model.specs.declared.verdict.Why.TheVariants.{Eof, LongLine, Full}
 use Rattle.journal_model.specs.declared.entry.What.TheVariants.{Start, Sent, Got, End}
@@ -30,19 +30,19 @@ use Rattle.host_core.specs.declared.event.Reply.{Reply}
 use Rattle.host_core.specs.declared.event.Reply.TheVariants.{Done, Gone}
 use Rattle.host_core.specs.Steps.{Step, step_of, group_of, append}
 use Rattle.host_core.proofs.Stepping.{Legal-step}
-use Rattle.pair_world.specs.Shelves.{Items}
-use Rattle.pair_world.specs.Cues.{settings}
+use Rattle.pair_kit.specs.Shelves.{Items}
+use Rattle.pair_kit.specs.Cues.{settings}
 use Rattle.pair_world.specs.declared.step.Move.{Move}
 use Rattle.pair_world.specs.declared.step.Move.TheVariants.{Event as EventMove, Write, ToKit, Work, ToHost, Hear, End as EndMove}
 use Rattle.pair_world.specs.declared.step.Moved.{Moved}
 use Rattle.pair_world.specs.declared.step.Moved.TheVariants.{Did, Not}
-use Rattle.pair_world.specs.declared.taken.Taken.{Taken}
-use Rattle.pair_world.specs.Pairs.{PairValue, heard, is_spelled, are_spelled, taken_lines, said_lines, new_pair, no_pair, is_child, pair_of, with_pair, moved_to_kit, moved_to_host, written_to}
-use Rattle.pair_world.specs.Works.{call_for, is_waiting, next_message, Takes}
-use Rattle.pair_world.specs.Worlds.{WorldValue, IsLinked, AreLinked}
+use Rattle.pair_kit.specs.declared.taken.Taken.{Taken}
+use Rattle.pair_kit.specs.Pairs.{PairValue, heard, is_spelled, are_spelled, taken_lines, said_lines, new_pair, no_pair, is_child, pair_of, with_pair, moved_to_kit, moved_to_host, written_to}
+use Rattle.pair_kit.specs.Works.{call_for, is_waiting, next_message, Takes}
+use Rattle.pair_kit.specs.Worlds.{WorldValue, IsLinked, AreLinked}
 use Rattle.pair_world.specs.Moves.{Moves, IsMade, is_barred, is_odd, is_unended, DoesEvent, DoesWrite, DoesToKit, DoesToHost, DoesWork, DoesHear, DoesEnd, stepped, reply_to, begun_by, line_of, is_amiss, is_silent, is_long, heard_event, left_at}
 use Rattle.pair_world.proofs.Journals.{Calm, calm_none, calm_end, calm_got, calm_sent, quiet_stop, Grows, Starts, Stays, grows_event, fed_on, read_on, sent_one, got_one}
-use Rattle.pair_world.proofs.Taking.{heard_more}
+use Rattle.pair_kit.proofs.Taking.{heard_more}
 use Rattle.ann_key.proofs.Booleans.{or_false, left_false as first_false, right_false as second_false}
 use Rattle.wire_line.proofs.Firsts.{no_newline_before as first_whole}
 use Rattle.ann_key.proofs.Numbers.{same_number as same}

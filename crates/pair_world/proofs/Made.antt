@@ -1,22 +1,14 @@
 -- A move that can't be made.
 use Rattle.std.proofs.Common.{ℕ, ◌≡◌, Bool, true, false, List, [], ◌++◌, refl, sym, ap, subst, ◌∙◌, append-nil}
-use Rattle.std.specs.Prelude.{◌||◌, codes, ◌∷◌}
-use Rattle.annex_model.specs.Lines.{text}
+use Rattle.std.specs.Prelude.{◌||◌}
 use Rattle.journal_model.specs.declared.entry.Entry.{Entry}
 use Rattle.host_core.specs.declared.event.Event.{Event}
 use Rattle.host_core.specs.declared.event.Reply.{Reply}
 use Rattle.host_core.specs.declared.event.Reply.TheVariants.{Odd}
 use Rattle.journal_model.specs.declared.opening.Opening.{Opening}
-use Rattle.kit_core.specs.declared.call.Said.TheVariants.{Yes}
-use Rattle.kit_core.specs.declared.kit.Stage.{Stage}
-use Rattle.kit_core.specs.declared.kit.Stage.TheVariants.{Waiting}
-use Rattle.kit_core.specs.Stages.{KitValue, Follows}
-use Rattle.pair_world.specs.declared.taken.Taken.{Taken}
-use Rattle.pair_world.specs.Cues.{CueValue, settings}
-use Rattle.pair_world.specs.Pairs.{new_pair}
 use Rattle.host_core.specs.Steps.{step_of, shut_by}
 use Rattle.pair_world.specs.declared.step.Moved.TheVariants.{Not}
-use Rattle.pair_world.specs.Worlds.{WorldValue}
+use Rattle.pair_kit.specs.Worlds.{WorldValue}
 use Rattle.pair_world.specs.Moves.{IsMade, DoesEvent, is_barred, is_odd, reply_to}
 use Rattle.pair_world.proofs.Journals.{odd_stays}
 
@@ -49,15 +41,3 @@ odd_event view w new by event reply same is odd opening journal shut kept =
     (kept ∙ ap (λ (o : Opening). let x : WorldValue = record view { opening = o; journal = new.journal; shut = new.shut } in x) opening
     ∙ ap (λ (j : List Entry). let x : WorldValue = record view { journal = j; shut = new.shut } in x) journal
     ∙ ap (λ (b : Bool). let x : WorldValue = record view { journal = view.journal ++ (step_of view.opening view.journal by event).group; shut = b } in x) shut))
-
--- a child that was just started
-pub new_is : (kit : KitValue CueValue) (request : List ℕ) (taken : List Taken) (a b d e : List ℕ) → kit.remote ≡ record { word = Yes; calls = [] }
-    → ((names : List (List ℕ)) → Follows names kit []) → request ≡ [] → taken ≡ [] → a ≡ [] → b ≡ [] → d ≡ text (codes "VERSION 1" ∷ []) → e ≡ []
-    → record { kit = kit; request = request; taken = taken; to_kit = a; at_kit = b; to_host = d; at_host = e } ≡ new_pair
-new_is kit request taken a b d e remote follows r t x y z w =
-    let f = follows settings in
-    let k : kit ≡ record { remote = record { word = Yes; calls = [] }; prepared = false; stage = Waiting } =
-    ap (λ (v : CueValue). let q : KitValue CueValue = record kit { remote = v } in q) remote
-    ∙ ap (λ (v : Bool). let q : KitValue CueValue = record kit { remote = record { word = Yes; calls = [] }; prepared = v } in q) f.prepared
-    ∙ ap (λ (v : Stage). let q : KitValue CueValue = record { remote = record { word = Yes; calls = [] }; prepared = false; stage = v } in q) f.stage in
-    rw (k, r, t, x, y, z, w) refl

@@ -21,7 +21,7 @@ use Rattle.host_core.specs.declared.event.Reply.TheVariants.{Child, Job, Over, D
 use Rattle.host_core.specs.Steps.{Step, step_of, append, odd, only, gone, is_gone, claim, next_job, asking, is_named_well, may_request, may_answer, may_add_note, may_end, is_asked, settled_so, next_line, listening, resting, layouts_for}
 use Rattle.host_core.proofs.Stepping.{Came, step_came}
 use Rattle.pair_world.specs.Moves.{is_barred}
-use Rattle.pair_world.proofs.PaceGroups.{JournalInStep, Goes, IsNumbered, is_heard, goes_nowhere, led_goes, plain_goes}
+use Rattle.pair_kit.proofs.PaceGroups.{JournalInStep, Goes, IsNumbered, is_heard, goes_nowhere, led_goes, plain_goes}
 
 -- ---- such an event hears no child, and finds none mute
 

@@ -26,23 +26,23 @@ use Rattle.host_core.specs.declared.event.Event.TheVariants.{Got as GotEvent, St
 use Rattle.host_core.specs.declared.event.Reply.{Reply}
 use Rattle.host_core.specs.declared.event.Reply.TheVariants.{Child}
 use Rattle.host_core.specs.Steps.{Step, step_of, group_of}
-use Rattle.pair_world.specs.Shelves.{Items, content}
-use Rattle.pair_world.specs.declared.taken.Taken.{Taken}
+use Rattle.pair_kit.specs.Shelves.{Items, content}
+use Rattle.pair_kit.specs.declared.taken.Taken.{Taken}
 use Rattle.pair_world.specs.declared.step.Move.{Move}
 use Rattle.pair_world.specs.declared.step.Move.TheVariants.{Event as EventMove, Write, ToKit, Work, ToHost, Hear, End as EndMove}
 use Rattle.pair_world.specs.declared.step.Moved.{Moved}
 use Rattle.pair_world.specs.declared.step.Moved.TheVariants.{Did, Not}
-use Rattle.pair_world.specs.Pairs.{PairValue, no_pair, said_lines, is_child, pair_of, with_pair, moved_to_kit, moved_to_host, written_to}
-use Rattle.pair_world.specs.Works.{found, is_there, word, call_for, is_waiting, next_message}
-use Rattle.pair_world.specs.Worlds.{WorldValue, AreLinked}
+use Rattle.pair_kit.specs.Pairs.{PairValue, no_pair, said_lines, is_child, pair_of, with_pair, moved_to_kit, moved_to_host, written_to}
+use Rattle.pair_kit.specs.Works.{found, is_there, word, call_for, is_waiting, next_message}
+use Rattle.pair_kit.specs.Worlds.{WorldValue, AreLinked}
 use Rattle.pair_world.specs.Moves.{Moves, IsMade, is_barred, is_odd, is_unended, DoesEvent, DoesWrite, DoesToKit, DoesToHost, DoesTake, DoesWork, DoesHear, DoesEnd, stepped, reply_to, begun_by, line_of, is_amiss, is_silent, is_long, heard_event, left_at}
-use Rattle.pair_world.specs.Paces.{is_line_call, is_whole, IsExpected, KeepsStep, AreInStep}
-use Rattle.pair_world.specs.Peace.{finds_fault, is_error_line, AtPeace}
+use Rattle.pair_kit.specs.Paces.{is_line_call, is_whole, IsExpected, KeepsStep, AreInStep}
+use Rattle.pair_kit.specs.Peace.{finds_fault, is_error_line, AtPeace}
 use Rattle.pair_world.proofs.Linking.{pair_at, no_child, there, not_silent, step_got}
 use Rattle.pair_world.proofs.PaceEvents.{event_goes, stop_goes, sent_goes}
-use Rattle.pair_world.proofs.PaceGroups.{JournalInStep, Goes, IsNumbered, goes_nowhere, end_goes}
-use Rattle.pair_world.proofs.PaceHeard.{has_taken}
-use Rattle.pair_world.proofs.PaceHears.{hear_goes}
+use Rattle.pair_kit.proofs.PaceGroups.{JournalInStep, Goes, IsNumbered, goes_nowhere, end_goes}
+use Rattle.pair_kit.proofs.PaceHeard.{has_taken}
+use Rattle.pair_kit.proofs.PaceHears.{hear_goes}
 use Rattle.ann_key.proofs.Booleans.{left_false as first_false, right_false as second_false}
 use Rattle.wire_line.proofs.Firsts.{no_newline_before as first_whole}
 

@@ -7,9 +7,9 @@ use Rattle.wire_line.specs.HeldBytes.{first_line, after_line}
 use Rattle.journal_model.specs.declared.verdict.Why.TheVariants.{LongLine}
 use Rattle.host_core.specs.declared.event.Event.TheVariants.{Stop as StopEvent}
 use Rattle.pair_world.specs.Moves.{is_silent, is_long, is_gone, heard_event, left_at}
-use Rattle.pair_world.specs.Pairs.{PairValue}
+use Rattle.pair_kit.specs.Pairs.{PairValue}
 use Rattle.host_core.specs.declared.event.Reply.{Reply}
-use Rattle.pair_world.proofs.Lines.{first_all}
+use Rattle.pair_kit.proofs.Lines.{first_all}
 use Rattle.ann_key.proofs.Booleans.{left_false as first_false}
 
 -- with no line end and more than a line may have, the child's end is heard

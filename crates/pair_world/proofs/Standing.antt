@@ -5,7 +5,7 @@ use Rattle.reg_file.specs.Registers.{IsKept}
 use Rattle.journal_model.specs.Beginnings.{MayBegin}
 use Rattle.pair_world.specs.declared.step.Move.{Move}
 use Rattle.pair_world.specs.declared.step.Moved.{Moved}
-use Rattle.pair_world.specs.Worlds.{WorldValue}
+use Rattle.pair_kit.specs.Worlds.{WorldValue}
 use Rattle.pair_world.specs.Moves.{Moves}
 use Rattle.pair_world.specs.Standing.{Stands}
 use Rattle.pair_world.proofs.Linking.{links_moved, links_empty}

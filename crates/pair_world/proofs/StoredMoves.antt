@@ -14,22 +14,22 @@ use Rattle.kit_core.specs.Kits.{Heard, messages, request_of, is_over, is_unexpec
 use Rattle.kit_core.specs.Stages.{is_free}
 use Rattle.kit_core.proofs.Behind.{request_of-push}
 use Rattle.kit_core.proofs.Waiting.{free_followed}
-use Rattle.pair_world.specs.declared.answer.Answer.{Answer}
+use Rattle.pair_kit.specs.declared.answer.Answer.{Answer}
 use Rattle.pair_world.specs.declared.step.Move.{Move}
 use Rattle.pair_world.specs.declared.step.Move.TheVariants.{Event as EventMove, Write, ToKit, Work, ToHost, Hear, End as EndMove}
 use Rattle.pair_world.specs.declared.step.Moved.{Moved}
 use Rattle.pair_world.specs.declared.step.Moved.TheVariants.{Did, Not}
-use Rattle.pair_world.specs.Shelves.{Items, content, without, with_item}
-use Rattle.pair_world.specs.Cues.{settings}
-use Rattle.pair_world.specs.Pairs.{PairValue, heard, pair_of}
-use Rattle.pair_world.specs.Works.{is_waiting, has_whole, next_message, call_for, keys_after, files_after, bytes_put, put_found, last_said, answered, Takes}
-use Rattle.pair_world.specs.Worlds.{WorldValue}
+use Rattle.pair_kit.specs.Shelves.{Items, content, without, with_item}
+use Rattle.pair_kit.specs.Cues.{settings}
+use Rattle.pair_kit.specs.Pairs.{PairValue, heard, pair_of}
+use Rattle.pair_kit.specs.Works.{is_waiting, has_whole, next_message, call_for, keys_after, files_after, bytes_put, put_found, last_said, answered, Takes}
+use Rattle.pair_kit.specs.Worlds.{WorldValue}
 use Rattle.pair_world.specs.Moves.{IsMade, is_barred, is_odd, is_amiss, is_silent, is_unended, reply_to, DoesEvent, DoesWrite, DoesToKit, DoesToHost, DoesWork, DoesHear, DoesEnd, Moves}
-use Rattle.pair_world.specs.Stored.{granted_by, is_store_of, is_retrieve_of, is_remove_of, stores, removes, file_after, filed, IsLastStored, Keeps, ChangesFiles}
-use Rattle.pair_world.proofs.Taking.{heard_more}
-use Rattle.pair_world.proofs.Shelved.{content-without, content-with_item}
-use Rattle.pair_world.proofs.StoredLast.{kept, AreKept, kept_more, kept_none}
-use Rattle.pair_world.proofs.StoredGrants.{is_still, is_call, IsCall, AreStill, IsOne, Grants, Effect, effect, suits_due, call_request, call_value, call_free}
+use Rattle.pair_kit.specs.Stored.{granted_by, is_store_of, is_retrieve_of, is_remove_of, stores, removes, file_after, filed, IsLastStored, Keeps, ChangesFiles}
+use Rattle.pair_kit.proofs.Taking.{heard_more}
+use Rattle.pair_kit.proofs.Shelved.{content-without, content-with_item}
+use Rattle.pair_kit.proofs.StoredLast.{kept, AreKept, kept_more, kept_none}
+use Rattle.pair_kit.proofs.StoredGrants.{is_still, is_call, IsCall, AreStill, IsOne, Grants, Effect, effect, suits_due, call_request, call_value, call_free}
 
 -- ---- a kit's work
 

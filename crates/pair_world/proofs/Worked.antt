@@ -4,14 +4,14 @@ use Rattle.std.proofs.lemmas.List.{get_or_read, set-get_or}
 use Rattle.annex_model.specs.Messages.{HostMessage}
 use Rattle.host_core.specs.declared.event.Reply.{Reply}
 use Rattle.host_core.specs.declared.event.Reply.TheVariants.{Done}
-use Rattle.pair_world.specs.declared.answer.Answer.{Answer}
+use Rattle.pair_kit.specs.declared.answer.Answer.{Answer}
 use Rattle.pair_world.specs.declared.step.Move.TheVariants.{Work}
 use Rattle.pair_world.specs.declared.step.Moved.TheVariants.{Did}
-use Rattle.pair_world.specs.Shelves.{Items}
-use Rattle.pair_world.specs.Pairs.{PairValue, no_pair, pair_of, with_pair}
-use Rattle.pair_world.specs.Works.{is_waiting, next_message, keys_after, files_after, answered}
-use Rattle.pair_world.specs.Outcomes.{IsSame, TakesOne}
-use Rattle.pair_world.specs.Worlds.{WorldValue}
+use Rattle.pair_kit.specs.Shelves.{Items}
+use Rattle.pair_kit.specs.Pairs.{PairValue, no_pair, pair_of, with_pair}
+use Rattle.pair_kit.specs.Works.{is_waiting, next_message, keys_after, files_after, answered}
+use Rattle.pair_kit.specs.Outcomes.{IsSame, TakesOne}
+use Rattle.pair_kit.specs.Worlds.{WorldValue}
 use Rattle.pair_world.specs.Moves.{Moves, IsMade, DoesWork, DoesTake}
 use Rattle.pair_world.proofs.Linking.{pair_at}
 

@@ -1,14 +1,4 @@
-pub mod Shelves
-pub mod Cues
-pub mod Pairs
-pub mod Works
-pub mod Outcomes
-pub mod Worlds
 pub mod Moves
-pub mod Answered
-pub mod Paces
-pub mod Peace
-pub mod Stored
 pub mod StoredRows
 pub mod Standing
 pub mod Rows

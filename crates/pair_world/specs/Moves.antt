@@ -18,9 +18,9 @@ use Rattle.pair_world.specs.declared.step.Move.{Move}
 use Rattle.pair_world.specs.declared.step.Move.TheVariants.{Event as EventMove, Write, ToKit, Work, ToHost, Hear, End}
 use Rattle.pair_world.specs.declared.step.Moved.{Moved}
 use Rattle.pair_world.specs.declared.step.Moved.TheVariants.{Did, Not}
-use Rattle.pair_world.specs.Pairs.{PairValue, new_pair, pair_of, with_pair, moved_to_kit, moved_to_host, written_to}
-use Rattle.pair_world.specs.Works.{is_waiting, next_message, keys_after, files_after, bytes_put, answered, Takes}
-use Rattle.pair_world.specs.Worlds.{WorldValue}
+use Rattle.pair_kit.specs.Pairs.{PairValue, new_pair, pair_of, with_pair, moved_to_kit, moved_to_host, written_to}
+use Rattle.pair_kit.specs.Works.{is_waiting, next_message, keys_after, files_after, bytes_put, answered, Takes}
+use Rattle.pair_kit.specs.Worlds.{WorldValue}
 
 -- Where the move can't be made nothing changes; else the reply and the new world are so.
 abbrev pub IsMade : Bool → WorldValue → (Reply → WorldValue → Type 0) → Moved → WorldValue → Type 0

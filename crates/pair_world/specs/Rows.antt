@@ -5,8 +5,8 @@ use Rattle.journal_model.specs.declared.verdict.Why.TheVariants.{Eof}
 use Rattle.journal_model.specs.declared.entry.What.TheVariants.{Start, Ask, Sent, Got, End}
 use Rattle.journal_model.specs.declared.entry.Entry.{Entry}
 use Rattle.journal_model.specs.declared.opening.Opening.{Opening}
-use Rattle.pair_world.specs.Pairs.{PairValue, new_pair}
-use Rattle.pair_world.specs.Worlds.{WorldValue}
+use Rattle.pair_kit.specs.Pairs.{PairValue, new_pair}
+use Rattle.pair_kit.specs.Worlds.{WorldValue}
 
 abbrev start : Entry
 start = record { by = 0; what = Start 1 0 false }

@@ -1,9 +1,9 @@
 -- What holds of the world between moves.
-use Rattle.pair_world.specs.Worlds.{WorldValue, AreLinked}
-use Rattle.pair_world.specs.Paces.{AreInStep}
-use Rattle.pair_world.specs.Peace.{AtPeace}
-use Rattle.pair_world.specs.Answered.{AreAnswered, AreNoted}
-use Rattle.pair_world.specs.Stored.{Keeps}
+use Rattle.pair_kit.specs.Worlds.{WorldValue, AreLinked}
+use Rattle.pair_kit.specs.Paces.{AreInStep}
+use Rattle.pair_kit.specs.Peace.{AtPeace}
+use Rattle.pair_kit.specs.Answered.{AreAnswered, AreNoted}
+use Rattle.pair_kit.specs.Stored.{Keeps}
 
 -- The pipes have what was said and not yet taken; host and kits keep step; none finds fault with the other; the answers are those that
 -- the kits gave, and each verdict is one of them; and a key has what was stored last.

@@ -1,6 +1,6 @@
 -- Worked answers, each with success: of STORE and RETRIEVE of one key, and of REMOVE.
 use Rattle.std.specs.Prelude.{ℕ, List, [], ◌++◌, codes}
-use Rattle.pair_world.specs.declared.answer.Answer.{Answer}
+use Rattle.pair_kit.specs.declared.answer.Answer.{Answer}
 
 abbrev answer : List ℕ → List ℕ → List ℕ → Answer
 answer request line bytes = record { child = 1; request = request; line = line; bytes = bytes }

@@ -6,10 +6,10 @@ ghost use Rattle.host_core.specs.declared.event.Event.TheVariants.{Start as Star
 ghost use Rattle.host_core.specs.declared.event.Reply.TheVariants.{Child, Done};
 ghost use Rattle.pair_world.specs.declared.step.Move.TheVariants.{Event as EventMove, Write, ToKit, Work, ToHost, Hear, End};
 ghost use Rattle.pair_world.specs.declared.step.Moved.TheVariants.{Did, Not};
-ghost use Rattle.pair_world.specs.Worlds.{WorldValue};
+ghost use Rattle.pair_kit.specs.Worlds.{WorldValue};
 ghost use Rattle.pair_world.specs.Moves.{Moves};
 ghost use Rattle.pair_world.specs.Rows.{empty, started, arrived, heard, asked, written, come_in_part, come, worked, ended};
-ghost use Rattle.pair_world.specs.Stored.{GiveLastStored, filed};
+ghost use Rattle.pair_kit.specs.Stored.{GiveLastStored, filed};
 ghost use Rattle.pair_world.specs.StoredRows.{stored, retrieved, removed};
 
 /// The main thread starts a child, which has its version on the way. Another number can't, and lines come by other moves alone.

@@ -1,22 +1,19 @@
 ghost use Rattle.std.specs.Prelude.{◌≡◌, ◌+◌, ◌++◌, ◌<◌, ◌^◌, ◌||◌, not, [], true, false, length, option_copied, MatchOption, IfOk, OnOk, slice_get, None, Some};
 ghost use Rattle.journal_model.specs.Beginnings.{MayBegin};
-ghost use Rattle.pair_world.specs.Shelves.{content, items_of};
-ghost use Rattle.pair_world.specs.Pairs.{is_child, pair_of};
+ghost use Rattle.pair_kit.specs.Shelves.{content, items_of};
+ghost use Rattle.pair_kit.specs.Pairs.{is_child, pair_of};
 ghost use Rattle.pair_world.specs.Standing.{Stands};
-ghost use Rattle.pair_world.specs.Stored.{ChangesFiles};
-ghost use Rattle.pair_world.specs.Worlds.{AreLinked};
+ghost use Rattle.pair_kit.specs.Stored.{ChangesFiles};
+ghost use Rattle.pair_kit.specs.Worlds.{AreLinked};
 ghost use Rattle.pair_world.specs.Moves.{Moves, is_barred, is_silent, is_long, is_gone, heard_event, left_at};
-ghost use Rattle.pair_world.specs.Works.{answered};
+ghost use Rattle.pair_kit.specs.Works.{answered};
 ghost use Rattle.pair_world.specs.declared.step.Move.TheVariants.{Event as EventMove, Write, ToKit, Work as WorkMove, ToHost, Hear, End};
 
-use crate::answer::Answer;
-use crate::pair::Pair;
-use crate::shelf::Shelf;
 use crate::step::{Move, Moved};
-use crate::work::Work;
 use ann_key::{Bytes, NoMemory, Text};
 use host_core::{Core, Event, Opening, Reply, Why};
 use journal_look::{first_unsent, is_ended, is_started};
+use pair_kit::{Answer, Pair, Shelf, Work};
 use std::alloc::Global;
 use std::marker::Model;
 
@@ -38,7 +35,7 @@ pub struct World {
 }
 
 impl Model for World {
-    ghost use Rattle.pair_world.specs.Worlds.{WorldValue};
+    ghost use Rattle.pair_kit.specs.Worlds.{WorldValue};
 
     ghost Value = { WorldValue };
 

@@ -13,8 +13,8 @@ use Rattle.run_answers.specs.Answers.{answer_of, given}
 use Rattle.journal_audit.specs.Audits.{IsAudit}
 use Rattle.journal_audit.specs.declared.found.Audit.{Audit}
 use Rattle.pair_world.specs.Standing.{Stands}
-use Rattle.pair_world.specs.Stored.{ChangesFiles}
-use Rattle.pair_world.specs.Worlds.{WorldValue}
+use Rattle.pair_kit.specs.Stored.{ChangesFiles}
+use Rattle.pair_kit.specs.Worlds.{WorldValue}
 use Rattle.world_walk.specs.Walks.{Walked as IsWalked, equal_in, first_world}
 use Rattle.special_cli.specs.Left.{RanValue, IsIdle}
 use Rattle.special_cli.specs.Walks.{EndsWalk, HasWalked, WalksTasks}

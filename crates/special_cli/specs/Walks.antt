@@ -8,9 +8,9 @@ use Rattle.journal_audit.specs.declared.found.Audit.{Audit}
 use Rattle.journal_model.specs.declared.answer.Answer.{Answer}
 use Rattle.journal_model.specs.declared.entry.Entry.{Entry}
 use Rattle.pair_world.specs.Standing.{Stands}
-use Rattle.pair_world.specs.Stored.{ChangesFiles}
+use Rattle.pair_kit.specs.Stored.{ChangesFiles}
 use Rattle.world_walk.specs.Walks.{Walked as IsWalked, equal_in, first_world}
-use Rattle.pair_world.specs.Worlds.{WorldValue}
+use Rattle.pair_kit.specs.Worlds.{WorldValue}
 use Rattle.rehearse_plan.specs.Plans.{opening_of}
 use Rattle.rehearse_plan.specs.Tallies.{count_lines, count_of}
 use Rattle.rehearse_plan.specs.declared.tally.Word.TheVariants.{Got, Other}

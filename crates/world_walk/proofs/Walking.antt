@@ -8,17 +8,17 @@ use Rattle.annex_model.specs.Messages.{HostMessage}
 use Rattle.journal_model.specs.Journal.{is_ended, unsent}
 use Rattle.journal_model.specs.Legality.{is_empty}
 use Rattle.host_core.specs.declared.event.Reply.{Reply}
-use Rattle.pair_world.specs.declared.answer.Answer.{Answer}
+use Rattle.pair_kit.specs.declared.answer.Answer.{Answer}
 use Rattle.pair_world.specs.declared.step.Move.{Move}
 use Rattle.pair_world.specs.declared.step.Move.TheVariants.{Event as EventMove, Write, ToKit, Work, ToHost, Hear, End}
 use Rattle.pair_world.specs.declared.step.Moved.{Moved}
 use Rattle.pair_world.specs.declared.step.Moved.TheVariants.{Did, Not}
-use Rattle.pair_world.specs.Shelves.{Items}
-use Rattle.pair_world.specs.Pairs.{pair_of}
-use Rattle.pair_world.specs.Works.{is_waiting, next_message}
-use Rattle.pair_world.specs.Worlds.{WorldValue}
+use Rattle.pair_kit.specs.Shelves.{Items}
+use Rattle.pair_kit.specs.Pairs.{pair_of}
+use Rattle.pair_kit.specs.Works.{is_waiting, next_message}
+use Rattle.pair_kit.specs.Worlds.{WorldValue}
 use Rattle.pair_world.specs.Moves.{Moves, IsMade, DoesEvent, DoesWrite, DoesToKit, DoesWork, DoesToHost, DoesHear, DoesEnd, is_barred, is_odd, reply_to, is_amiss, is_silent, is_unended}
-use Rattle.pair_world.specs.Stored.{ChangesFiles, filed}
+use Rattle.pair_kit.specs.Stored.{ChangesFiles, filed}
 use Rattle.world_walk.specs.Walks.{AllRest, AreMade, MakesCandidate, MakesOne, Rests, Tries, TriesAll, Walks, candidate, place, was_made}
 use Rattle.std.proofs.lemmas.Bool.{eqb-true as same_number}
 

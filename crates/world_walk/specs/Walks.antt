@@ -12,9 +12,9 @@ use Rattle.pair_world.specs.declared.step.Move.{Move}
 use Rattle.pair_world.specs.declared.step.Move.TheVariants.{Event as EventMove, Write, ToKit, Work, ToHost, Hear}
 use Rattle.pair_world.specs.declared.step.Moved.{Moved}
 use Rattle.pair_world.specs.declared.step.Moved.TheVariants.{Did, Not}
-use Rattle.pair_world.specs.Shelves.{content, items_of}
-use Rattle.pair_world.specs.Pairs.{pair_of}
-use Rattle.pair_world.specs.Worlds.{WorldValue}
+use Rattle.pair_kit.specs.Shelves.{content, items_of}
+use Rattle.pair_kit.specs.Pairs.{pair_of}
+use Rattle.pair_kit.specs.Worlds.{WorldValue}
 use Rattle.pair_world.specs.Moves.{Moves}
 use Rattle.world_walk.specs.Workers.{next_of}
 

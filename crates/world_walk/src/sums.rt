@@ -5,7 +5,7 @@ ghost use Rattle.journal_model.specs.Limits.{most_tasks};
 ghost use Rattle.rehearse_plan.specs.Tallies.{count_of, words};
 ghost use Rattle.rehearse_plan.specs.declared.tasks.TheConstants.{MOST_TASKS};
 ghost use Rattle.run_answers.specs.Answers.{answer_of};
-ghost use Rattle.pair_world.specs.Shelves.{content};
+ghost use Rattle.pair_kit.specs.Shelves.{content};
 ghost use Rattle.world_walk.specs.Walks.{counts_in, equal_in, file_of, has_bytes, has_content, is_equal, is_got};
 
 use ann_key::NoMemory;

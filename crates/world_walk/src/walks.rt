@@ -5,7 +5,7 @@ ghost use Rattle.rehearse_plan.specs.Plans.{opening_of};
 ghost use Rattle.rehearse_plan.specs.declared.tasks.TheConstants.{MOST_TASKS};
 ghost use Rattle.pair_world.specs.declared.step.Move.TheVariants.{Event as EventMove};
 ghost use Rattle.pair_world.specs.Standing.{Stands};
-ghost use Rattle.pair_world.specs.Stored.{ChangesFiles};
+ghost use Rattle.pair_kit.specs.Stored.{ChangesFiles};
 ghost use Rattle.world_walk.specs.Workers.{next_of};
 ghost use Rattle.world_walk.specs.Walks.{Tries, TriesAll, Walked, Walks, bytes_moved, counts_in, equal_in, first_world, move_of, place, was_made};
 

@@ -1,9 +1,9 @@
 use Rattle.std.proofs.Common.{ℕ, List, [], ◌∷◌, codes, bytes_eq, refl, sym, ap, subst, inl, inr}
 use Rattle.std.proofs.lemmas.Bool.{false≢true}
 use Rattle.std.proofs.lemmas.Slice.Eq.{bytes_eq-Decides}
-use Rattle.pair_world.specs.Stored.{IsLastStored}
+use Rattle.pair_kit.specs.Stored.{IsLastStored}
 use Rattle.pair_world.specs.StoredRows.{stored, retrieved, removed}
-use Rattle.pair_world.proofs.StoredLast.{IsLastWith, last_of, gives_more, kept_none}
+use Rattle.pair_kit.proofs.StoredLast.{IsLastWith, last_of, gives_more, kept_none}
 use Rattle.pair_world.proofs.laws.last_stored.Goals as goal
 
 pub returns-clause-given : goal.returns-clause-given

@@ -1,8 +1,8 @@
 use Rattle.std.proofs.Common.{ℕ, ◌+◌, ◌%◌, ◌<◌, Bool, sym, subst, arith}
 use Rattle.pair_world.specs.Standing.{Stands}
-use Rattle.pair_world.specs.Stored.{ChangesFiles}
+use Rattle.pair_kit.specs.Stored.{ChangesFiles}
 use Rattle.world_walk.specs.Walks.{Tries, place}
-use Rattle.pair_world.specs.Worlds.{WorldValue}
+use Rattle.pair_kit.specs.Worlds.{WorldValue}
 use Rattle.world_walk.proofs.Walking.{changes_none, tried_more}
 use Rattle.world_walk.proofs.walks.make_move.Goals as goal
 

@@ -1,5 +1,5 @@
 use Rattle.pair_world.specs.Standing.{Stands}
-use Rattle.pair_world.specs.Stored.{ChangesFiles}
+use Rattle.pair_kit.specs.Stored.{ChangesFiles}
 use Rattle.world_walk.specs.Walks.{AreMade}
 use Rattle.world_walk.proofs.walks.make_moves.Given as goal
 

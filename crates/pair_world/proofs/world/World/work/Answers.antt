@@ -1,7 +1,7 @@
 use Rattle.std.proofs.Common.{◌∙◌, ◌<◌, ◌++◌, ℕ, List, length, refl, ap, subst}
-use Rattle.pair_world.specs.Outcomes.{Worked}
-use Rattle.pair_world.specs.Pairs.{PairValue}
-use Rattle.pair_world.specs.Works.{answered}
+use Rattle.pair_kit.specs.Outcomes.{Worked}
+use Rattle.pair_kit.specs.Pairs.{PairValue}
+use Rattle.pair_kit.specs.Works.{answered}
 use Rattle.pair_world.proofs.Worked.{works_over, works_line}
 use Rattle.pair_world.proofs.world.World.work.Goals as goal
 

@@ -2,7 +2,7 @@ use Rattle.std.proofs.Common.{◌≡◌, ℕ, false, List, refl, sym, ap, ◌∙
 use Rattle.std.specs.Prelude.{◌||◌, Option}
 use Rattle.journal_model.specs.Journal.{is_ended}
 use Rattle.journal_model.specs.Legality.{is_empty}
-use Rattle.pair_world.specs.Pairs.{PairValue, is_child}
+use Rattle.pair_kit.specs.Pairs.{PairValue, is_child}
 use Rattle.pair_world.specs.Moves.{DoesWrite}
 use Rattle.pair_world.proofs.Made.{not_made}
 use Rattle.pair_world.proofs.Linking.{none_unsent}

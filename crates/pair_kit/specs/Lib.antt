@@ -1,0 +1,10 @@
+pub mod Shelves
+pub mod Cues
+pub mod Pairs
+pub mod Works
+pub mod Outcomes
+pub mod Worlds
+pub mod Answered
+pub mod Paces
+pub mod Peace
+pub mod Stored

@@ -1,9 +1,0 @@
-use ann_key::Bytes;
-use kit_core::Call;
-
-/// A line that a kit took, without its byte 10, and the call that its remote had for it.
-#[derive(Drop)]
-pub(crate) struct Taken {
-    pub(crate) line: Bytes,
-    pub(crate) call: Option<Call>,
-}
