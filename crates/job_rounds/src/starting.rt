@@ -96,13 +96,13 @@ where
     requires room { vec_len wires.old + vec_len bench.desks ≤ vec_capacity wires.old }
     ensures starts { MatchResult result.1
         (λ next. OneJobStart bench.core.opening plan.now.setup plan.now.starts offer next true plan.now.program bench.core.journal result.0.core.journal
-            (map (λ k. desk_tells (K.log k) (K.counts k)) bench.desks.items) (map (λ k. desk_tells (K.log k) (K.counts k)) result.0.desks.items)
-            (programs_value (P.starts programs.old) (P.faults programs.old)) (programs_value (P.starts programs.new) (P.faults programs.new))
-            wires.old.items wires.new.items)
+        (map (λ k. desk_tells (K.log k) (K.counts k)) bench.desks.items) (map (λ k. desk_tells (K.log k) (K.counts k)) result.0.desks.items)
+        (programs_value (P.starts programs.old) (P.faults programs.old)) (programs_value (P.starts programs.new) (P.faults programs.new))
+        wires.old.items wires.new.items)
         (λ _. RunLacksMemory bench.core.opening plan.now.setup plan.now.starts offer plan.now.program bench.core.journal result.0.core.journal
-            (map (λ k. desk_tells (K.log k) (K.counts k)) bench.desks.items) (map (λ k. desk_tells (K.log k) (K.counts k)) result.0.desks.items)
-            (programs_value (P.starts programs.old) (P.faults programs.old)) (programs_value (P.starts programs.new) (P.faults programs.new))
-            wires.old.items wires.new.items) }
+        (map (λ k. desk_tells (K.log k) (K.counts k)) bench.desks.items) (map (λ k. desk_tells (K.log k) (K.counts k)) result.0.desks.items)
+        (programs_value (P.starts programs.old) (P.faults programs.old)) (programs_value (P.starts programs.new) (P.faults programs.new))
+        wires.old.items wires.new.items) }
     ensures room { (vec_len wires.new ≤ vec_len wires.old + vec_len bench.desks) × (vec_capacity wires.new ≡ vec_capacity wires.old) }
     ensures core { IsSameCore bench.core result.0.core }
     ensures desks { vec_len result.0.desks ≡ vec_len bench.desks }

@@ -66,12 +66,12 @@ where
     requires room { vec_len wires.old < vec_capacity wires.old }
     ensures starts { MatchResult result
         (λ next. OneStart core.old.opening plan.now.setup plan.now.starts offer next plan.now.program core.old.journal core.new.journal
-            (desk_tells (K.log desk.old) (K.counts desk.old)) (desk_tells (K.log desk.new) (K.counts desk.new))
-            (programs_value (P.starts programs.old) (P.faults programs.old)) (programs_value (P.starts programs.new) (P.faults programs.new))
-            wires.old.items wires.new.items)
+        (desk_tells (K.log desk.old) (K.counts desk.old)) (desk_tells (K.log desk.new) (K.counts desk.new))
+        (programs_value (P.starts programs.old) (P.faults programs.old)) (programs_value (P.starts programs.new) (P.faults programs.new))
+        wires.old.items wires.new.items)
         (λ _. Unstarted plan.now.program core.old.journal core.new.journal (desk_tells (K.log desk.old) (K.counts desk.old))
-            (desk_tells (K.log desk.new) (K.counts desk.new)) (programs_value (P.starts programs.old) (P.faults programs.old))
-            (programs_value (P.starts programs.new) (P.faults programs.new)) wires.old.items wires.new.items) }
+        (desk_tells (K.log desk.new) (K.counts desk.new)) (programs_value (P.starts programs.old) (P.faults programs.old))
+        (programs_value (P.starts programs.new) (P.faults programs.new)) wires.old.items wires.new.items) }
     ensures room { (vec_len wires.new ≤ vec_len wires.old + 1) × (vec_capacity wires.new ≡ vec_capacity wires.old) }
     ensures core { IsSameCore core.old core.new }
 {

@@ -99,11 +99,11 @@ where
     requires room { (vec_len pool.old.links < vec_capacity pool.old.links) × (vec_len pool.old.seats < vec_capacity pool.old.seats) }
     ensures seats { MatchResult result
         (λ _. SeatsOne core.old.opening program.now slot core.old.journal core.new.journal (programs_value (P.starts programs.old) (P.faults programs.old))
-            (programs_value (P.starts programs.new) (P.faults programs.new)) (map seat_value pool.old.seats.items) (map seat_value pool.new.seats.items)
-            (map (λ l. link_of l.ear l.mouth) pool.old.links.items) (map (λ l. link_of l.ear l.mouth) pool.new.links.items))
+        (programs_value (P.starts programs.new) (P.faults programs.new)) (map seat_value pool.old.seats.items) (map seat_value pool.new.seats.items)
+        (map (λ l. link_of l.ear l.mouth) pool.old.links.items) (map (λ l. link_of l.ear l.mouth) pool.new.links.items))
         (λ _. SeatsNone program.now core.old.journal core.new.journal (programs_value (P.starts programs.old) (P.faults programs.old))
-            (programs_value (P.starts programs.new) (P.faults programs.new)) (map seat_value pool.old.seats.items) (map seat_value pool.new.seats.items)
-            (map (λ l. link_of l.ear l.mouth) pool.old.links.items) (map (λ l. link_of l.ear l.mouth) pool.new.links.items)) }
+        (programs_value (P.starts programs.new) (P.faults programs.new)) (map seat_value pool.old.seats.items) (map seat_value pool.new.seats.items)
+        (map (λ l. link_of l.ear l.mouth) pool.old.links.items) (map (λ l. link_of l.ear l.mouth) pool.new.links.items)) }
     ensures room { (vec_capacity pool.new.links ≡ vec_capacity pool.old.links) × (vec_capacity pool.new.seats ≡ vec_capacity pool.old.seats) }
     ensures core { IsSameCore core.old core.new }
 {
