@@ -6,7 +6,8 @@ use Rattle.journal_model.specs.declared.entry.What.TheVariants.{Start, NoStart}
 use Rattle.journal_model.specs.declared.entry.Entry.{Entry}
 use Rattle.journal_model.specs.Journal.{each_of}
 use Rattle.journal_model.specs.Legality.{count}
-use Rattle.child_end.specs.Wires.{WireValue, AreWires, came}
+use Rattle.link_roles.specs.Wires.{WireValue}
+use Rattle.child_end.specs.Wires.{AreWires, came}
 
 -- the starts that programs tell, and how often they failed
 pub record ProgramsValue : Type 0 where

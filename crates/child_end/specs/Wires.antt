@@ -9,43 +9,8 @@ use Rattle.journal_model.specs.Journal.{each_of, is_tagged}
 use Rattle.journal_model.specs.Wires.{Wired, Caused, is_heard_in_turn}
 use Rattle.journal_model.specs.Halves.{EarValue, MouthValue, LinkWired}
 use Rattle.journal_model.specs.Shares.{is_of_child}
-use Rattle.link_roles.specs.declared.wire.Wire.{Wire}
+use Rattle.link_roles.specs.Wires.{IsLeft, WireValue}
 use Rattle.link_roles.specs.Writings.{is_written_first}
-
--- ---- one wire
-
--- a child's number, what its two halves tell, how often they failed, their start's number and whether they are open, and what
--- was read and not fed
-pub record WireValue : Type 0 where
-  pub child : ℕ
-  pub taken : Option (List ℕ)
-  pub write_faults : ℕ
-  pub inlet_number : Option ℕ
-  pub is_inlet_open : Bool
-  pub given : Option (List ℕ)
-  pub left : Option (List ℕ)
-  pub read_faults : ℕ
-  pub outlet_number : Option ℕ
-  pub is_outlet_open : Bool
-  pub rest : List ℕ
-
-abbrev pub wire_value : {I O : Type 0} → (I → Option (List ℕ)) → (I → ℕ) → (I → Option ℕ) → (I → Bool) → (O → Option (List ℕ)) → (O → Option (List ℕ)) → (O → ℕ) → (O → Option ℕ) → (O → Bool)
-    → Wire I O → WireValue
-wire_value taken write_faults inlet_number is_inlet_open given left read_faults outlet_number is_outlet_open wire = record {
-  child = wire.child;
-  taken = taken wire.inlet;
-  write_faults = write_faults wire.inlet;
-  inlet_number = inlet_number wire.inlet;
-  is_inlet_open = is_inlet_open wire.inlet;
-  given = given wire.outlet;
-  left = left wire.outlet;
-  read_faults = read_faults wire.outlet;
-  outlet_number = outlet_number wire.outlet;
-  is_outlet_open = is_outlet_open wire.outlet;
-  rest = wire.rest;
-}
-
--- ---- the wires of a run
 
 -- the child that a start gave, or none
 abbrev pub came_in : What → Option (Option ℕ)
@@ -95,17 +60,6 @@ AreWires starts journal n (None ∷ cs) wires = AreWires starts journal (n + 1) 
 AreWires starts journal n (Some c ∷ cs) (wire ∷ wires) = (wire.child ≡ c) × IsWire starts journal (n + 1) wire × AreWires starts journal (n + 1) cs wires
 AreWires starts journal n _ _ = ⊥
 
--- the wire that a link's halves leave
-pub record IsLeft (ear : EarValue) (mouth : MouthValue) (wire : WireValue) : Type 0 where
-  pub child : wire.child ≡ ear.child
-  pub taken_is : wire.taken ≡ mouth.taken
-  pub given_is : wire.given ≡ ear.given
-  pub left_is : wire.left ≡ ear.left
-  pub faults : (wire.write_faults ≡ mouth.faults) × (wire.read_faults ≡ ear.faults)
-  pub numbers : (wire.inlet_number ≡ mouth.number) × (wire.outlet_number ≡ ear.number)
-  pub closed : (wire.is_inlet_open ≡ false) × (wire.is_outlet_open ≡ false)
-  pub rest : wire.rest ≡ ear.held
-
--- such a wire was laid after the others
+-- the wire that the link's halves leave was laid after the others
 abbrev pub IsLaid : EarValue → MouthValue → List WireValue → List WireValue → Type 0
 IsLaid ear mouth old new = (wire : WireValue) × (new ≡ old ++ wire ∷ []) × IsLeft ear mouth wire

@@ -1,5 +1,5 @@
 // The end of a child: it is closed in the journal, its link's halves are closed, and its program is waited for.
-ghost use Rattle.std.specs.Prelude.{◌≡◌, ◌<◌, ◌≤◌, ◌+◌, map, true, vec_len, vec_capacity};
+ghost use Rattle.std.specs.Prelude.{◌≡◌, ◌<◌, ◌≤◌, ◌+◌, true, vec_len, vec_capacity};
 ghost use Rattle.ann_outside.specs.Causes.{Stays};
 ghost use Rattle.journal_model.specs.declared.verdict.Why.TheVariants.{Closed};
 ghost use Rattle.journal_model.specs.Journal.{is_started};
@@ -8,7 +8,7 @@ ghost use Rattle.link_roles.specs.Writings.{LoneWired};
 ghost use Rattle.link_roles.specs.Alone.{Closes};
 ghost use Rattle.link_roles.specs.Doors.{IsSameDoor};
 ghost use Rattle.child_start.specs.Cores.{IsSameCore};
-ghost use Rattle.child_end.specs.Wires.{IsHeld, IsLaid, wire_value};
+ghost use Rattle.child_end.specs.Wires.{IsHeld, IsLaid};
 
 use ann_outside::{Programs, Sink, Source};
 use child_start::wait_for;
@@ -50,12 +50,13 @@ pub fn finish<P: Programs>(
     wires: &mut Vec<Wire<P::Inlet, P::Outlet>>,
 )
     requires room { vec_len wires.old < vec_capacity wires.old }
-    ensures laid { IsLaid link.ear link.mouth (map (wire_value P.Inlet.taken P.Inlet.faults P.Inlet.number P.Inlet.is_open P.Outlet.given P.Outlet.left P.Outlet.faults P.Outlet.number P.Outlet.is_open) wires.old.items) (map (wire_value P.Inlet.taken P.Inlet.faults P.Inlet.number P.Inlet.is_open P.Outlet.given P.Outlet.left P.Outlet.faults P.Outlet.number P.Outlet.is_open) wires.new.items) }
+    ensures laid { IsLaid link.ear link.mouth wires.old.items wires.new.items }
     ensures room { (vec_len wires.new ≡ vec_len wires.old + 1) × (vec_capacity wires.new ≡ vec_capacity wires.old) }
     ensures starts { Stays (P.starts programs.old) (P.starts programs.new) }
     ensures later { P.faults programs.old ≤ P.faults programs.new }
 {
     let wire = link.finish();
-    wait_for(programs, &wire.inlet, &wire.outlet, stub);
+    let (inlet, outlet) = wire.halves();
+    wait_for(programs, inlet, outlet, stub);
     wires.push_reserved(wire);
 }

@@ -15,7 +15,8 @@ use Rattle.host_core.specs.Steps.{are_all_claimed}
 use Rattle.crew_round.specs.declared.slot.Refused.{Refused}
 use Rattle.child_start.specs.Greetings.{AreNumbered, Greeted, IsReady}
 use Rattle.child_end.specs.Programs.{AddsAll, ProgramsValue, told}
-use Rattle.child_end.specs.Wires.{IsHeld, IsLaid, IsLeft, WireValue}
+use Rattle.link_roles.specs.Wires.{IsLeft, WireValue}
+use Rattle.child_end.specs.Wires.{IsHeld, IsLaid}
 use Rattle.gathering.specs.Rounds.{LinkValue}
 use Rattle.task_run.specs.declared.setup.Setup.{Setup}
 use Rattle.lone_work.specs.Works.{DeskTells}

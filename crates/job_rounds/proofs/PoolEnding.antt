@@ -12,7 +12,8 @@ use Rattle.journal_model.specs.Legality.{Legal, count, is_start, may_stop}
 use Rattle.journal_model.specs.Shares.{are_by, is_of_child}
 use Rattle.link_roles.specs.Alone.{Closes}
 use Rattle.child_end.specs.Programs.{ProgramsValue}
-use Rattle.child_end.specs.Wires.{IsHeld, IsLaid, WireValue, came}
+use Rattle.link_roles.specs.Wires.{WireValue}
+use Rattle.child_end.specs.Wires.{IsHeld, IsLaid, came}
 use Rattle.child_end.proofs.Held.{lone_held}
 use Rattle.gathering.specs.Laws.{children_of}
 use Rattle.gathering.specs.Rounds.{LinkValue}

@@ -1,7 +1,7 @@
 -- The links, seats and desks of a pool, as vectors: the first link, the wires that are laid in order, and desks that are taken and put back.
 use Rattle.std.proofs.Common.{◌≡◌, ℕ, ◌+◌, ◌<◌, List, [], ◌∷◌, ◌++◌, refl, sym, ap, subst, ◌∙◌, append_assoc, append-nil, length, length-append, map, true, false, ◌==◌, arith, slice_index_or, take, zero, suc, None, Option, Some}
 use Rattle.std.specs.Prelude.{All, reverse, slice_get}
-use Rattle.std.proofs.lemmas.List.{map-append, length-reverse, reverse-append, reverse-reverse}
+use Rattle.std.proofs.lemmas.List.{length-reverse, reverse-append, reverse-reverse}
 use Rattle.std.proofs.lemmas.List.Elements.{All-cons, All-head, All-nil, All-tail}
 use Rattle.ann_outside.specs.Causes.{Stays}
 use Rattle.ann_outside.specs.Starts.{Starts}
@@ -14,7 +14,8 @@ use Rattle.journal_model.specs.Shares.{is_of_child}
 use Rattle.link_roles.specs.Alone.{Closes, KeepsLink}
 use Rattle.gathering.specs.Laws.{Distinct, children_of}
 use Rattle.gathering.specs.Rounds.{IsAtRest, LinkValue}
-use Rattle.child_end.specs.Wires.{IsHeld, IsLaid, WireValue}
+use Rattle.link_roles.specs.Wires.{WireValue}
+use Rattle.child_end.specs.Wires.{IsHeld, IsLaid}
 use Rattle.child_end.proofs.Held.{held_apart, lone_held}
 use Rattle.task_run.specs.declared.setup.Setup.{Setup}
 use Rattle.lone_work.specs.Works.{CanWork, DeskTells}
@@ -95,18 +96,18 @@ first_held o setup g mid l l' links desk desk' can one s keeps =
 -- ---- wires that are laid in order
 
 -- so many wires were laid for the seats that are gone, and those that are left stand turned round
-pub record Laying {W S L : Type 0} (value : W → WireValue) (seat : S → SeatValue) (link : L → LinkValue) (seats0 seats : List S) (links0 links : List L) (wires0 wires : List W) : Type 0 where
+pub record Laying {S L : Type 0} (seat : S → SeatValue) (link : L → LinkValue) (seats0 seats : List S) (links0 links : List L) (wires0 wires : List WireValue) : Type 0 where
   pub done : List WireValue
-  pub are : map value wires ≡ map value wires0 ++ done
+  pub are : wires ≡ wires0 ++ done
   pub then : (more : List WireValue) → AreSettled (map seat (reverse seats)) (map link (reverse links)) more → AreSettled (map seat (reverse seats0)) (map link (reverse links0)) (done ++ more)
   pub fits : serving (map seat (reverse seats)) ≡ length links
 
-module _ {W S L : Type 0} (value : W → WireValue) (seat : S → SeatValue) (link : L → LinkValue) where
-  pub laying_begins : (seats seats0 : List S) (links links0 : List L) (wires : List W) → seats0 ≡ reverse seats → links0 ≡ reverse links → serving (map seat seats) ≡ length links
-      → Laying value seat link seats0 seats0 links0 links0 wires wires
+module _ {S L : Type 0} (seat : S → SeatValue) (link : L → LinkValue) where
+  pub laying_begins : (seats seats0 : List S) (links links0 : List L) (wires : List WireValue) → seats0 ≡ reverse seats → links0 ≡ reverse links → serving (map seat seats) ≡ length links
+      → Laying seat link seats0 seats0 links0 links0 wires wires
   laying_begins seats seats0 links links0 wires es el fits = record {
     done = [];
-    are = sym (append-nil (map value wires));
+    are = sym (append-nil wires);
     then = λ more h. h;
     fits = ap (λ (x : List S). serving (map seat x)) (ap reverse es ∙ reverse-reverse seats) ∙ fits ∙ sym (length-reverse links) ∙ ap (λ (x : List L). length x) (sym el);
   }
@@ -115,26 +116,26 @@ module _ {W S L : Type 0} (value : W → WireValue) (seat : S → SeatValue) (li
   turned : {X Y : Type 0} (f : X → Y) (xs xs' : List X) (x : X) (y : Y) → xs ≡ xs' ++ x ∷ [] → f x ≡ y → map f (reverse xs) ≡ y ∷ map f (reverse xs')
   turned f xs xs' x y popped is = ap (λ l. map f (reverse l)) popped ∙ ap (map f) (reverse-append xs' (x ∷ [])) ∙ ap (λ z. z ∷ map f (reverse xs')) is
 
-  module _ (seats0 seats seats' : List S) (links0 links : List L) (wires0 wires wires' : List W) (s : S) (popped : seats ≡ seats' ++ s ∷ []) (l : Laying value seat link seats0 seats links0 links wires0 wires) where
-    pub laying_over : (w : W) → seat s ≡ OverBy (value w) → wires' ≡ wires ++ w ∷ [] → Laying value seat link seats0 seats' links0 links wires0 wires'
+  module _ (seats0 seats seats' : List S) (links0 links : List L) (wires0 wires wires' : List WireValue) (s : S) (popped : seats ≡ seats' ++ s ∷ []) (l : Laying seat link seats0 seats links0 links wires0 wires) where
+    pub laying_over : (w : WireValue) → seat s ≡ OverBy w → wires' ≡ wires ++ w ∷ [] → Laying seat link seats0 seats' links0 links wires0 wires'
     laying_over w is pushed = record {
-      done = l.done ++ value w ∷ [];
-      are = ap (map value) pushed ∙ map-append value wires (w ∷ []) ∙ ap (λ (x : List WireValue). x ++ value w ∷ []) l.are ∙ append_assoc (map value wires0) l.done (value w ∷ []);
-      then = λ more h. subst (AreSettled (map seat (reverse seats0)) (map link (reverse links0))) (sym (append_assoc l.done (value w ∷ []) more))
-          (l.then (value w ∷ more) (subst (λ (x : List SeatValue). AreSettled x (map link (reverse links)) (value w ∷ more)) (sym next) (refl, h)));
+      done = l.done ++ w ∷ [];
+      are = pushed ∙ ap (λ (x : List WireValue). x ++ w ∷ []) l.are ∙ append_assoc wires0 l.done (w ∷ []);
+      then = λ more h. subst (AreSettled (map seat (reverse seats0)) (map link (reverse links0))) (sym (append_assoc l.done (w ∷ []) more))
+          (l.then (w ∷ more) (subst (λ (x : List SeatValue). AreSettled x (map link (reverse links)) (w ∷ more)) (sym next) (refl, h)));
       fits = sym (ap serving next) ∙ l.fits;
     }
       where
-        next : map seat (reverse seats) ≡ OverBy (value w) ∷ map seat (reverse seats')
-        next = turned seat seats seats' s (OverBy (value w)) popped is
+        next : map seat (reverse seats) ≡ OverBy w ∷ map seat (reverse seats')
+        next = turned seat seats seats' s (OverBy w) popped is
 
     pub laying_some : seat s ≡ Serves → 0 < length links
     laying_some is = (let so = sym (ap serving (turned seat seats seats' s Serves popped is)) ∙ l.fits in omega (arith, so))
 
-    pub laying_served : (links' : List L) (x : L) → seat s ≡ Serves → links ≡ links' ++ x ∷ [] → IsLaid (link x).ear (link x).mouth (map value wires) (map value wires') → Laying value seat link seats0 seats' links0 links' wires0 wires'
+    pub laying_served : (links' : List L) (x : L) → seat s ≡ Serves → links ≡ links' ++ x ∷ [] → IsLaid (link x).ear (link x).mouth wires wires' → Laying seat link seats0 seats' links0 links' wires0 wires'
     laying_served links' x is taken laid = record {
       done = l.done ++ laid.0 ∷ [];
-      are = laid.1 ∙ ap (λ (y : List WireValue). y ++ laid.0 ∷ []) l.are ∙ append_assoc (map value wires0) l.done (laid.0 ∷ []);
+      are = laid.1 ∙ ap (λ (y : List WireValue). y ++ laid.0 ∷ []) l.are ∙ append_assoc wires0 l.done (laid.0 ∷ []);
       then = λ more h. subst (AreSettled (map seat (reverse seats0)) (map link (reverse links0))) (sym (append_assoc l.done (laid.0 ∷ []) more))
           (l.then (laid.0 ∷ more) (subst (λ (y : List SeatValue). AreSettled y (map link (reverse links)) (laid.0 ∷ more)) (sym next)
           (subst (λ (y : List LinkValue). AreSettled (Serves ∷ map seat (reverse seats')) y (laid.0 ∷ more)) (sym here) (laid.2, h))));
@@ -147,12 +148,12 @@ module _ {W S L : Type 0} (value : W → WireValue) (seat : S → SeatValue) (li
         here : map link (reverse links) ≡ link x ∷ map link (reverse links')
         here = turned link links links' x (link x) taken refl
 
-  pub laying_ends : (seats seats0 over : List S) (links links0 left : List L) (wires0 wires : List W) → seats0 ≡ reverse seats → links0 ≡ reverse links → length over ≡ 0 → Laying value seat link seats0 over links0 left wires0 wires
-      → AreLaid (map seat seats) (map link links) (map value wires0) (map value wires)
+  pub laying_ends : (seats seats0 over : List S) (links links0 left : List L) (wires0 wires : List WireValue) → seats0 ≡ reverse seats → links0 ≡ reverse links → length over ≡ 0 → Laying seat link seats0 over links0 left wires0 wires
+      → AreLaid (map seat seats) (map link links) wires0 wires
   laying_ends seats seats0 over links links0 left wires0 wires es el gone w = (l.done, l.are, whole)
     where
-      l : Laying value seat link seats0 [] links0 left wires0 wires
-      l = subst (λ (x : List S). Laying value seat link seats0 x links0 left wires0 wires) (no_items over gone) w
+      l : Laying seat link seats0 [] links0 left wires0 wires
+      l = subst (λ (x : List S). Laying seat link seats0 x links0 left wires0 wires) (no_items over gone) w
 
       none : (xs : List L) → 0 ≡ length xs → xs ≡ []
       none [] e = refl

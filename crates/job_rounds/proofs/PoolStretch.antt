@@ -21,7 +21,8 @@ use Rattle.host_core.specs.Steps.{are_all_claimed}
 use Rattle.link_roles.proofs.Linked.{any_narrower}
 use Rattle.child_start.specs.Greetings.{AreNumbered, Greeted, IsReady, is_of_greeting}
 use Rattle.child_end.specs.Programs.{AddsAll, HaveStarted, ProgramsValue, RoseBy, is_failed_start, told, told_in}
-use Rattle.child_end.specs.Wires.{IsOfStart, WireValue, came, came_in}
+use Rattle.link_roles.specs.Wires.{WireValue}
+use Rattle.child_end.specs.Wires.{IsOfStart, came, came_in}
 use Rattle.task_run.specs.declared.setup.Setup.{Setup}
 use Rattle.task_run.specs.TaskRuns.{failed_start, gone_answer, or_refusal, refusal_of, unready_answer}
 use Rattle.lone_work.specs.Works.{DeskTells}

@@ -13,7 +13,8 @@ use Rattle.journal_model.specs.Shares.{is_of_child}
 use Rattle.journal_model.proofs.Looks.{each_of-append}
 use Rattle.link_roles.proofs.Linked.{any_narrower}
 use Rattle.child_end.specs.Programs.{AddsAll, HaveStarted, ProgramsValue, RoseBy, is_failed_start, told, told_in}
-use Rattle.child_end.specs.Wires.{IsHeld, IsLeft, IsOfStart, WireValue, came, came_in}
+use Rattle.link_roles.specs.Wires.{IsLeft, WireValue}
+use Rattle.child_end.specs.Wires.{IsHeld, IsOfStart, came, came_in}
 use Rattle.child_end.proofs.Held.{held_apart}
 use Rattle.gathering.specs.Rounds.{LinkValue}
 use Rattle.lone_rounds.specs.Starting.{is_any_start}

@@ -15,7 +15,7 @@ use Rattle.gathering.specs.Rounds.{IsAtRest}
 use Rattle.crew_rounds.specs.TaggedRounds.{TaggedLeaves}
 use Rattle.child_start.specs.Greetings.{Greeted, IsReady}
 use Rattle.child_end.specs.Programs.{ProgramsValue}
-use Rattle.child_end.specs.Wires.{WireValue}
+use Rattle.link_roles.specs.Wires.{WireValue}
 use Rattle.task_run.specs.declared.setup.Setup.{Setup}
 use Rattle.lone_work.specs.Works.{DeskTells}
 use Rattle.journal_model.proofs.Holding.{claimed}

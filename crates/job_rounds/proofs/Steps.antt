@@ -4,7 +4,7 @@ use Rattle.journal_model.specs.declared.entry.Entry.{Entry}
 use Rattle.journal_model.specs.declared.opening.Opening.{Opening}
 use Rattle.journal_model.specs.Legality.{Legal}
 use Rattle.child_end.specs.Programs.{ProgramsValue}
-use Rattle.child_end.specs.Wires.{WireValue}
+use Rattle.link_roles.specs.Wires.{WireValue}
 use Rattle.task_run.specs.declared.setup.Setup.{Setup}
 use Rattle.lone_work.specs.Works.{DeskTells}
 use Rattle.lone_rounds.specs.Stints.{Kept, MayHaveAsked}

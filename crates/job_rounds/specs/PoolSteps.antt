@@ -5,7 +5,7 @@ use Rattle.journal_model.specs.declared.entry.Entry.{Entry}
 use Rattle.journal_model.specs.declared.opening.Opening.{Opening}
 use Rattle.journal_model.specs.Legality.{Legal}
 use Rattle.link_roles.specs.Alone.{Closes}
-use Rattle.child_end.specs.Wires.{IsLeft, WireValue}
+use Rattle.link_roles.specs.Wires.{IsLeft, WireValue}
 use Rattle.gathering.specs.Laws.{GoesOn, children_of}
 use Rattle.gathering.specs.Rounds.{LinkValue}
 use Rattle.task_run.specs.declared.setup.Setup.{Setup}

@@ -17,7 +17,7 @@ use Rattle.lone_work.specs.Works.{CanWork, DeskTells}
 use Rattle.crew_round.specs.declared.slot.Refused.{Refused}
 use Rattle.crew_rounds.specs.TaggedRounds.{TaggedLeaves}
 use Rattle.child_end.specs.Programs.{ProgramsValue}
-use Rattle.child_end.specs.Wires.{WireValue}
+use Rattle.link_roles.specs.Wires.{WireValue}
 use Rattle.lone_rounds.specs.Stints.{HasServed}
 use Rattle.job_rounds.specs.Pools.{LeavesPool, PoolServed}
 use Rattle.job_rounds.specs.Posts.{since_start}

@@ -12,7 +12,8 @@ use Rattle.host_core.specs.Steps.{are_all_claimed}
 use Rattle.task_run.specs.declared.setup.Setup.{Setup}
 use Rattle.lone_work.specs.Works.{DeskTells}
 use Rattle.child_end.specs.Programs.{AddsAll, ProgramsValue, RoseBy, is_failed_start, told}
-use Rattle.child_end.specs.Wires.{WireValue, came}
+use Rattle.link_roles.specs.Wires.{WireValue}
+use Rattle.child_end.specs.Wires.{came}
 use Rattle.lone_rounds.specs.Starting.{AllOffer, AreEnded, children, is_offered, is_ready_untagged}
 use Rattle.lone_rounds.specs.Rounds.{AllLostWell, AllStandNext, NoneUntaken, is_of_run}
 use Rattle.lone_rounds.specs.Stints.{AreLinked, IsOver, IsStart, MayHaveAsked, main_entry, next_child}

@@ -3,7 +3,7 @@ ghost use Rattle.std.specs.Prelude.{◌≡◌, ◌≤◌, ◌<◌, ◌+◌, ◌+
 ghost use Rattle.ann_outside.specs.Causes.{Stays};
 ghost use Rattle.annex_model.specs.Lines.{has_newline};
 ghost use Rattle.child_end.specs.Programs.{programs_value};
-ghost use Rattle.child_end.specs.Wires.{IsHeld, wire_value};
+ghost use Rattle.child_end.specs.Wires.{IsHeld};
 ghost use Rattle.child_start.specs.Cores.{IsSameCore};
 ghost use Rattle.crew_rounds.specs.Outcomes.{IfDone, IfKept};
 ghost use Rattle.crew_rounds.specs.Tagged.{link_of};
@@ -61,9 +61,9 @@ where
     P::Inlet: Drop,
     P::Outlet: Drop,
     P::Stub: Drop,
-    requires fits { serving (map (seat_value (wire_value P.Inlet.taken P.Inlet.faults P.Inlet.number P.Inlet.is_open P.Outlet.given P.Outlet.left P.Outlet.faults P.Outlet.number P.Outlet.is_open)) seats.items) ≡ vec_len links }
+    requires fits { serving (map seat_value seats.items) ≡ vec_len links }
     requires room { vec_len wires.old + vec_len seats ≤ vec_capacity wires.old }
-    ensures laid { AreLaid (map (seat_value (wire_value P.Inlet.taken P.Inlet.faults P.Inlet.number P.Inlet.is_open P.Outlet.given P.Outlet.left P.Outlet.faults P.Outlet.number P.Outlet.is_open)) seats.items) (map (λ l. link_of l.ear l.mouth) links.items) (map (wire_value P.Inlet.taken P.Inlet.faults P.Inlet.number P.Inlet.is_open P.Outlet.given P.Outlet.left P.Outlet.faults P.Outlet.number P.Outlet.is_open) wires.old.items) (map (wire_value P.Inlet.taken P.Inlet.faults P.Inlet.number P.Inlet.is_open P.Outlet.given P.Outlet.left P.Outlet.faults P.Outlet.number P.Outlet.is_open) wires.new.items) }
+    ensures laid { AreLaid (map seat_value seats.items) (map (λ l. link_of l.ear l.mouth) links.items) wires.old.items wires.new.items }
     ensures room { (vec_len wires.new ≡ vec_len wires.old + vec_len seats) × (vec_capacity wires.new ≡ vec_capacity wires.old) }
     ensures starts { Stays (P.starts programs.old) (P.starts programs.new) }
     ensures later { P.faults programs.old ≤ P.faults programs.new }
@@ -321,7 +321,7 @@ where
     requires last_child { link.ear.child ≡ count is_start bench.core.journal }
     requires room { vec_len wires.old + vec_len bench.desks ≤ vec_capacity wires.old }
     ensures served { PoolServed (IsErr result.1) bench.core.opening plan.now.setup plan.now.starts plan.now.program bench.core.journal result.0.core.journal (map (λ k. desk_tells (K.log k) (K.counts k)) bench.desks.items) (map (λ k. desk_tells (K.log k) (K.counts k)) result.0.desks.items) (is_ok result.1) link.ear link.mouth
-        (programs_value (P.starts programs.old) (P.faults programs.old)) (programs_value (P.starts programs.new) (P.faults programs.new)) (map (wire_value P.Inlet.taken P.Inlet.faults P.Inlet.number P.Inlet.is_open P.Outlet.given P.Outlet.left P.Outlet.faults P.Outlet.number P.Outlet.is_open) wires.old.items) (map (wire_value P.Inlet.taken P.Inlet.faults P.Inlet.number P.Inlet.is_open P.Outlet.given P.Outlet.left P.Outlet.faults P.Outlet.number P.Outlet.is_open) wires.new.items) }
+        (programs_value (P.starts programs.old) (P.faults programs.old)) (programs_value (P.starts programs.new) (P.faults programs.new)) wires.old.items wires.new.items }
     ensures room { (vec_len wires.new ≤ vec_len wires.old + vec_len bench.desks) × (vec_capacity wires.new ≡ vec_capacity wires.old) }
     ensures core { IsSameCore bench.core result.0.core }
     ensures desks { vec_len result.0.desks ≡ vec_len bench.desks }

@@ -1,7 +1,6 @@
 ghost use Rattle.std.specs.Prelude.{◌≡◌, ◌≤◌, ◌<◌, ◌*◌, [], map, IsErr, vec_len, vec_capacity, false};
 ghost use Rattle.annex_model.specs.Lines.{has_newline};
 ghost use Rattle.child_end.specs.Programs.{Leaves, programs_value};
-ghost use Rattle.child_end.specs.Wires.{wire_value};
 ghost use Rattle.child_start.specs.Cores.{IsSameCore};
 ghost use Rattle.job_rounds.specs.JobRuns.{RanJobs};
 ghost use Rattle.lone_rounds.specs.Rounds.{IsWhole};
@@ -46,7 +45,8 @@ where
     requires none { wires.old.items ≡ [] }
     ensures ran { RanJobs bench.core.opening plan.now.setup plan.now.offers plan.now.starts result.0.core.journal (map (λ k. desk_tells (K.log k) (K.counts k)) bench.desks.items) (map (λ k. desk_tells (K.log k) (K.counts k)) result.0.desks.items) }
     ensures whole { IsWhole bench.core.opening result.0.core.journal result.1 }
-    ensures leaves { Leaves (IsErr result.1) plan.now.program result.0.core.journal (programs_value (P.starts programs.old) (P.faults programs.old)) (programs_value (P.starts programs.new) (P.faults programs.new)) (map (wire_value P.Inlet.taken P.Inlet.faults P.Inlet.number P.Inlet.is_open P.Outlet.given P.Outlet.left P.Outlet.faults P.Outlet.number P.Outlet.is_open) wires.new.items) }
+    ensures leaves { Leaves (IsErr result.1) plan.now.program result.0.core.journal (programs_value (P.starts programs.old) (P.faults programs.old))
+        (programs_value (P.starts programs.new) (P.faults programs.new)) wires.new.items }
     ensures core { IsSameCore bench.core result.0.core }
     ensures desks { vec_len result.0.desks ≡ vec_len bench.desks }
 {

@@ -9,3 +9,4 @@ pub mod Moves
 pub mod Hearings
 pub mod Writings
 pub mod Rows
+pub mod Wires

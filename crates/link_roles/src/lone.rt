@@ -10,6 +10,7 @@ ghost use Rattle.journal_model.specs.declared.verdict.Why.TheVariants.{Memory};
 ghost use Rattle.journal_model.specs.Shares.{Moved, by_link, by_asker, is_of_child};
 ghost use Rattle.link_roles.specs.Asks.{HasAsked, HeardOut, HeardMoved, IsWritten, IsUnheard, IsSettling, HasBegun};
 ghost use Rattle.link_roles.specs.Moves.{LinkMoved, LoneMoved, LoneHears, IsSameLink};
+ghost use Rattle.link_roles.specs.Wires.{IsLeft};
 ghost use Rattle.link_roles.specs.Writings.{LoneWired};
 
 use crate::door::Door;
@@ -73,14 +74,7 @@ impl<I: Sink, O: Source> Lone<I, O> {
     /// Closes both halves, the inlet first, so that a child which still writes finds its input at an end before its output breaks.
     /// Hands them out with what was read and not fed. It takes no memory.
     pub fn finish(self) -> Wire<I, O>
-        ensures child { result.child ≡ self.ear.child }
-        ensures taken { I.taken result.inlet ≡ self.mouth.taken }
-        ensures given { O.given result.outlet ≡ self.ear.given }
-        ensures left { O.left result.outlet ≡ self.ear.left }
-        ensures faults { (I.faults result.inlet ≡ self.mouth.faults) × (O.faults result.outlet ≡ self.ear.faults) }
-        ensures number { (I.number result.inlet ≡ self.mouth.number) × (O.number result.outlet ≡ self.ear.number) }
-        ensures closed { (I.is_open result.inlet ≡ false) × (O.is_open result.outlet ≡ false) }
-        ensures rest { result.rest ≡ self.ear.held }
+        ensures { IsLeft self.ear self.mouth result }
     {
         let child = self.child();
         let Lone { ear, mouth } = self;

@@ -23,7 +23,8 @@ use Rattle.task_run.specs.declared.setup.Setup.{Setup}
 use Rattle.task_run.specs.TaskRuns.{failed_start}
 use Rattle.lone_work.specs.Works.{DeskTells, ends_closed}
 use Rattle.lone_work.proofs.Working.{ends_behind}
-use Rattle.child_end.specs.Wires.{AreWires, IsWire, WireValue, came, came_in}
+use Rattle.link_roles.specs.Wires.{WireValue}
+use Rattle.child_end.specs.Wires.{AreWires, IsWire, came, came_in}
 use Rattle.child_end.specs.Programs.{AddsAll, HaveStarted as HaveStartedSo, Leaves, ProgramsValue, is_failed_start, told}
 use Rattle.lone_rounds.specs.Starting.{AllOffer, AreSpent, children, is_any_start, is_elsewhere, is_offered, is_ready_untagged, started_in}
 use Rattle.lone_rounds.specs.Rounds.{AllLostWell, AllStandNext, EndsClosed, RanAlone, ZeroAnswers, ends_for_memory, is_of_run, last_again, left_answer, or_unserved, start_untaken}

@@ -20,7 +20,8 @@ use Rattle.gathering.specs.Tasks.{IsThrough, turns_by}
 use Rattle.task_run.specs.declared.setup.Setup.{Setup}
 use Rattle.lone_work.specs.Works.{CanWork, DeskTells, TaskDone, Worked, CausedInTurn, all_calls, turns_of}
 use Rattle.task_run.specs.declared.turn.TaskTurn.{TaskTurn}
-use Rattle.child_end.specs.Wires.{WireValue, IsHeld, IsOfStart, came}
+use Rattle.link_roles.specs.Wires.{WireValue}
+use Rattle.child_end.specs.Wires.{IsHeld, IsOfStart, came}
 use Rattle.child_end.specs.Programs.{ProgramsValue, AddsAll, RoseBy, is_failed_start, told}
 use Rattle.lone_rounds.specs.Starting.{AllOffer, AreEnded, AreSpent, children, is_any_start, is_elsewhere, is_offered, is_ready_untagged, is_spent}
 use Rattle.lone_rounds.specs.Rounds.{AllLostWell, AllStandNext, EndsClosed, HasRun, NoneUntaken, ends_for_memory, is_of_run}

@@ -1,12 +1,11 @@
 // The starts of a run: one child after the other.
-ghost use Rattle.std.specs.Prelude.{◌≡◌, ◌≤◌, ◌<◌, ◌+◌, ◌&&◌, ℕ, [], map, Some, is_some, option_map, true, false, MatchResult, vec_len, vec_capacity};
+ghost use Rattle.std.specs.Prelude.{◌≡◌, ◌≤◌, ◌<◌, ◌+◌, ◌&&◌, ℕ, [], Some, is_some, option_map, true, false, MatchResult, vec_len, vec_capacity};
 ghost use Rattle.annex_model.specs.Lines.{has_newline};
 ghost use Rattle.journal_model.specs.declared.answer.Answer.TheVariants.{NotPrepared};
 ghost use Rattle.journal_model.specs.Legality.{Legal, count, is_busy, is_start};
 ghost use Rattle.host_core.specs.Steps.{are_all_claimed};
 ghost use Rattle.task_run.specs.TaskRuns.{refused_at};
 ghost use Rattle.child_start.specs.Cores.{IsSameCore};
-ghost use Rattle.child_end.specs.Wires.{wire_value};
 ghost use Rattle.child_end.specs.Programs.{programs_value};
 ghost use Rattle.lone_work.specs.Works.{AreTasks, desk_tells};
 ghost use Rattle.lone_rounds.specs.Stints.{HasStarted, KeptOr, OneStart, Unstarted};
@@ -66,8 +65,13 @@ where
     requires folder { has_newline plan.now.setup.work ≡ false }
     requires room { vec_len wires.old < vec_capacity wires.old }
     ensures starts { MatchResult result
-        (λ next. OneStart core.old.opening plan.now.setup plan.now.starts offer next plan.now.program core.old.journal core.new.journal (desk_tells (K.log desk.old) (K.counts desk.old)) (desk_tells (K.log desk.new) (K.counts desk.new)) (programs_value (P.starts programs.old) (P.faults programs.old)) (programs_value (P.starts programs.new) (P.faults programs.new)) (map (wire_value P.Inlet.taken P.Inlet.faults P.Inlet.number P.Inlet.is_open P.Outlet.given P.Outlet.left P.Outlet.faults P.Outlet.number P.Outlet.is_open) wires.old.items) (map (wire_value P.Inlet.taken P.Inlet.faults P.Inlet.number P.Inlet.is_open P.Outlet.given P.Outlet.left P.Outlet.faults P.Outlet.number P.Outlet.is_open) wires.new.items))
-        (λ _. Unstarted plan.now.program core.old.journal core.new.journal (desk_tells (K.log desk.old) (K.counts desk.old)) (desk_tells (K.log desk.new) (K.counts desk.new)) (programs_value (P.starts programs.old) (P.faults programs.old)) (programs_value (P.starts programs.new) (P.faults programs.new)) (map (wire_value P.Inlet.taken P.Inlet.faults P.Inlet.number P.Inlet.is_open P.Outlet.given P.Outlet.left P.Outlet.faults P.Outlet.number P.Outlet.is_open) wires.old.items) (map (wire_value P.Inlet.taken P.Inlet.faults P.Inlet.number P.Inlet.is_open P.Outlet.given P.Outlet.left P.Outlet.faults P.Outlet.number P.Outlet.is_open) wires.new.items)) }
+        (λ next. OneStart core.old.opening plan.now.setup plan.now.starts offer next plan.now.program core.old.journal core.new.journal
+        (desk_tells (K.log desk.old) (K.counts desk.old)) (desk_tells (K.log desk.new) (K.counts desk.new))
+        (programs_value (P.starts programs.old) (P.faults programs.old)) (programs_value (P.starts programs.new) (P.faults programs.new))
+        wires.old.items wires.new.items)
+        (λ _. Unstarted plan.now.program core.old.journal core.new.journal (desk_tells (K.log desk.old) (K.counts desk.old))
+        (desk_tells (K.log desk.new) (K.counts desk.new)) (programs_value (P.starts programs.old) (P.faults programs.old))
+        (programs_value (P.starts programs.new) (P.faults programs.new)) wires.old.items wires.new.items) }
     ensures room { (vec_len wires.new ≤ vec_len wires.old + 1) × (vec_capacity wires.new ≡ vec_capacity wires.old) }
     ensures core { IsSameCore core.old core.new }
 {
@@ -131,7 +135,8 @@ where
     requires room { plan.now.starts ≤ vec_capacity wires.old }
     requires none { wires.old.items ≡ [] }
     ensures started { HasStarted core.old.opening plan.now.setup plan.now.offers plan.now.starts core.new.journal (desk_tells (K.log desk.old) (K.counts desk.old)) (desk_tells (K.log desk.new) (K.counts desk.new)) result }
-    ensures kept { KeptOr plan.now.program core.new.journal (programs_value (P.starts programs.old) (P.faults programs.old)) (programs_value (P.starts programs.new) (P.faults programs.new)) (map (wire_value P.Inlet.taken P.Inlet.faults P.Inlet.number P.Inlet.is_open P.Outlet.given P.Outlet.left P.Outlet.faults P.Outlet.number P.Outlet.is_open) wires.new.items) result }
+    ensures kept { KeptOr plan.now.program core.new.journal (programs_value (P.starts programs.old) (P.faults programs.old))
+        (programs_value (P.starts programs.new) (P.faults programs.new)) wires.new.items result }
     ensures core { IsSameCore core.old core.new }
 {
     let mut offer = plan.offers;

@@ -57,12 +57,11 @@ pub struct Ended<P: Programs> {
 impl<P: Programs> Model for Ended<P> {
     ghost use Rattle.std.specs.Prelude.{map};
     ghost use Rattle.child_end.specs.Programs.{programs_value};
-    ghost use Rattle.child_end.specs.Wires.{wire_value};
     ghost use Rattle.mirror_remote.specs.Mirrors.{EndedValue};
 
     ghost Value = { EndedValue };
 
-    ghost view = { λ e. record { programs = programs_value (P.starts e.programs) (P.faults e.programs); journals = map (λ j. j.entries) e.journals.items; wires = map (wire_value P.Inlet.taken P.Inlet.faults P.Inlet.number P.Inlet.is_open P.Outlet.given P.Outlet.left P.Outlet.faults P.Outlet.number P.Outlet.is_open) e.wires.items } };
+    ghost view = { λ e. record { programs = programs_value (P.starts e.programs) (P.faults e.programs); journals = map (λ j. j.entries) e.journals.items; wires = e.wires.items } };
 }
 
 impl<P: Programs> MirrorRemote<P>

@@ -7,7 +7,8 @@ use Rattle.journal_model.specs.Legality.{Legal}
 use Rattle.host_core.specs.CoreValue.{CoreValue}
 use Rattle.link_roles.specs.Alone.{Closes}
 use Rattle.link_roles.specs.Writings.{LoneWired}
-use Rattle.child_end.specs.Wires.{WireValue, IsLaid, came}
+use Rattle.link_roles.specs.Wires.{WireValue}
+use Rattle.child_end.specs.Wires.{IsLaid, came}
 use Rattle.mirror_children.specs.Children.{ChildValue, IsLinked}
 use Rattle.mirror_starts.specs.Stops.{LogValue, StoppedValue, AreSoundLogs, AreWired, IsUnwired, Stops, log_of}
 use Rattle.mirror_starts.proofs.Stopping.{no_child, one_child, sound_next, stops_so, wired_next}

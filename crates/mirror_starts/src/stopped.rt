@@ -1,7 +1,6 @@
 // Children that were stopped.
 ghost use Rattle.std.specs.Prelude.{◌≡◌, ◌≤◌, ◌<◌, ◌+◌, ◌++◌, ◌∷◌, [], IfOk, length, map, option_map, slice_get, vec_capacity, vec_len};
 ghost use Rattle.ann_outside.specs.Causes.{Stays};
-ghost use Rattle.child_end.specs.Wires.{wire_value};
 ghost use Rattle.mirror_children.specs.Children.{AreLinked, IsLinked};
 ghost use Rattle.mirror_starts.specs.Stops.{AreSoundLogs, AreWired, IsUnwired, Stops, StopsAll, log_of};
 
@@ -27,14 +26,13 @@ pub struct Stopped<I: Sink, O: Source> {
 
 impl<I: Sink, O: Source> Model for Stopped<I, O> {
     ghost use Rattle.std.specs.Prelude.{◌≡◌, ◌≤◌, ◌+◌, map, vec_capacity, vec_len};
-    ghost use Rattle.child_end.specs.Wires.{wire_value};
     ghost use Rattle.mirror_starts.specs.Stops.{AreSoundLogs, AreWired, StoppedValue, log_of};
 
     ghost Value = { StoppedValue };
 
-    ghost view = { λ s. record { logs = map log_of s.cores.items; wires = map (wire_value I.taken I.faults I.number I.is_open O.given O.left O.faults O.number O.is_open) s.wires.items; spare = s.spare } };
+    ghost view = { λ s. record { logs = map log_of s.cores.items; wires = s.wires.items; spare = s.spare } };
 
-    ghost invariant = { λ s. AreSoundLogs (map log_of s.cores.items) × AreWired (map log_of s.cores.items) (map (wire_value I.taken I.faults I.number I.is_open O.given O.left O.faults O.number O.is_open) s.wires.items)
+    ghost invariant = { λ s. AreSoundLogs (map log_of s.cores.items) × AreWired (map log_of s.cores.items) s.wires.items
         × (vec_len s.cores + s.spare ≤ vec_capacity s.cores) × (vec_len s.wires + s.spare ≤ vec_capacity s.wires) × (vec_len s.cores + s.spare ≤ vec_capacity s.journals) × (vec_len s.journals ≡ 0) };
 }
 
@@ -88,7 +86,7 @@ impl<I: Sink + Drop, O: Source + Drop> Stopped<I, O> {
     /// The journals, and the wires. It takes no memory.
     pub fn finish(self) -> (Vec<Journal>, Vec<Wire<I, O>>)
         ensures journals { map (λ j. j.entries) result.0.items ≡ map (λ l. l.journal) self.logs }
-        ensures wires { map (wire_value I.taken I.faults I.number I.is_open O.given O.left O.faults O.number O.is_open) result.1.items ≡ self.wires }
+        ensures wires { result.1.items ≡ self.wires }
         ensures sound { AreSoundLogs self.logs }
         ensures wired { AreWired self.logs self.wires }
     {

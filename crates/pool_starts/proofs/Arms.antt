@@ -21,7 +21,7 @@ use Rattle.link_roles.specs.Writings.{LoneWired}
 use Rattle.child_start.specs.Greetings.{AreNumbered, Greeted, IsReady, is_of_greeting}
 use Rattle.child_start.proofs.Jobs.{idle_on}
 use Rattle.child_end.specs.Programs.{ProgramsValue}
-use Rattle.child_end.specs.Wires.{WireValue}
+use Rattle.link_roles.specs.Wires.{WireValue}
 use Rattle.child_end.proofs.Held.{lone_held}
 use Rattle.lone_work.specs.KnownLayouts.{IsBook}
 use Rattle.gathering.specs.Rounds.{IsAtRest, LinkValue}

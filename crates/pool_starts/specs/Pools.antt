@@ -13,8 +13,8 @@ use Rattle.journal_model.specs.Journal.{any, is_ended}
 use Rattle.journal_model.specs.Legality.{count, is_prepared, is_start}
 use Rattle.journal_model.specs.Shares.{are_by}
 use Rattle.host_core.specs.Steps.{unclaimed}
-use Rattle.link_roles.specs.declared.wire.Wire.{Wire}
-use Rattle.child_end.specs.Wires.{WireValue, IsOfStart, came}
+use Rattle.link_roles.specs.Wires.{WireValue}
+use Rattle.child_end.specs.Wires.{IsOfStart, came}
 use Rattle.child_end.specs.Programs.{HaveStarted, ProgramsValue, RoseBy, is_failed_start}
 use Rattle.gathering.specs.Rounds.{LinkValue}
 use Rattle.crew_rounds.specs.Tagged.{link_of}
@@ -84,10 +84,10 @@ pub record GathersBy (wanted : Type 0) (program : List ℕ) (new later : List En
 
 -- ---- what gathering comes to
 
--- what a seat tells, where its wire tells so much
-abbrev pub seat_value : {I O S : Type 0} → (Wire I O → WireValue) → Seat I O S → SeatValue
-seat_value tells (Over wire) = OverBy (tells wire)
-seat_value tells (Serving stub) = Serves
+-- what a seat tells
+abbrev pub seat_value : {I O S : Type 0} → Seat I O S → SeatValue
+seat_value (Over wire) = OverBy wire
+seat_value (Serving stub) = Serves
 
 -- A pool was gathered after the child of slot 0, whose link is its first, as it was, and whose seat is its first. No more were seated
 -- than there are jobs.
@@ -105,9 +105,9 @@ pub record IsWithin (jobs links seats : ℕ) : Type 0 where
   pub each : links ≤ seats
   pub most : 0 < jobs → seats ≤ jobs
 
-abbrev pub PoolIs : {I O S : Type 0} {sinks : SinkGhosts I} {sources : SourceGhosts O} → Type 0 → Bool → (Wire I O → WireValue) → Opening → ℕ → List ℕ → List Entry → List Entry → LinkValue → ProgramsValue → ProgramsValue → Pool I O S sinks sources → Type 0
-PoolIs wanted whole tells o jobs program old new first before after pool =
-    IsPool wanted whole o jobs program old new first before after (map (seat_value tells) pool.seats.items) (map (λ l. link_of l.ear l.mouth) pool.links.items) × IsWithin jobs (vec_len pool.links) (vec_len pool.seats)
+abbrev pub PoolIs : {I O S : Type 0} {sinks : SinkGhosts I} {sources : SourceGhosts O} → Type 0 → Bool → Opening → ℕ → List ℕ → List Entry → List Entry → LinkValue → ProgramsValue → ProgramsValue → Pool I O S sinks sources → Type 0
+PoolIs wanted whole o jobs program old new first before after pool =
+    IsPool wanted whole o jobs program old new first before after (map seat_value pool.seats.items) (map (λ l. link_of l.ear l.mouth) pool.links.items) × IsWithin jobs (vec_len pool.links) (vec_len pool.seats)
 
 -- nothing was done, and the link is as it was
 pub record IsUngathered (old new : List Entry) (first link : LinkValue) (before after : ProgramsValue) : Type 0 where
@@ -116,7 +116,7 @@ pub record IsUngathered (old new : List Entry) (first link : LinkValue) (before 
   pub starts : Stays before.starts after.starts
   pub later_faults : before.faults ≤ after.faults
 
-abbrev pub GathersAs : {I O S : Type 0} {sinks : SinkGhosts I} {sources : SourceGhosts O} → (Wire I O → WireValue) → Opening → ℕ → List ℕ → List Entry → List Entry → LinkValue → ProgramsValue → ProgramsValue → Gathering I O S sinks sources → Type 0
-GathersAs tells o jobs program old new first before after (Whole pool) = PoolIs ⊥ true tells o jobs program old new first before after pool
-GathersAs tells o jobs program old new first before after (NoMemory pool) = PoolIs (Unit {0}) false tells o jobs program old new first before after pool
-GathersAs tells o jobs program old new first before after (NoRoom link stub) = IsUngathered old new first (link_of link.ear link.mouth) before after
+abbrev pub GathersAs : {I O S : Type 0} {sinks : SinkGhosts I} {sources : SourceGhosts O} → Opening → ℕ → List ℕ → List Entry → List Entry → LinkValue → ProgramsValue → ProgramsValue → Gathering I O S sinks sources → Type 0
+GathersAs o jobs program old new first before after (Whole pool) = PoolIs ⊥ true o jobs program old new first before after pool
+GathersAs o jobs program old new first before after (NoMemory pool) = PoolIs (Unit {0}) false o jobs program old new first before after pool
+GathersAs o jobs program old new first before after (NoRoom link stub) = IsUngathered old new first (link_of link.ear link.mouth) before after

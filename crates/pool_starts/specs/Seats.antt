@@ -10,7 +10,8 @@ use Rattle.journal_model.specs.Halves.{EarValue, MouthValue}
 use Rattle.journal_model.specs.Journal.{is_ended, open_jobs}
 use Rattle.journal_model.specs.Legality.{count, is_prepared}
 use Rattle.journal_model.specs.Shares.{are_by, is_of_child}
-use Rattle.child_end.specs.Wires.{IsLeft, WireValue, came}
+use Rattle.link_roles.specs.Wires.{IsLeft, WireValue}
+use Rattle.child_end.specs.Wires.{came}
 use Rattle.child_end.specs.Programs.{AddsAll, ProgramsValue, RoseBy, is_failed_start, told}
 use Rattle.gathering.specs.Rounds.{LinkValue}
 use Rattle.lone_rounds.specs.Rounds.{AllLostWell, is_of_run}

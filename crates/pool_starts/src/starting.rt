@@ -7,7 +7,6 @@ ghost use Rattle.link_roles.specs.Alone.{Closes};
 ghost use Rattle.link_roles.specs.Writings.{LoneWired};
 ghost use Rattle.child_start.specs.Cores.{IsSameCore};
 ghost use Rattle.child_end.specs.Programs.{programs_value};
-ghost use Rattle.child_end.specs.Wires.{wire_value};
 ghost use Rattle.crew_rounds.specs.Tagged.{link_of};
 ghost use Rattle.lone_work.specs.KnownLayouts.{IsBook};
 ghost use Rattle.gathering.specs.Rounds.{IsAtRest};
@@ -41,7 +40,7 @@ fn take_room<I: Sink + Drop, O: Source + Drop, S: Drop>(
 // A child that serves has its link and a seat after the others.
 fn seat_serving<I: Sink, O: Source, S>(pool: &mut Pool<I, O, S>, link: Lone<I, O>, stub: S)
     requires room { (vec_len pool.old.links < vec_capacity pool.old.links) × (vec_len pool.old.seats < vec_capacity pool.old.seats) }
-    ensures seats { map (seat_value (wire_value I.taken I.faults I.number I.is_open O.given O.left O.faults O.number O.is_open)) pool.new.seats.items ≡ map (seat_value (wire_value I.taken I.faults I.number I.is_open O.given O.left O.faults O.number O.is_open)) pool.old.seats.items ++ Serves ∷ [] }
+    ensures seats { map seat_value pool.new.seats.items ≡ map seat_value pool.old.seats.items ++ Serves ∷ [] }
     ensures links { map (λ l. link_of l.ear l.mouth) pool.new.links.items ≡ map (λ l. link_of l.ear l.mouth) pool.old.links.items ++ link_of link.ear link.mouth ∷ [] }
     ensures lengths { (vec_len pool.new.links ≡ vec_len pool.old.links + 1) × (vec_len pool.new.seats ≡ vec_len pool.old.seats + 1) }
     ensures room { (vec_capacity pool.new.links ≡ vec_capacity pool.old.links) × (vec_capacity pool.new.seats ≡ vec_capacity pool.old.seats) }
@@ -67,14 +66,17 @@ where
     requires room { vec_len pool.old.seats < vec_capacity pool.old.seats }
     ensures closes { Closes 0 link.ear.child core.old.journal core.new.journal }
     ensures wired { LoneWired core.new.journal link.ear link.mouth }
-    ensures over { SeatsOver link.ear link.mouth (programs_value (P.starts programs.old) (P.faults programs.old)) (programs_value (P.starts programs.new) (P.faults programs.new)) (map (seat_value (wire_value P.Inlet.taken P.Inlet.faults P.Inlet.number P.Inlet.is_open P.Outlet.given P.Outlet.left P.Outlet.faults P.Outlet.number P.Outlet.is_open)) pool.old.seats.items) (map (seat_value (wire_value P.Inlet.taken P.Inlet.faults P.Inlet.number P.Inlet.is_open P.Outlet.given P.Outlet.left P.Outlet.faults P.Outlet.number P.Outlet.is_open)) pool.new.seats.items) (map (λ l. link_of l.ear l.mouth) pool.old.links.items) (map (λ l. link_of l.ear l.mouth) pool.new.links.items) }
+    ensures over { SeatsOver link.ear link.mouth (programs_value (P.starts programs.old) (P.faults programs.old))
+        (programs_value (P.starts programs.new) (P.faults programs.new)) (map seat_value pool.old.seats.items) (map seat_value pool.new.seats.items)
+        (map (λ l. link_of l.ear l.mouth) pool.old.links.items) (map (λ l. link_of l.ear l.mouth) pool.new.links.items) }
     ensures lengths { (vec_len pool.new.links ≡ vec_len pool.old.links) × (vec_len pool.new.seats ≡ vec_len pool.old.seats + 1) }
     ensures room { (vec_capacity pool.new.links ≡ vec_capacity pool.old.links) × (vec_capacity pool.new.seats ≡ vec_capacity pool.old.seats) }
     ensures core { IsSameCore core.old core.new }
 {
     close_child(&link, core);
     let wire = link.finish();
-    wait_for(programs, &wire.inlet, &wire.outlet, stub);
+    let (inlet, outlet) = wire.halves();
+    wait_for(programs, inlet, outlet, stub);
     pool.seats.push_reserved(Seat::Over(wire));
 }
 
@@ -96,8 +98,12 @@ where
     requires few { count is_start core.old.journal < 4294967295 }
     requires room { (vec_len pool.old.links < vec_capacity pool.old.links) × (vec_len pool.old.seats < vec_capacity pool.old.seats) }
     ensures seats { MatchResult result
-        (λ _. SeatsOne core.old.opening program.now slot core.old.journal core.new.journal (programs_value (P.starts programs.old) (P.faults programs.old)) (programs_value (P.starts programs.new) (P.faults programs.new)) (map (seat_value (wire_value P.Inlet.taken P.Inlet.faults P.Inlet.number P.Inlet.is_open P.Outlet.given P.Outlet.left P.Outlet.faults P.Outlet.number P.Outlet.is_open)) pool.old.seats.items) (map (seat_value (wire_value P.Inlet.taken P.Inlet.faults P.Inlet.number P.Inlet.is_open P.Outlet.given P.Outlet.left P.Outlet.faults P.Outlet.number P.Outlet.is_open)) pool.new.seats.items) (map (λ l. link_of l.ear l.mouth) pool.old.links.items) (map (λ l. link_of l.ear l.mouth) pool.new.links.items))
-        (λ _. SeatsNone program.now core.old.journal core.new.journal (programs_value (P.starts programs.old) (P.faults programs.old)) (programs_value (P.starts programs.new) (P.faults programs.new)) (map (seat_value (wire_value P.Inlet.taken P.Inlet.faults P.Inlet.number P.Inlet.is_open P.Outlet.given P.Outlet.left P.Outlet.faults P.Outlet.number P.Outlet.is_open)) pool.old.seats.items) (map (seat_value (wire_value P.Inlet.taken P.Inlet.faults P.Inlet.number P.Inlet.is_open P.Outlet.given P.Outlet.left P.Outlet.faults P.Outlet.number P.Outlet.is_open)) pool.new.seats.items) (map (λ l. link_of l.ear l.mouth) pool.old.links.items) (map (λ l. link_of l.ear l.mouth) pool.new.links.items)) }
+        (λ _. SeatsOne core.old.opening program.now slot core.old.journal core.new.journal (programs_value (P.starts programs.old) (P.faults programs.old))
+        (programs_value (P.starts programs.new) (P.faults programs.new)) (map seat_value pool.old.seats.items) (map seat_value pool.new.seats.items)
+        (map (λ l. link_of l.ear l.mouth) pool.old.links.items) (map (λ l. link_of l.ear l.mouth) pool.new.links.items))
+        (λ _. SeatsNone program.now core.old.journal core.new.journal (programs_value (P.starts programs.old) (P.faults programs.old))
+        (programs_value (P.starts programs.new) (P.faults programs.new)) (map seat_value pool.old.seats.items) (map seat_value pool.new.seats.items)
+        (map (λ l. link_of l.ear l.mouth) pool.old.links.items) (map (λ l. link_of l.ear l.mouth) pool.new.links.items)) }
     ensures room { (vec_capacity pool.new.links ≡ vec_capacity pool.old.links) × (vec_capacity pool.new.seats ≡ vec_capacity pool.old.seats) }
     ensures core { IsSameCore core.old core.new }
 {
@@ -152,7 +158,8 @@ where
     requires since { is_unclaimed_since core.old.journal ≡ true }
     requires last_child { link.ear.child ≡ count is_start core.old.journal }
     requires can { PoolCan core.old.opening core.old.journal (link_of link.ear link.mouth ∷ []) }
-    ensures gathers { GathersAs (wire_value P.Inlet.taken P.Inlet.faults P.Inlet.number P.Inlet.is_open P.Outlet.given P.Outlet.left P.Outlet.faults P.Outlet.number P.Outlet.is_open) core.old.opening jobs program.now core.old.journal core.new.journal (link_of link.ear link.mouth) (programs_value (P.starts programs.old) (P.faults programs.old)) (programs_value (P.starts programs.new) (P.faults programs.new)) result }
+    ensures gathers { GathersAs core.old.opening jobs program.now core.old.journal core.new.journal (link_of link.ear link.mouth)
+        (programs_value (P.starts programs.old) (P.faults programs.old)) (programs_value (P.starts programs.new) (P.faults programs.new)) result }
     ensures core { IsSameCore core.old core.new }
 {
     let most = jobs.min(core.unclaimed()).max(1);

@@ -1,8 +1,9 @@
 -- Where the halves of all children count no fault, the journal tells of none.
-use Rattle.std.proofs.Common.{◌≡◌, ◌≤◌, ◌<◌, ℕ, suc, ◌+◌, List, [], ◌∷◌, ◌++◌, refl, sym, ap, subst, ◌∙◌, Bool, true, false, not, cond, None, Some, Option, arith, map}
-use Rattle.std.specs.Prelude.{◌-◌, ◌^◌, ◌==◌, ◌&&◌, ◌||◌, filter, min}
-use Rattle.std.specs.List.{list_all, list_any, cons_option}
+use Rattle.std.proofs.Common.{◌≡◌, ◌≤◌, ◌<◌, ℕ, suc, ◌+◌, List, [], ◌∷◌, ◌++◌, refl, sym, ap, subst, ◌∙◌, Bool, true, false, not, cond, None, Some, Option, arith}
+use Rattle.std.specs.Prelude.{◌-◌, ◌^◌, ◌==◌, ◌&&◌, ◌||◌, All, filter, min}
+use Rattle.std.specs.List.{AllByRecursion, list_all, list_any, cons_option}
 use Rattle.std.specs.Option.{option_or}
+use Rattle.std.proofs.lemmas.List.Elements.{recursion_from_All}
 use Rattle.ann_outside.specs.Starts.{Starts}
 use Rattle.journal_model.specs.declared.verdict.Why.{Why}
 use Rattle.journal_model.specs.declared.verdict.Why.TheVariants.{Eof, ReadFault, LongLine, Full, Memory, Closed, Foul, Error, Version}
@@ -20,9 +21,9 @@ use Rattle.journal_model.proofs.Linking.{why_alone, why_of-append}
 use Rattle.journal_model.proofs.Looks.{any-append}
 use Rattle.journal_model.proofs.Soft.{is_soft}
 use Rattle.child_end.specs.Programs.{RoseBy, is_failed_start}
-use Rattle.child_end.specs.Wires.{AreWires, IsWire, WireValue, came, came_in, wire_value}
-use Rattle.link_roles.specs.declared.wire.Wire.{Wire}
-use Rattle.rehearse_run.specs.Rehearsals.{is_fault}
+use Rattle.link_roles.specs.Wires.{WireValue}
+use Rattle.child_end.specs.Wires.{AreWires, IsWire, came, came_in}
+use Rattle.rehearse_run.specs.Rehearsals.{IsQuiet, is_fault}
 use Rattle.ann_key.proofs.Booleans.{true_and_false as not_both, left_false as either_left, right_false as either_right}
 use Rattle.journal_model.proofs.Bounds.{due_soft}
 use Rattle.std.proofs.lemmas.Bool.{and_parts as both, eqb-true as same_number}
@@ -127,11 +128,6 @@ none_of_all (e ∷ journal) a b c =
 
 -- ---- the wires
 
--- neither half counted a fault
-abbrev pub AreQuiet : List WireValue → Type 0
-AreQuiet [] = Unit {0}
-AreQuiet (wire ∷ wires) = (wire.read_faults ≡ 0) × (wire.write_faults ≡ 0) × AreQuiet wires
-
 abbrev pub has_child : ℕ → List (Option ℕ) → Bool
 has_child c [] = false
 has_child c (None ∷ cs) = has_child c cs
@@ -149,23 +145,23 @@ came_of (e ∷ journal) c = here e.what (came_of journal c)
 abbrev pub IsSilent : List Entry → ℕ → Type 0
 IsSilent journal c = (why_of journal c ≡ Some ReadFault → ⊥) × (is_mute journal c ≡ false)
 
-silent : (starts : Option Starts) (journal : List Entry) (n : ℕ) (wire : WireValue) → wire.read_faults ≡ 0 → wire.write_faults ≡ 0 → IsWire starts journal n wire → IsSilent journal wire.child
-silent starts journal n wire reads writes is =
-    ((λ h. let more : 0 < wire.read_faults = is.caused.read h in let bad : 0 < 0 = subst (λ (k : ℕ). 0 < k) reads more in omega (arith, bad)), muted (is_mute journal wire.child) refl)
+silent : (starts : Option Starts) (journal : List Entry) (n : ℕ) (wire : WireValue) → IsQuiet wire → IsWire starts journal n wire → IsSilent journal wire.child
+silent starts journal n wire quiet is =
+    ((λ h. let more : 0 < wire.read_faults = is.caused.read h in let bad : 0 < 0 = subst (λ (k : ℕ). 0 < k) quiet.0 more in omega (arith, bad)), muted (is_mute journal wire.child) refl)
   where
     muted : (b : Bool) → is_mute journal wire.child ≡ b → is_mute journal wire.child ≡ false
     muted false h = h
-    muted true h = let more : 0 < wire.write_faults = is.caused.mute h in let bad : 0 < 0 = subst (λ (k : ℕ). 0 < k) writes more in absurd (let no : ⊥ = omega (arith, bad) in no)
+    muted true h = let more : 0 < wire.write_faults = is.caused.mute h in let bad : 0 < 0 = subst (λ (k : ℕ). 0 < k) quiet.1 more in absurd (let no : ⊥ = omega (arith, bad) in no)
 
-pub wires_silent : (starts : Option Starts) (journal : List Entry) (n : ℕ) (cs : List (Option ℕ)) (wires : List WireValue) → AreWires starts journal n cs wires → AreQuiet wires
+pub wires_silent : (starts : Option Starts) (journal : List Entry) (n : ℕ) (cs : List (Option ℕ)) (wires : List WireValue) → AreWires starts journal n cs wires → AllByRecursion IsQuiet wires
     → (c : ℕ) → has_child c cs ≡ true → IsSilent journal c
 wires_silent starts journal n [] wires h quiet c there = absurd (let bad : false ≡ true = there in cc)
 wires_silent starts journal n (None ∷ cs) wires h quiet c there = wires_silent starts journal (n + 1) cs wires h quiet c there
 wires_silent starts journal n (Some d ∷ cs) [] h quiet c there = absurd h
-wires_silent starts journal n (Some d ∷ cs) (wire ∷ wires) h quiet c there = here (d == c) refl (λ k. wires_silent starts journal (n + 1) cs wires h.2 quiet.2 c k)
+wires_silent starts journal n (Some d ∷ cs) (wire ∷ wires) h quiet c there = here (d == c) refl (λ k. wires_silent starts journal (n + 1) cs wires h.2 quiet.1 c k)
   where
     here : (b : Bool) → (d == c) ≡ b → (has_child c cs ≡ true → IsSilent journal c) → IsSilent journal c
-    here true e rest = subst (IsSilent journal) (h.0 ∙ same_number d c e) (silent starts journal (n + 1) wire quiet.0 quiet.1 h.1)
+    here true e rest = subst (IsSilent journal) (h.0 ∙ same_number d c e) (silent starts journal (n + 1) wire quiet.0 h.1)
     here false e rest = rest (subst (λ (b : Bool). (b || has_child c cs) ≡ true) e there)
 
 -- ---- the starts
@@ -190,7 +186,7 @@ none_failed journal before after rose first last =
 
 -- ---- the journal
 
-pub faultless : (o : Opening) (journal : List Entry) (starts : Option Starts) (wires : List WireValue) (before after : ℕ) → Legal o journal → AreWires starts journal 0 (came journal) wires → AreQuiet wires
+pub faultless : (o : Opening) (journal : List Entry) (starts : Option Starts) (wires : List WireValue) (before after : ℕ) → Legal o journal → AreWires starts journal 0 (came journal) wires → All IsQuiet wires
     → RoseBy (count is_failed_start journal) before after → before ≡ 0 → after ≡ 0 → any is_fault journal ≡ false
 faultless o journal starts wires before after legal laid quiet rose first last =
     none_of_all journal (none_failed journal before after rose first last) (no_mute journal (λ c. (each c).1)) (no_read_fault o journal legal (λ c. (each c).0))
@@ -199,7 +195,7 @@ faultless o journal starts wires before after legal laid quiet rose first last =
     each c = here (is_started journal c) refl
       where
         here : (b : Bool) → is_started journal c ≡ b → IsSilent journal c
-        here true e = wires_silent starts journal 0 (came journal) wires laid quiet c (sym (came_of journal c) ∙ e)
+        here true e = wires_silent starts journal 0 (came journal) wires laid (recursion_from_All IsQuiet wires quiet) c (sym (came_of journal c) ∙ e)
         here false e =
             let nothing = fresh o journal legal c e in
             ((λ h. let bad : None ≡ Some ReadFault = sym nothing.ends ∙ h in absurd cc), nothing.mutes)

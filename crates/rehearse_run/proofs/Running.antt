@@ -1,5 +1,5 @@
 -- From what the workers did to what a rehearsal comes to.
-use Rattle.std.proofs.Common.{◌≡◌, ◌⊎◌, ℕ, List, [], ◌∷◌, refl, sym, ap, subst, inl, inr, Bool, true, false, Option, map, replicate, Ok, Err}
+use Rattle.std.proofs.Common.{◌≡◌, ◌⊎◌, ℕ, List, [], sym, subst, inl, inr, Bool, true, false, replicate, Ok, Err}
 use Rattle.std.specs.Prelude.{Result}
 use Rattle.ann_key.specs.declared.bytes.NoMemory.{NoMemory}
 use Rattle.journal_model.specs.declared.answer.Answer.{Answer}
@@ -10,8 +10,6 @@ use Rattle.journal_model.proofs.Projecting.{parts_fit}
 use Rattle.host_core.specs.Steps.{are_all_claimed}
 use Rattle.task_run.specs.declared.setup.Setup.{Setup}
 use Rattle.lone_work.specs.Works.{DeskTells}
-use Rattle.child_end.specs.Wires.{wire_value}
-use Rattle.link_roles.specs.declared.wire.Wire.{Wire}
 use Rattle.job_rounds.specs.JobRuns.{RanJobs}
 use Rattle.job_rounds.proofs.Succeeding.{jobs_keep, jobs_succeed}
 use Rattle.run_answers.specs.Answering.{AreAllAnswered}
@@ -20,15 +18,6 @@ use Rattle.lone_rounds.specs.Rounds.{IsWhole}
 use Rattle.rehearse_run.specs.Rehearsals.{EndsRun, Finds, HasRun, IsRunOf, is_fault, setup, untold}
 use Rattle.rehearse_run.specs.declared.made.RehearsalEnd.{RehearsalEnd}
 use Rattle.rehearse_run.specs.declared.made.RehearsalEnd.TheVariants.{Memory, Done}
-use Rattle.rehearse_run.proofs.Faultless.{AreQuiet}
-
--- halves that count no fault leave wires that count none
-pub quiet_wires : {I O : Type 0} (taken : I → Option (List ℕ)) (write_faults : I → ℕ) (inlet_number : I → Option ℕ) (is_inlet_open : I → Bool) (given left : O → Option (List ℕ)) (read_faults : O → ℕ)
-    (outlet_number : O → Option ℕ) (is_outlet_open : O → Bool) → ((i : I) → write_faults i ≡ 0) → ((o : O) → read_faults o ≡ 0) → (wires : List (Wire I O))
-    → AreQuiet (map (wire_value taken write_faults inlet_number is_inlet_open given left read_faults outlet_number is_outlet_open) wires)
-quiet_wires taken write_faults inlet_number is_inlet_open given left read_faults outlet_number is_outlet_open w r [] = tt
-quiet_wires taken write_faults inlet_number is_inlet_open given left read_faults outlet_number is_outlet_open w r (wire ∷ wires) =
-    (r wire.outlet, w wire.inlet, quiet_wires taken write_faults inlet_number is_inlet_open given left read_faults outlet_number is_outlet_open w r wires)
 
 pub run_of : (o : Opening) (s : Setup) (may : Bool) (limit : ℕ) (journal : List Entry) (before after : List DeskTells) → s ≡ setup → may ≡ true → limit ≡ 1 → before ≡ replicate 4 untold
     → any is_fault journal ≡ false → RanJobs o s may limit journal before after → IsRunOf o journal

@@ -14,6 +14,7 @@ use Rattle.journal_model.specs.Projection.{JobFits}
 use Rattle.journal_audit.specs.Audits.{IsAudit}
 use Rattle.journal_audit.specs.declared.found.Audit.{Audit}
 use Rattle.host_core.specs.Steps.{are_all_claimed}
+use Rattle.link_roles.specs.Wires.{WireValue}
 use Rattle.task_run.specs.declared.setup.Setup.{Setup}
 use Rattle.lone_work.specs.Works.{DeskTells, desk_tells}
 use Rattle.job_rounds.specs.JobRuns.{RanJobs}
@@ -44,6 +45,10 @@ untold = desk_tells None no_counts
 -- no value counts any
 abbrev pub CountsNone : {X : Type 0} → (X → ℕ) → Type 0
 CountsNone {X} counts = (x : X) → counts x ≡ 0
+
+-- neither half of the wire counted a fault
+abbrev pub IsQuiet : WireValue → Type 0
+IsQuiet wire = (wire.read_faults ≡ 0) × (wire.write_faults ≡ 0)
 
 -- a start that gave no child, a child that can't be written to, or one that can't be read from
 abbrev pub is_fault : What → Bool

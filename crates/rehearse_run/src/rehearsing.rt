@@ -1,5 +1,5 @@
 // The run of a rehearsal, and what is found of its journal.
-ghost use Rattle.std.specs.Prelude.{◌≡◌, ◌≤◌, IfOk, map, replicate, vec_len};
+ghost use Rattle.std.specs.Prelude.{◌≡◌, ◌≤◌, All, IfOk, map, replicate, vec_len};
 ghost use Rattle.ann_outside.specs.Desks.{no_counts};
 ghost use Rattle.journal_model.specs.Beginnings.{MayBegin};
 ghost use Rattle.journal_audit.specs.Audits.{IsAudit};
@@ -8,19 +8,20 @@ ghost use Rattle.run_answers.specs.Answers.{AreAnswers};
 ghost use Rattle.rehearse_plan.specs.Plans.{opening_of};
 ghost use Rattle.rehearse_plan.specs.declared.tasks.TheConstants.{MOST_TASKS};
 ghost use Rattle.lone_work.specs.Works.{desk_tells};
-ghost use Rattle.rehearse_run.specs.Rehearsals.{CountsNone, EndsRun, Finds, HasRehearsed, HasRun, IsReady, untold};
+ghost use Rattle.rehearse_run.specs.Rehearsals.{CountsNone, EndsRun, Finds, HasRehearsed, HasRun, IsQuiet, IsReady, untold};
 
 use crate::made::{RehearsalEnd, Rehearsed};
 use crate::ready::{Ready, WORKERS, prepare};
 use crate::remotes::Remotes;
 use ann_key::NoMemory;
-use ann_outside::{Desk, Desks, Programs};
+use ann_outside::{Desk, Desks, Programs, Sink, Source};
 use host_core::Core;
 use job_rounds::{Bench, run_jobs};
 use journal_audit::{Audit, audit};
 use journal_look::Journal;
 use journal_model::Answer;
 use kit_memory::KitPrograms;
+use link_roles::Wire;
 use rehearse_plan::{MOST_TASKS, files_of};
 use run_answers::answers_of;
 use shared_desks::{SharedDesk, SharedDesks};
@@ -84,6 +85,16 @@ fn finish(alloc: Global, core: Core) -> Rehearsed
     }
 }
 
+// Halves that count no fault leave wires that count none. Clauses see of a wire what it told, so each is looked at.
+fn look_at<I: Sink, O: Source>(wires: &[Wire<I, O>])
+    requires { CountsNone I.faults × CountsNone O.faults }
+    ensures { All IsQuiet wires.now }
+{
+    'looks: for wire in wires {
+        let (_inlet, _outlet) = wire.halves();
+    }
+}
+
 // Does the tasks over programs none of whose calls fails, and gives the core back. The wires are let go.
 fn do_tasks<P: Programs, K: Desk + Send + Drop, R: Threads + Wait + Sync>(
     rt: &R,
@@ -110,6 +121,7 @@ where
     let Ready { core, plan, tasks } = ready;
     let bench = Bench { core, desks: crew };
     let (bench, ran) = run_jobs(rt, alloc, programs, &plan, tasks.view(), bench, &mut wires);
+    look_at(&wires);
     (bench.core, ran)
 }
 

@@ -8,7 +8,8 @@ use Rattle.ann_outside.specs.Causes.{AddsOne, Stays}
 use Rattle.ann_outside.specs.Desks.{Made}
 use Rattle.journal_model.specs.declared.entry.Entry.{Entry}
 use Rattle.journal_model.specs.Legality.{count}
-use Rattle.child_end.specs.Wires.{WireValue, AreWires, came}
+use Rattle.link_roles.specs.Wires.{WireValue}
+use Rattle.child_end.specs.Wires.{AreWires, came}
 use Rattle.child_end.specs.Programs.{ProgramsValue, told, AddsAll, HaveStarted, Leaves, RoseBy, is_failed_start}
 use Rattle.lone_rounds.proofs.Leaving.{rose_still}
 use Rattle.child_end.specs.Outsides.{TableValue}

@@ -32,7 +32,7 @@ use Rattle.journal_model.specs.Projection.{JobFits}
 use Rattle.host_core.specs.Books.{notes_after}
 use Rattle.host_core.specs.Settings.{registers_after}
 use Rattle.host_core.specs.Steps.{are_all_claimed}
-use Rattle.child_end.specs.Wires.{WireValue}
+use Rattle.link_roles.specs.Wires.{WireValue}
 use Rattle.child_end.specs.Programs.{Leaves}
 use Rattle.child_end.specs.Outsides.{OutsideValue, TableValue}
 use Rattle.lone_work.specs.Works.{DeskTells, desk_tells}

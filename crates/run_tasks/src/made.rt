@@ -38,7 +38,6 @@ pub struct Made<P: Programs, K: Desks> {
 
 impl<P: Programs, K: Desks> Model for Made<P, K> {
     ghost use Rattle.std.specs.Prelude.{map};
-    ghost use Rattle.child_end.specs.Wires.{wire_value};
     ghost use Rattle.child_end.specs.Outsides.{table_value};
     ghost use Rattle.run_tasks.specs.Runs.{MadeValue};
 
@@ -47,8 +46,7 @@ impl<P: Programs, K: Desks> Model for Made<P, K> {
     ghost view = { λ m. record {
       journal = m.journal.entries;
       answers = m.answers.items;
-      wires =
-          map (wire_value P.Inlet.taken P.Inlet.faults P.Inlet.number P.Inlet.is_open P.Outlet.given P.Outlet.left P.Outlet.faults P.Outlet.number P.Outlet.is_open) m.wires.items;
+      wires = m.wires.items;
       tables = map (table_value K.Desk.counts K.Desk.files K.Desk.log) m.tables.items;
       end = m.end;
     } };

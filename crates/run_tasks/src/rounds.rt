@@ -5,7 +5,6 @@ ghost use Rattle.journal_model.specs.Beginnings.{MayBegin};
 ghost use Rattle.child_end.specs.Outsides.{table_value};
 ghost use Rattle.desk_file.specs.Names.{NamesOnly};
 ghost use Rattle.child_end.specs.Programs.{Leaves, programs_value};
-ghost use Rattle.child_end.specs.Wires.{wire_value};
 ghost use Rattle.lone_work.specs.Works.{desk_tells};
 ghost use Rattle.run_tasks.specs.Runs.{AreFresh, IsRunFile};
 ghost use Rattle.run_tasks.specs.Workings.{AddsWorkers, EndsWork, GoesOn, IsPrepared};
@@ -137,8 +136,7 @@ where
     ensures crew { vec_len result.crew ≡ setting.now.words.now.jobs }
     ensures origins { map (λ k. log_origin (D.log k)) result.crew.items ≡ map (λ k. log_origin (D.log k)) crew.items }
     ensures leaves { Leaves (result.end ≡ Memory) setting.now.words.now.program result.journal.entries
-        (programs_value (P.starts programs.old) (P.faults programs.old)) (programs_value (P.starts programs.new) (P.faults programs.new))
-        (map (wire_value P.Inlet.taken P.Inlet.faults P.Inlet.number P.Inlet.is_open P.Outlet.given P.Outlet.left P.Outlet.faults P.Outlet.number P.Outlet.is_open) wires.new.items) }
+        (programs_value (P.starts programs.old) (P.faults programs.old)) (programs_value (P.starts programs.new) (P.faults programs.new)) wires.new.items }
 {
     let alloc = setting.alloc;
     let Ready { core, plan, tasks } = ready;
@@ -196,8 +194,7 @@ where
     ensures calls { NamesOnly (IsRunFile setting.now.words.now) (K.Desk.log desk.old) (K.Desk.log desk.new) }
     ensures desks { AddsWorkers setting.now.words.now.jobs (K.made desks.old) (K.made desks.new) (map (table_value K.Desk.counts K.Desk.files K.Desk.log) result.crew.items) }
     ensures leaves { Leaves (result.end ≡ Memory) setting.now.words.now.program result.journal.entries
-        (programs_value (P.starts programs.old) (P.faults programs.old)) (programs_value (P.starts programs.new) (P.faults programs.new))
-        (map (wire_value P.Inlet.taken P.Inlet.faults P.Inlet.number P.Inlet.is_open P.Outlet.given P.Outlet.left P.Outlet.faults P.Outlet.number P.Outlet.is_open) wires.new.items) }
+        (programs_value (P.starts programs.old) (P.faults programs.old)) (programs_value (P.starts programs.new) (P.faults programs.new)) wires.new.items }
 {
     let mut crew = crew;
     let Ok(()) = ask_desks(desks, setting.words.jobs, &mut crew) else {
@@ -233,8 +230,7 @@ where
     ensures calls { NamesOnly (IsRunFile setting.now.words.now) (K.Desk.log desk.old) (K.Desk.log desk.new) }
     ensures desks { AddsWorkers setting.now.words.now.jobs (K.made desks.old) (K.made desks.new) (map (table_value K.Desk.counts K.Desk.files K.Desk.log) result.crew.items) }
     ensures leaves { Leaves (result.end ≡ Memory) setting.now.words.now.program result.journal.entries
-        (programs_value (P.starts programs.old) (P.faults programs.old)) (programs_value (P.starts programs.new) (P.faults programs.new))
-        (map (wire_value P.Inlet.taken P.Inlet.faults P.Inlet.number P.Inlet.is_open P.Outlet.given P.Outlet.left P.Outlet.faults P.Outlet.number P.Outlet.is_open) wires.new.items) }
+        (programs_value (P.starts programs.old) (P.faults programs.old)) (programs_value (P.starts programs.new) (P.faults programs.new)) wires.new.items }
 {
     match begun {
         Ok(opening) => work(setting, opening, programs, desks, desk, crew, wires),

@@ -18,7 +18,7 @@ use Rattle.child_end.specs.Wires.{came_in, came, is_served_alone, IsOfStart, IsW
 use Rattle.child_end.specs.Programs.{told_in, told, AddsAll, HaveStarted, Leaves, RoseBy, is_failed_start}
 use Rattle.lone_rounds.proofs.Leaving.{rose_still, of_start, adds_stays, stays_none}
 use Rattle.special_cli.specs.Objects.{OneIsLeft}
-use Rattle.child_end.specs.Wires.{WireValue}
+use Rattle.link_roles.specs.Wires.{WireValue}
 use Rattle.child_end.specs.Programs.{ProgramsValue}
 use Rattle.special_cli.proofs.Looking.{through}
 use Rattle.child_end.proofs.Across.{adds_one as adds_all, adds_none}

@@ -2,7 +2,7 @@
 use Rattle.std.specs.Prelude.{ℕ, ◌≡◌, List, []}
 use Rattle.journal_model.specs.declared.answer.Answer.{Answer}
 use Rattle.journal_model.specs.declared.entry.Entry.{Entry}
-use Rattle.child_end.specs.Wires.{WireValue}
+use Rattle.link_roles.specs.Wires.{WireValue}
 use Rattle.child_end.specs.Outsides.{OutsideValue, TableValue}
 use Rattle.special_cli.specs.declared.end.End.{End}
 

@@ -19,11 +19,19 @@ pub struct Closing<P: Programs, K: Desks> {
 
 impl<P: Programs, K: Desks> Model for Closing<P, K> {
     ghost use Rattle.std.specs.Prelude.{map};
-    ghost use Rattle.child_end.specs.Wires.{wire_value};
     ghost use Rattle.child_end.specs.Outsides.{table_value};
     ghost use Rattle.special_cli.specs.Left.{ClosingValue};
 
     ghost Value = { ClosingValue };
 
-    ghost view = { λ c. record { status = c.status; left = record { outside = record { programs = record { starts = P.starts c.programs; faults = P.faults c.programs }; made = K.made c.desks }; journal = c.journal.entries; answers = c.answers.items; wires = map (wire_value P.Inlet.taken P.Inlet.faults P.Inlet.number P.Inlet.is_open P.Outlet.given P.Outlet.left P.Outlet.faults P.Outlet.number P.Outlet.is_open) c.wires.items; tables = map (table_value K.Desk.counts K.Desk.files K.Desk.log) c.tables.items } } };
+    ghost view = { λ c. record {
+      status = c.status;
+      left = record {
+        outside = record { programs = record { starts = P.starts c.programs; faults = P.faults c.programs }; made = K.made c.desks };
+        journal = c.journal.entries;
+        answers = c.answers.items;
+        wires = c.wires.items;
+        tables = map (table_value K.Desk.counts K.Desk.files K.Desk.log) c.tables.items;
+      };
+    } };
 }

@@ -1,12 +1,11 @@
 // The command `init`: a remote is set up, and what it is set to is kept.
 mod asking;
 
-ghost use Rattle.std.specs.Prelude.{◌≡◌, ◌<◌, [], map, IfOk, Ok, vec_capacity};
+ghost use Rattle.std.specs.Prelude.{◌≡◌, ◌<◌, [], IfOk, Ok, vec_capacity};
 ghost use Rattle.ann_outside.specs.Desks.{no_counts};
 ghost use Rattle.desk_file.specs.Names.{NamesOnly};
 ghost use Rattle.init_run.specs.Setups.{Begins};
 ghost use Rattle.special_cli.specs.declared.end.End.TheVariants.{Memory};
-ghost use Rattle.child_end.specs.Wires.{wire_value};
 ghost use Rattle.child_end.specs.Programs.{programs_value};
 ghost use Rattle.child_end.specs.Outsides.{table_value};
 ghost use Rattle.child_end.specs.Programs.{Leaves};
@@ -134,7 +133,8 @@ where
     requires room { (wires.old.items ≡ []) × (0 < vec_capacity wires.old) }
     ensures ends { EndsInit words.now (D.files desk.old) (table_value D.counts D.files D.log desk.new) result.journal.entries result.end }
     ensures calls { NamesOnly (IsInitFile words.now) (D.log desk.old) (D.log desk.new) }
-    ensures leaves { Leaves (result.end ≡ Memory) words.now.program result.journal.entries (programs_value (P.starts programs.old) (P.faults programs.old)) (programs_value (P.starts programs.new) (P.faults programs.new)) (map (wire_value P.Inlet.taken P.Inlet.faults P.Inlet.number P.Inlet.is_open P.Outlet.given P.Outlet.left P.Outlet.faults P.Outlet.number P.Outlet.is_open) wires.new.items) }
+    ensures leaves { Leaves (result.end ≡ Memory) words.now.program result.journal.entries (programs_value (P.starts programs.old) (P.faults programs.old))
+        (programs_value (P.starts programs.new) (P.faults programs.new)) wires.new.items }
 {
     match begin(alloc, words, desk) {
         Ok(Begun::Ready(opening)) => run(alloc, words, opening, programs, desk, wires),
@@ -162,7 +162,8 @@ where
     requires room { (wires.old.items ≡ []) × (0 < vec_capacity wires.old) }
     ensures ends { EndsInit words.now (D.files desk.old) (table_value D.counts D.files D.log desk.new) result.journal.entries result.end }
     ensures calls { NamesOnly (IsInitFile words.now) (D.log desk.old) (D.log desk.new) }
-    ensures leaves { Leaves (result.end ≡ Memory) words.now.program result.journal.entries (programs_value (P.starts programs.old) (P.faults programs.old)) (programs_value (P.starts programs.new) (P.faults programs.new)) (map (wire_value P.Inlet.taken P.Inlet.faults P.Inlet.number P.Inlet.is_open P.Outlet.given P.Outlet.left P.Outlet.faults P.Outlet.number P.Outlet.is_open) wires.new.items) }
+    ensures leaves { Leaves (result.end ≡ Memory) words.now.program result.journal.entries (programs_value (P.starts programs.old) (P.faults programs.old))
+        (programs_value (P.starts programs.new) (P.faults programs.new)) wires.new.items }
 {
     let Ok(mut core) = Core::new(alloc, opening) else {
         return nothing_made(alloc, End::Memory);

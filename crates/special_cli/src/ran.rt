@@ -25,13 +25,21 @@ pub(crate) struct Ran<P: Programs, K: Desks> {
 
 impl<P: Programs, K: Desks> Model for Ran<P, K> {
     ghost use Rattle.std.specs.Prelude.{map};
-    ghost use Rattle.child_end.specs.Wires.{wire_value};
     ghost use Rattle.child_end.specs.Outsides.{table_value};
     ghost use Rattle.special_cli.specs.Left.{RanValue};
 
     ghost Value = { RanValue };
 
-    ghost view = { λ r. record { left = record { outside = r.outside; journal = r.journal.entries; answers = r.answers.items; wires = map (wire_value P.Inlet.taken P.Inlet.faults P.Inlet.number P.Inlet.is_open P.Outlet.given P.Outlet.left P.Outlet.faults P.Outlet.number P.Outlet.is_open) r.wires.items; tables = map (table_value K.Desk.counts K.Desk.files K.Desk.log) r.tables.items }; end = r.end } };
+    ghost view = { λ r. record {
+      left = record {
+        outside = r.outside;
+        journal = r.journal.entries;
+        answers = r.answers.items;
+        wires = r.wires.items;
+        tables = map (table_value K.Desk.counts K.Desk.files K.Desk.log) r.tables.items;
+      };
+      end = r.end;
+    } };
 }
 
 impl<P: Programs, K: Desks> Ran<P, K> {

@@ -1,10 +1,9 @@
 // One start of the program, and what its child says of itself.
-ghost use Rattle.std.specs.Prelude.{◌≡◌, ◌<◌, [], true, map, IfSome, IfOk, IsErr, option_map, vec_capacity};
+ghost use Rattle.std.specs.Prelude.{◌≡◌, ◌<◌, [], true, IfSome, IfOk, IsErr, option_map, vec_capacity};
 ghost use Rattle.ann_key.specs.KeyRefs.{text_of};
 ghost use Rattle.annex_model.specs.Messages.{is_sent_key};
 ghost use Rattle.child_start.specs.Cores.{IsSameCore};
 ghost use Rattle.special_cli.specs.Informs.{IsAsked, IsComplete};
-ghost use Rattle.child_end.specs.Wires.{wire_value};
 ghost use Rattle.child_end.specs.Programs.{programs_value};
 ghost use Rattle.child_end.specs.Programs.{Leaves};
 ghost use Rattle.special_cli.specs.Interviews.{Interviewed};
@@ -87,7 +86,8 @@ where
     requires room { (wires.old.items ≡ []) × (0 < vec_capacity wires.old) }
     ensures asked { IsAsked (option_map text_of key.entry) core.new.journal }
     ensures complete { IfOk result (λ _. IsComplete (option_map text_of key.entry) core.new.journal) }
-    ensures leaves { Leaves (IsErr result) program.now core.new.journal (programs_value (P.starts programs.old) (P.faults programs.old)) (programs_value (P.starts programs.new) (P.faults programs.new)) (map (wire_value P.Inlet.taken P.Inlet.faults P.Inlet.number P.Inlet.is_open P.Outlet.given P.Outlet.left P.Outlet.faults P.Outlet.number P.Outlet.is_open) wires.new.items) }
+    ensures leaves { Leaves (IsErr result) program.now core.new.journal (programs_value (P.starts programs.old) (P.faults programs.old))
+        (programs_value (P.starts programs.new) (P.faults programs.new)) wires.new.items }
     ensures core { IsSameCore core.old core.new }
 {
     match hold_interview(alloc, program, key, programs, core) {

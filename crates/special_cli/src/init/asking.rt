@@ -1,8 +1,7 @@
 // One start of the program, and what its child says of being set up.
-ghost use Rattle.std.specs.Prelude.{◌≡◌, ◌<◌, [], Some, map, IfOk, IsErr, vec_capacity};
+ghost use Rattle.std.specs.Prelude.{◌≡◌, ◌<◌, [], Some, IfOk, IsErr, vec_capacity};
 ghost use Rattle.child_start.specs.Cores.{IsSameCore};
 ghost use Rattle.init_run.specs.Setups.{outcome_of};
-ghost use Rattle.child_end.specs.Wires.{wire_value};
 ghost use Rattle.child_end.specs.Programs.{programs_value};
 ghost use Rattle.child_end.specs.Programs.{Leaves};
 ghost use Rattle.special_cli.specs.Setups.{IsSetup, IsTalked};
@@ -82,7 +81,8 @@ where
     requires room { (wires.old.items ≡ []) × (0 < vec_capacity wires.old) }
     ensures asked { IsSetup core.new.journal }
     ensures outcome { IfOk result (λ setup. outcome_of core.new.journal ≡ Some setup) }
-    ensures leaves { Leaves (IsErr result) program.now core.new.journal (programs_value (P.starts programs.old) (P.faults programs.old)) (programs_value (P.starts programs.new) (P.faults programs.new)) (map (wire_value P.Inlet.taken P.Inlet.faults P.Inlet.number P.Inlet.is_open P.Outlet.given P.Outlet.left P.Outlet.faults P.Outlet.number P.Outlet.is_open) wires.new.items) }
+    ensures leaves { Leaves (IsErr result) program.now core.new.journal (programs_value (P.starts programs.old) (P.faults programs.old))
+        (programs_value (P.starts programs.new) (P.faults programs.new)) wires.new.items }
     ensures core { IsSameCore core.old core.new }
 {
     match hold_talk(alloc, program, programs, core) {

@@ -1,6 +1,5 @@
 use Rattle.std.proofs.Common.{◌≡◌, ◌≤◌, ◌+◌, vec_len, vec_capacity}
 use Rattle.ann_outside.specs.Causes.{Stays}
-use Rattle.child_end.specs.Wires.{wire_value}
 use Rattle.crew_rounds.specs.Tagged.{link_of}
 use Rattle.pool_starts.specs.Pools.{seat_value}
 use Rattle.job_rounds.proofs.PoolLinks.{Laying}
@@ -8,8 +7,7 @@ use Rattle.job_rounds.proofs.pooling.settle.Given as goal
 
 abbrev pub invariant-seats : goal.invariant-seats
 invariant-seats g l = record {
-  laying : Laying (wire_value g.P.Inlet.Sink.taken g.P.Inlet.Sink.faults g.P.Inlet.Sink.number g.P.Inlet.Sink.is_open g.P.Outlet.Source.given g.P.Outlet.Source.left g.P.Outlet.Source.faults g.P.Outlet.Source.number g.P.Outlet.Source.is_open)
-      (seat_value (wire_value g.P.Inlet.Sink.taken g.P.Inlet.Sink.faults g.P.Inlet.Sink.number g.P.Inlet.Sink.is_open g.P.Outlet.Source.given g.P.Outlet.Source.left g.P.Outlet.Source.faults g.P.Outlet.Source.number g.P.Outlet.Source.is_open))
+  laying : Laying seat_value
       (λ x. link_of x.ear x.mouth) l.initial.seats.items l.seats.items l.initial.links.items l.links.items l.initial.wires.items l.wires.items;
   room : (vec_len l.wires + vec_len l.seats ≡ vec_len l.initial.wires + vec_len l.initial.seats) × (vec_capacity l.wires ≡ vec_capacity l.initial.wires);
   starts : Stays (g.P.Programs.starts l.initial.programs) (g.P.Programs.starts l.programs);

@@ -1,10 +1,9 @@
 use Rattle.std.proofs.Common.{◌+◌, arith, inl, inr, map, subst, sym, ap, refl, ◌∙◌, List, length, true, vec_len}
 use Rattle.std.proofs.lemmas.Nat.{mul-le}
-use Rattle.std.proofs.lemmas.List.{length-map}
 use Rattle.journal_model.specs.declared.opening.Opening.{Opening}
 use Rattle.journal_model.specs.Legality.{Legal}
 use Rattle.host_core.specs.Steps.{are_all_claimed}
-use Rattle.child_end.specs.Wires.{WireValue, wire_value}
+use Rattle.link_roles.specs.Wires.{WireValue}
 use Rattle.child_end.specs.Programs.{ProgramsValue, programs_value}
 use Rattle.lone_work.specs.Works.{DeskTells, desk_tells}
 use Rattle.lone_rounds.proofs.Ending.{cores_both, kept_begin, left_nothing, left_some}
@@ -17,7 +16,7 @@ use Rattle.ann_key.proofs.Numbers.{one_more}
 pub children-init : goal.children-init
 children-init g c = record {
   between = jobs_begin c.args.bench.core.opening c.args.plan.now.setup c.args.plan.now.offers c.args.plan.now.starts c.args.bench.core.journal (map (λ k. desk_tells (g.K.Desk.log k) (g.K.Desk.counts k)) c.args.bench.desks.items) true c.requires.empty;
-  kept = kept_begin c.args.plan.now.program c.args.bench.core.journal (programs_value (g.P.Programs.starts c.args.programs.now) (g.P.Programs.faults c.args.programs.now)) (map (wire_value g.P.Inlet.Sink.taken g.P.Inlet.Sink.faults g.P.Inlet.Sink.number g.P.Inlet.Sink.is_open g.P.Outlet.Source.given g.P.Outlet.Source.left g.P.Outlet.Source.faults g.P.Outlet.Source.number g.P.Outlet.Source.is_open) c.args.wires.now.items) c.requires.empty (ap (map _) c.requires.none);
+  kept = kept_begin c.args.plan.now.program c.args.bench.core.journal (programs_value (g.P.Programs.starts c.args.programs.now) (g.P.Programs.faults c.args.programs.now)) c.args.wires.now.items c.requires.empty c.requires.none;
   core = record { opening = refl; legal = λ h. h };
   room = ((let none = c.args.wires.now.ok.0 ∙ ap (λ (xs : List _). length xs) c.requires.none in omega (arith, none)), refl);
   desks = refl;
@@ -51,7 +50,7 @@ start_one-after-requires-clause-calm g c = λ κs fresh. at_rest c.children.inva
 
 pub start_one-after-requires-clause-few : goal.start_one-after-requires-clause-few
 start_one-after-requires-clause-few g c = λ κs fresh. (
-    let many = wires_many c.children.invariant.kept ∙ length-map c.children.wires.items _ ∙ sym c.children.wires.ok.0 in
+    let many = wires_many c.children.invariant.kept ∙ sym c.children.wires.ok.0 in
     let used = c.children.invariant.room.0 in
     let below = c.children-test.true in
     let end = c.children.auto.made-end in
@@ -93,8 +92,8 @@ returns-in-Err-clause-started g c =
     let start : ProgramsValue = (programs_value (g.P.Programs.starts c.args.programs.now) (g.P.Programs.faults c.args.programs.now)) in
     let before : ProgramsValue = (programs_value (g.P.Programs.starts c.children.programs) (g.P.Programs.faults c.children.programs)) in
     let after : ProgramsValue = (programs_value (g.P.Programs.starts c.start_one-after.new.programs) (g.P.Programs.faults c.start_one-after.new.programs)) in
-    let wires : List WireValue = (map (wire_value g.P.Inlet.Sink.taken g.P.Inlet.Sink.faults g.P.Inlet.Sink.number g.P.Inlet.Sink.is_open g.P.Outlet.Source.given g.P.Outlet.Source.left g.P.Outlet.Source.faults g.P.Outlet.Source.number g.P.Outlet.Source.is_open) c.children.wires.items) in
-    let wires' : List WireValue = (map (wire_value g.P.Inlet.Sink.taken g.P.Inlet.Sink.faults g.P.Inlet.Sink.number g.P.Inlet.Sink.is_open g.P.Outlet.Source.given g.P.Outlet.Source.left g.P.Outlet.Source.faults g.P.Outlet.Source.number g.P.Outlet.Source.is_open) c.start_one-after.new.wires.items) in
+    let wires : List WireValue = c.children.wires.items in
+    let wires' : List WireValue = c.start_one-after.new.wires.items in
     broken_started o p c.args.plan.now.setup c.args.plan.now.offers c.args.plan.now.starts c.children.made c.children.offer c.args.plan.now.program cur new desks0 desks desks' before after wires wires' same_opening c.children.invariant.between
     (at_err _ _ c.start_one-after.result.1 c.in-Err.field-0 c.in-Err.is c.start_one-after.ensures.starts) legal
     (let below = c.children-test.true in let end = c.children.auto.made-end in omega (arith, below, end))
@@ -113,8 +112,8 @@ returns-in-Err-clause-kept g c =
     let start : ProgramsValue = (programs_value (g.P.Programs.starts c.args.programs.now) (g.P.Programs.faults c.args.programs.now)) in
     let before : ProgramsValue = (programs_value (g.P.Programs.starts c.children.programs) (g.P.Programs.faults c.children.programs)) in
     let after : ProgramsValue = (programs_value (g.P.Programs.starts c.start_one-after.new.programs) (g.P.Programs.faults c.start_one-after.new.programs)) in
-    let wires : List WireValue = (map (wire_value g.P.Inlet.Sink.taken g.P.Inlet.Sink.faults g.P.Inlet.Sink.number g.P.Inlet.Sink.is_open g.P.Outlet.Source.given g.P.Outlet.Source.left g.P.Outlet.Source.faults g.P.Outlet.Source.number g.P.Outlet.Source.is_open) c.children.wires.items) in
-    let wires' : List WireValue = (map (wire_value g.P.Inlet.Sink.taken g.P.Inlet.Sink.faults g.P.Inlet.Sink.number g.P.Inlet.Sink.is_open g.P.Outlet.Source.given g.P.Outlet.Source.left g.P.Outlet.Source.faults g.P.Outlet.Source.number g.P.Outlet.Source.is_open) c.start_one-after.new.wires.items) in
+    let wires : List WireValue = c.children.wires.items in
+    let wires' : List WireValue = c.start_one-after.new.wires.items in
     broken_kept o p c.args.plan.now.setup c.args.plan.now.offers c.args.plan.now.starts c.children.made c.children.offer c.args.plan.now.program cur new desks0 desks desks' start before after wires wires' same_opening c.children.invariant.between c.children.invariant.kept
     (at_err _ _ c.start_one-after.result.1 c.in-Err.field-0 c.in-Err.is c.start_one-after.ensures.starts)
 
@@ -138,8 +137,8 @@ children-preserved g c =
     let start : ProgramsValue = (programs_value (g.P.Programs.starts c.args.programs.now) (g.P.Programs.faults c.args.programs.now)) in
     let before : ProgramsValue = (programs_value (g.P.Programs.starts c.children.programs) (g.P.Programs.faults c.children.programs)) in
     let after : ProgramsValue = (programs_value (g.P.Programs.starts c.start_one-after.new.programs) (g.P.Programs.faults c.start_one-after.new.programs)) in
-    let wires : List WireValue = (map (wire_value g.P.Inlet.Sink.taken g.P.Inlet.Sink.faults g.P.Inlet.Sink.number g.P.Inlet.Sink.is_open g.P.Outlet.Source.given g.P.Outlet.Source.left g.P.Outlet.Source.faults g.P.Outlet.Source.number g.P.Outlet.Source.is_open) c.children.wires.items) in
-    let wires' : List WireValue = (map (wire_value g.P.Inlet.Sink.taken g.P.Inlet.Sink.faults g.P.Inlet.Sink.number g.P.Inlet.Sink.is_open g.P.Outlet.Source.given g.P.Outlet.Source.left g.P.Outlet.Source.faults g.P.Outlet.Source.number g.P.Outlet.Source.is_open) c.start_one-after.new.wires.items) in
+    let wires : List WireValue = c.children.wires.items in
+    let wires' : List WireValue = c.start_one-after.new.wires.items in
     let after_one = next_job_start o p c.args.plan.now.setup c.args.plan.now.offers c.args.plan.now.starts c.children.made c.children.offer c.in-Ok.next true c.args.plan.now.program cur new desks0 desks desks' start before after wires wires'
     same_opening c.children.invariant.between c.children.invariant.kept (at_ok _ _ c.start_one-after.result.1 c.in-Ok.next c.in-Ok.is c.start_one-after.ensures.starts) legal in
     record {

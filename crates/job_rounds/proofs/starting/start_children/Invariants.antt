@@ -1,6 +1,5 @@
 use Rattle.std.proofs.Common.{◌≡◌, ◌≤◌, ◌*◌, map, true, vec_len, vec_capacity}
 use Rattle.child_start.specs.Cores.{IsSameCore}
-use Rattle.child_end.specs.Wires.{wire_value}
 use Rattle.child_end.specs.Programs.{programs_value}
 use Rattle.lone_work.specs.Works.{desk_tells}
 use Rattle.lone_rounds.specs.Stints.{Kept}
@@ -11,7 +10,7 @@ abbrev pub invariant-children : goal.invariant-children
 invariant-children g l = record {
   between : JobsBetween l.initial.bench.core.opening l.plan.setup l.plan.offers l.plan.starts l.made l.offer l.bench.core.journal (map (λ k. desk_tells (g.K.Desk.log k) (g.K.Desk.counts k)) l.initial.bench.desks.items) (map (λ k. desk_tells (g.K.Desk.log k) (g.K.Desk.counts k)) l.bench.desks.items) true;
   kept : Kept l.plan.program l.bench.core.journal (programs_value (g.P.Programs.starts l.initial.programs) (g.P.Programs.faults l.initial.programs)) (programs_value (g.P.Programs.starts l.programs) (g.P.Programs.faults l.programs))
-      (map (wire_value g.P.Inlet.Sink.taken g.P.Inlet.Sink.faults g.P.Inlet.Sink.number g.P.Inlet.Sink.is_open g.P.Outlet.Source.given g.P.Outlet.Source.left g.P.Outlet.Source.faults g.P.Outlet.Source.number g.P.Outlet.Source.is_open) l.wires.items);
+      l.wires.items;
   core : IsSameCore l.initial.bench.core l.bench.core;
   room : (vec_len l.wires ≤ l.made * vec_len l.initial.bench.desks) × (vec_capacity l.wires ≡ vec_capacity l.initial.wires);
   desks : vec_len l.bench.desks ≡ vec_len l.initial.bench.desks;

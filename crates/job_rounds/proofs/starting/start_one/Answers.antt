@@ -9,7 +9,7 @@ use Rattle.journal_model.specs.declared.entry.What.TheVariants.{Start, NoStart}
 use Rattle.journal_model.specs.declared.opening.Opening.{Opening}
 use Rattle.journal_model.specs.Legality.{Legal}
 use Rattle.child_end.specs.Programs.{ProgramsValue, programs_value}
-use Rattle.child_end.specs.Wires.{WireValue, wire_value}
+use Rattle.link_roles.specs.Wires.{WireValue}
 use Rattle.child_end.proofs.Held.{lone_held}
 use Rattle.lone_work.specs.KnownLayouts.{IsBook}
 use Rattle.lone_work.specs.Works.{DeskTells, desk_tells}
@@ -87,8 +87,8 @@ returns-in-Ok-clause-starts g c =
     let before : ProgramsValue = programs_value (g.P.Programs.starts c.args.programs.now) (g.P.Programs.faults c.args.programs.now) in
     let between : ProgramsValue = programs_value (g.P.Programs.starts c.greet.new.programs) (g.P.Programs.faults c.greet.new.programs) in
     let after : ProgramsValue = programs_value (g.P.Programs.starts c.serve_child-bench.new.programs) (g.P.Programs.faults c.serve_child-bench.new.programs) in
-    let wires : List WireValue = (map (wire_value g.P.Inlet.Sink.taken g.P.Inlet.Sink.faults g.P.Inlet.Sink.number g.P.Inlet.Sink.is_open g.P.Outlet.Source.given g.P.Outlet.Source.left g.P.Outlet.Source.faults g.P.Outlet.Source.number g.P.Outlet.Source.is_open) c.args.wires.now.items) in
-    let wires' : List WireValue = (map (wire_value g.P.Inlet.Sink.taken g.P.Inlet.Sink.faults g.P.Inlet.Sink.number g.P.Inlet.Sink.is_open g.P.Outlet.Source.given g.P.Outlet.Source.left g.P.Outlet.Source.faults g.P.Outlet.Source.number g.P.Outlet.Source.is_open) c.serve_child-bench.new.wires.items) in
+    let wires : List WireValue = c.args.wires.now.items in
+    let wires' : List WireValue = c.serve_child-bench.new.wires.items in
     let r = c.serve_child-bench.result.1 in
     let served = subst (λ (w : Opening). FirstServed (IsErr r) w c.args.plan.now.setup c.args.plan.now.starts c.args.plan.now.program mid new desks desks' (is_ok r) c.in-Ready.link.ear c.in-Ready.link.mouth between after wires wires') c.greet.ensures.core.opening c.serve_child-bench.ensures.served in
     let adds : AddsOne before.starts between.starts (c.args.plan.now.program, true) = subst (λ (p : List ℕ). AddsOne before.starts between.starts (p, true)) c.view-program.ensures c.in-Ready.ensures.starts in
@@ -108,8 +108,8 @@ returns-in-Err-clause-starts g c =
     let before : ProgramsValue = programs_value (g.P.Programs.starts c.args.programs.now) (g.P.Programs.faults c.args.programs.now) in
     let between : ProgramsValue = programs_value (g.P.Programs.starts c.greet.new.programs) (g.P.Programs.faults c.greet.new.programs) in
     let after : ProgramsValue = programs_value (g.P.Programs.starts c.serve_child-bench.new.programs) (g.P.Programs.faults c.serve_child-bench.new.programs) in
-    let wires : List WireValue = (map (wire_value g.P.Inlet.Sink.taken g.P.Inlet.Sink.faults g.P.Inlet.Sink.number g.P.Inlet.Sink.is_open g.P.Outlet.Source.given g.P.Outlet.Source.left g.P.Outlet.Source.faults g.P.Outlet.Source.number g.P.Outlet.Source.is_open) c.args.wires.now.items) in
-    let wires' : List WireValue = (map (wire_value g.P.Inlet.Sink.taken g.P.Inlet.Sink.faults g.P.Inlet.Sink.number g.P.Inlet.Sink.is_open g.P.Outlet.Source.given g.P.Outlet.Source.left g.P.Outlet.Source.faults g.P.Outlet.Source.number g.P.Outlet.Source.is_open) c.serve_child-bench.new.wires.items) in
+    let wires : List WireValue = c.args.wires.now.items in
+    let wires' : List WireValue = c.serve_child-bench.new.wires.items in
     let r = c.serve_child-bench.result.1 in
     let served = subst (λ (w : Opening). FirstServed (IsErr r) w c.args.plan.now.setup c.args.plan.now.starts c.args.plan.now.program mid new desks desks' (is_ok r) c.in-Ready.link.ear c.in-Ready.link.mouth between after wires wires') c.greet.ensures.core.opening c.serve_child-bench.ensures.served in
     let adds : AddsOne before.starts between.starts (c.args.plan.now.program, true) = subst (λ (p : List ℕ). AddsOne before.starts between.starts (p, true)) c.view-program.ensures c.in-Ready.ensures.starts in

@@ -1,9 +1,8 @@
-use Rattle.std.proofs.Common.{arith, inl, inr, map, subst, sym, ap, ◌∙◌}
+use Rattle.std.proofs.Common.{arith, inl, inr, subst, sym, ap, ◌∙◌}
 use Rattle.std.proofs.lemmas.Result.{MatchResult-from_err}
 use Rattle.journal_model.specs.declared.opening.Opening.{Opening}
 use Rattle.journal_model.specs.Legality.{Legal}
 use Rattle.host_core.specs.Steps.{are_all_claimed}
-use Rattle.child_end.specs.Wires.{wire_value}
 use Rattle.child_end.specs.Programs.{programs_value}
 use Rattle.lone_work.specs.Works.{desk_tells}
 use Rattle.lone_rounds.proofs.Ending.{cores_both, few_starts, left_nothing, left_some, next_start}
@@ -39,8 +38,8 @@ children-preserved g c =
     let after = next_start o c.children.core.opening c.args.plan.now.setup c.args.plan.now.offers c.args.plan.now.starts c.children.made c.children.offer c.in_ok-offer.offer c.args.plan.now.program cur new
     (desk_tells (g.K.Desk.log c.args.desk.now) (g.K.Desk.counts c.args.desk.now)) (desk_tells (g.K.Desk.log c.children.desk) (g.K.Desk.counts c.children.desk)) (desk_tells (g.K.Desk.log c.start_one.new.desk) (g.K.Desk.counts c.start_one.new.desk))
     (programs_value (g.P.Programs.starts c.args.programs.now) (g.P.Programs.faults c.args.programs.now)) (programs_value (g.P.Programs.starts c.children.programs) (g.P.Programs.faults c.children.programs)) (programs_value (g.P.Programs.starts c.start_one.new.programs) (g.P.Programs.faults c.start_one.new.programs))
-    (map (wire_value g.P.Inlet.Sink.taken g.P.Inlet.Sink.faults g.P.Inlet.Sink.number g.P.Inlet.Sink.is_open g.P.Outlet.Source.given g.P.Outlet.Source.left g.P.Outlet.Source.faults g.P.Outlet.Source.number g.P.Outlet.Source.is_open) c.children.wires.items)
-    (map (wire_value g.P.Inlet.Sink.taken g.P.Inlet.Sink.faults g.P.Inlet.Sink.number g.P.Inlet.Sink.is_open g.P.Outlet.Source.given g.P.Outlet.Source.left g.P.Outlet.Source.faults g.P.Outlet.Source.number g.P.Outlet.Source.is_open) c.start_one.new.wires.items)
+    c.children.wires.items
+    c.start_one.new.wires.items
     same_opening c.children.invariant.between c.children.invariant.kept c.in_ok-offer.ensures.starts legal in
     record {
       between = after.0;

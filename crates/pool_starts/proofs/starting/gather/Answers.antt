@@ -3,7 +3,6 @@ use Rattle.std.proofs.lemmas.List.{length-map}
 use Rattle.journal_model.specs.declared.opening.Opening.{Opening}
 use Rattle.journal_model.specs.Legality.{Legal}
 use Rattle.child_end.specs.Programs.{programs_value}
-use Rattle.child_end.specs.Wires.{wire_value}
 use Rattle.crew_rounds.specs.Tagged.{link_of}
 use Rattle.lone_rounds.proofs.Ending.{cores_both}
 use Rattle.pool_starts.specs.Pools.{Serves, seat_value}
@@ -12,11 +11,10 @@ use Rattle.pool_starts.proofs.starting.gather.Goals as goal
 
 pub slots-init : goal.slots-init
 slots-init g c =
-    let value = seat_value {S = g.row.P-Stub.Denot} (wire_value g.P.Inlet.Sink.taken g.P.Inlet.Sink.faults g.P.Inlet.Sink.number g.P.Inlet.Sink.is_open g.P.Outlet.Source.given g.P.Outlet.Source.left g.P.Outlet.Source.faults g.P.Outlet.Source.number g.P.Outlet.Source.is_open) in
     record {
       standing = begins_as c.args.core.now.opening c.args.jobs c.args.program.now c.args.core.now.journal (link_of c.args.link.ear c.args.link.mouth) (programs_value (g.P.Programs.starts c.args.programs.now) (g.P.Programs.faults c.args.programs.now)) c.requires.can
           _ _ c.requires.pool c.requires.last c.requires.since c.requires.last_child c.args.link.one_child
-          (c.seat_serving.ensures.seats ∙ ap (λ xs. map value xs ++ Serves ∷ []) c.in-Ok.ensures.none.1)
+          (c.seat_serving.ensures.seats ∙ ap (λ xs. map seat_value xs ++ Serves ∷ []) c.in-Ok.ensures.none.1)
           (c.seat_serving.ensures.links ∙ ap (λ ls. map (λ l. link_of l.ear l.mouth) ls ++ link_of c.args.link.ear c.args.link.mouth ∷ []) c.in-Ok.ensures.none.0);
       core = record { opening = refl; legal = λ l. l };
       room = (

@@ -1,7 +1,9 @@
 use Rattle.std.proofs.Common.{◌∙◌, sym, subst}
+use Rattle.std.specs.Prelude.{All}
 use Rattle.lone_work.specs.Works.{AreTasks}
+use Rattle.rehearse_run.specs.Rehearsals.{IsQuiet}
 use Rattle.rehearse_run.proofs.Faultless.{faultless}
-use Rattle.rehearse_run.proofs.Running.{has_run, quiet_wires, run_of}
+use Rattle.rehearse_run.proofs.Running.{has_run, run_of}
 use Rattle.rehearse_run.proofs.rehearsing.do_tasks.Goals as goal
 use Rattle.lone_work.proofs.Across.{all_tasks}
 
@@ -20,5 +22,5 @@ returns-clause-ran g c =
     has_run o journal c.run_jobs-bench.result.1
     (run_of o plan.setup plan.offers plan.starts journal _ _ c.requires.ready.setup_is c.requires.ready.offers c.requires.ready.starts c.requires.fresh
     (faultless o journal _ _ (g.P.Programs.faults c.args.programs.now) (g.P.Programs.faults c.run_jobs-bench.new.programs) ran.legal leaves.wired
-    (quiet_wires _ _ _ _ _ _ _ _ _ c.requires.sound.1 c.requires.sound.2 c.run_jobs-bench.new.wires.items) leaves.faults (c.requires.sound.0 c.args.programs.now) (c.requires.sound.0 c.run_jobs-bench.new.programs))
+    (subst (All IsQuiet) c.deref.ensures.value c.look_at.ensures) leaves.faults (c.requires.sound.0 c.args.programs.now) (c.requires.sound.0 c.run_jobs-bench.new.programs))
     ran) c.run_jobs-bench.ensures.whole

@@ -1,7 +1,6 @@
 use Rattle.std.proofs.Common.{map, ap, inr}
 use Rattle.ann_outside.specs.DeskCauses.{Counts}
 use Rattle.child_end.specs.Outsides.{table_value}
-use Rattle.child_end.specs.Wires.{wire_value}
 use Rattle.run_tasks.specs.Inputs.{input_flow}
 use Rattle.run_tasks.specs.Runs.{MadeValue}
 use Rattle.run_tasks.proofs.Begun.{may_begin_all}
@@ -34,9 +33,7 @@ returns g c =
     let made : MadeValue = record {
       journal = c.go_on-worked.result.journal.entries;
       answers = c.go_on-worked.result.answers.items;
-      wires =
-          map (wire_value g.P.Inlet.Sink.taken g.P.Inlet.Sink.faults g.P.Inlet.Sink.number g.P.Inlet.Sink.is_open g.P.Outlet.Source.given g.P.Outlet.Source.left g.P.Outlet.Source.faults g.P.Outlet.Source.number g.P.Outlet.Source.is_open)
-          c.go_on-worked.new.wires.items;
+      wires = c.go_on-worked.new.wires.items;
       tables = map value c.all_desks.result.items;
       end = c.go_on-worked.result.end;
     } in

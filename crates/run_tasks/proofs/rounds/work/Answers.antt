@@ -1,4 +1,4 @@
-use Rattle.std.proofs.Common.{refl, ◌∙◌, map, sym, ap}
+use Rattle.std.proofs.Common.{refl, ◌∙◌, map, sym}
 use Rattle.std.proofs.lemmas.List.{length-map}
 use Rattle.child_end.specs.Outsides.{table_value}
 use Rattle.child_end.specs.Programs.{programs_value}
@@ -9,12 +9,12 @@ use Rattle.run_tasks.proofs.rounds.work.Goals as goal
 
 pub returns-in_default-clause-leaves : goal.returns-in_default-clause-leaves
 returns-in_default-clause-leaves g c =
-    leaves_nothing _ (programs_value (g.P.Programs.starts c.args.programs.now) (g.P.Programs.faults c.args.programs.now)) c.args.setting.now.words.now.program c.nothing.result.journal.entries _ c.nothing.ensures.journal (ap (map _) c.requires.none)
+    leaves_nothing _ (programs_value (g.P.Programs.starts c.args.programs.now) (g.P.Programs.faults c.args.programs.now)) c.args.setting.now.words.now.program c.nothing.result.journal.entries _ c.nothing.ensures.journal c.requires.none
 
 pub returns-in_default-prepare-clause-leaves : goal.returns-in_default-prepare-clause-leaves
 returns-in_default-prepare-clause-leaves g c =
     leaves_nothing _ (programs_value (g.P.Programs.starts c.args.programs.now) (g.P.Programs.faults c.args.programs.now)) c.args.setting.now.words.now.program c.nothing-in_default-prepare.result.journal.entries _
-    c.nothing-in_default-prepare.ensures.journal (ap (map _) c.requires.none)
+    c.nothing-in_default-prepare.ensures.journal c.requires.none
 
 pub returns-clause-desks : goal.returns-clause-desks
 returns-clause-desks g c =

@@ -1,4 +1,4 @@
-use Rattle.std.proofs.Common.{◌≡◌, ◌∙◌, List, Option, map, refl, sym, ap, subst, rules, arith}
+use Rattle.std.proofs.Common.{◌≡◌, ◌∙◌, List, Option, refl, sym, ap, subst, rules, arith}
 use Rattle.ann_outside.specs.Calls.{Log}
 use Rattle.desk_file.specs.Names.{NamesOnly}
 use Rattle.desk_file.proofs.Naming.{names_none}
@@ -19,7 +19,7 @@ use Rattle.journal_model.proofs.Across.{nothing_legal}
 pub returns-in_default-clause-leaves : goal.returns-in_default-clause-leaves
 returns-in_default-clause-leaves g c =
     leaves_nothing _ (programs_value (g.P.Programs.starts c.args.programs.now) (g.P.Programs.faults c.args.programs.now)) (programs_value (g.P.Programs.starts c.args.programs.now) (g.P.Programs.faults c.args.programs.now)) c.args.words.now.program
-    c.nothing_made.result.journal.entries _ refl c.nothing_made.ensures.0 (ap (map _) c.requires.room.0)
+    c.nothing_made.result.journal.entries _ refl c.nothing_made.ensures.0 c.requires.room.0
 
 pub returns-clause-ends : goal.returns-clause-ends
 returns-clause-ends g c =

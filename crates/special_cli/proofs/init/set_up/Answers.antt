@@ -1,4 +1,4 @@
-use Rattle.std.proofs.Common.{map, refl, ap, inl}
+use Rattle.std.proofs.Common.{refl, inl}
 use Rattle.desk_file.proofs.Naming.{names_both, names_wider}
 use Rattle.child_end.specs.Programs.{programs_value}
 use Rattle.child_end.specs.Outsides.{table_value}
@@ -14,7 +14,7 @@ returns-in-Ok-Ready-clause-ends g c =
 pub returns-in-Err-clause-leaves : goal.returns-in-Err-clause-leaves
 returns-in-Err-clause-leaves g c =
     leaves_nothing _ (programs_value (g.P.Programs.starts c.args.programs.now) (g.P.Programs.faults c.args.programs.now)) (programs_value (g.P.Programs.starts c.args.programs.now) (g.P.Programs.faults c.args.programs.now)) c.args.words.now.program
-    c.nothing_made-in-Err.result.journal.entries _ refl c.nothing_made-in-Err.ensures.0 (ap (map _) c.requires.room.0)
+    c.nothing_made-in-Err.result.journal.entries _ refl c.nothing_made-in-Err.ensures.0 c.requires.room.0
 
 pub returns-in-Ok-Ready-clause-calls : goal.returns-in-Ok-Ready-clause-calls
 returns-in-Ok-Ready-clause-calls g c = names_both (names_wider (λ other is. inl is) c.in-Ok-Ready.ensures.calls) c.run.ensures.calls

@@ -1,6 +1,5 @@
 use Rattle.std.proofs.Common.{map, refl, subst, sym}
 use Rattle.child_end.specs.Programs.{programs_value}
-use Rattle.child_end.specs.Wires.{wire_value}
 use Rattle.mirror_starts.specs.Stops.{AreWired}
 use Rattle.mirror_remote.specs.Mirrors.{EndedValue, Finishes}
 use Rattle.mirror_starts.specs.Outcomes.{MirrorValue}
@@ -14,12 +13,11 @@ stop_all-requires-clause-linked g c κs within = linked_serving c.self.inside.ch
 pub returns : goal.returns
 returns g c =
     let i = c.self.inside in
-    let value = wire_value g.P.Inlet.Sink.taken g.P.Inlet.Sink.faults g.P.Inlet.Sink.number g.P.Inlet.Sink.is_open g.P.Outlet.Source.given g.P.Outlet.Source.left g.P.Outlet.Source.faults g.P.Outlet.Source.number g.P.Outlet.Source.is_open in
     let m : MirrorValue = record { programs = programs_value (g.P.Programs.starts i.programs) (g.P.Programs.faults i.programs); children = i.children.items; logs = i.stopped.logs } in
     let e : EndedValue = record {
       programs = programs_value (g.P.Programs.starts c.stop_all.new.programs) (g.P.Programs.faults c.stop_all.new.programs);
       journals = map (λ j. j.entries) c.finish-journals.result.0.items;
-      wires = map value c.finish-journals.result.1.items;
+      wires = c.finish-journals.result.1.items;
     } in
     subst (λ (x : MirrorValue). Finishes x e) c.self.view_is
     (finishes m e i.stopped c.stop_all.new.stopped refl c.stop_all.ensures.stops c.finish-journals.ensures.journals c.finish-journals.ensures.sound

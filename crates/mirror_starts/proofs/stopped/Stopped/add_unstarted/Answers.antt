@@ -1,5 +1,4 @@
-use Rattle.std.proofs.Common.{◌<◌, sym, subst, map, vec_capacity, vec_len}
-use Rattle.child_end.specs.Wires.{wire_value}
+use Rattle.std.proofs.Common.{◌<◌, sym, subst, vec_capacity, vec_len}
 use Rattle.mirror_starts.specs.Stops.{StoppedValue}
 use Rattle.mirror_starts.proofs.Adding.{unstarted_kept}
 use Rattle.mirror_starts.proofs.stopped.Stopped.add_unstarted.Goals as goal
@@ -7,7 +6,7 @@ use Rattle.mirror_starts.proofs.stopped.Stopped.add_unstarted.Goals as goal
 pub invariant_of-self : goal.invariant_of-self
 invariant_of-self g c =
     unstarted_kept c.self.inside.cores.items c.push_reserved.new.self.items c.args.core
-    (map (wire_value g.I.Sink.taken g.I.Sink.faults g.I.Sink.number g.I.Sink.is_open g.O.Source.given g.O.Source.left g.O.Source.faults g.O.Source.number g.O.Source.is_open) c.self.inside.wires.items)
+    c.self.inside.wires.items
     (vec_len c.self.inside.cores) (vec_len c.push_reserved.new.self) (vec_len c.self.inside.wires) (vec_len c.self.inside.journals)
     (vec_capacity c.self.inside.cores) (vec_capacity c.push_reserved.new.self) (vec_capacity c.self.inside.wires) (vec_capacity c.self.inside.journals) c.self.inside.spare
     c.push_reserved.ensures.items c.requires.unstarted (subst (λ (s : StoppedValue). 0 < s.spare) (sym c.self.view_is) c.requires.room)

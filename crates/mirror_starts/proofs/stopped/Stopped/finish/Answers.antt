@@ -1,5 +1,4 @@
 use Rattle.std.proofs.Common.{◌≡◌, map, subst, vec_capacity, vec_len}
-use Rattle.child_end.specs.Wires.{wire_value}
 use Rattle.mirror_starts.specs.Stops.{StoppedValue}
 use Rattle.mirror_starts.proofs.Adding.{finished_journals}
 use Rattle.mirror_starts.proofs.stopped.Stopped.finish.Goals as goal
@@ -8,6 +7,6 @@ pub returns-clause-journals : goal.returns-clause-journals
 returns-clause-journals g c =
     subst (λ (s : StoppedValue). map (λ j. j.entries) c.add_journals.new.journals.items ≡ map (λ l. l.journal) s.logs) c.self.view_is
     (finished_journals (λ j. j.entries) c.self.inside.journals.items c.self.inside.cores.items (map (λ j. j.entries) c.add_journals.new.journals.items)
-    (map (wire_value g.I.Sink.taken g.I.Sink.faults g.I.Sink.number g.I.Sink.is_open g.O.Source.given g.O.Source.left g.O.Source.faults g.O.Source.number g.O.Source.is_open) c.self.inside.wires.items)
+    c.self.inside.wires.items
     (vec_len c.self.inside.cores) (vec_len c.self.inside.wires) (vec_len c.self.inside.journals) (vec_capacity c.self.inside.cores) (vec_capacity c.self.inside.wires) (vec_capacity c.self.inside.journals) c.self.inside.spare
     c.self.inside.journals.ok.0 c.self.invariant c.add_journals.ensures)

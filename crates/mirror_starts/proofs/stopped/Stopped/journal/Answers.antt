@@ -1,6 +1,5 @@
-use Rattle.std.proofs.Common.{◌∙◌, ◌<◌, ◌≤◌, Some, List, ap, length, map, arith}
+use Rattle.std.proofs.Common.{◌∙◌, ◌<◌, ◌≤◌, Some, List, ap, length, arith}
 use Rattle.journal_model.specs.declared.entry.Entry.{Entry}
-use Rattle.child_end.specs.Wires.{wire_value}
 use Rattle.mirror_starts.proofs.Adding.{journal_at, journal_past}
 use Rattle.mirror_starts.proofs.stopped.Stopped.journal.Goals as goal
 
@@ -10,7 +9,7 @@ returns-then-n-len g c =
     let within : c.args.n < length cores.items = omega (arith, c.if-n-len.true, c.len.ensures, cores.ok.0) in
     ap (λ (j : List Entry). Some j) c.journal.ensures
     ∙ journal_at c.args.self.now cores.items
-    (map (wire_value g.I.Sink.taken g.I.Sink.faults g.I.Sink.number g.I.Sink.is_open g.O.Source.given g.O.Source.left g.O.Source.faults g.O.Source.number g.O.Source.is_open) c.self.inside.wires.items)
+    c.self.inside.wires.items
     c.self.inside.spare c.args.n c.index.result.now c.self.view_is within c.index.ensures
 
 pub returns-else-n-len : goal.returns-else-n-len
@@ -18,5 +17,5 @@ returns-else-n-len g c =
     let cores = c.self.inside.cores in
     let past : length cores.items ≤ c.args.n = omega (arith, c.if-n-len.false, c.len.ensures, cores.ok.0) in
     journal_past c.args.self.now cores.items
-    (map (wire_value g.I.Sink.taken g.I.Sink.faults g.I.Sink.number g.I.Sink.is_open g.O.Source.given g.O.Source.left g.O.Source.faults g.O.Source.number g.O.Source.is_open) c.self.inside.wires.items)
+    c.self.inside.wires.items
     c.self.inside.spare c.args.n c.self.view_is past

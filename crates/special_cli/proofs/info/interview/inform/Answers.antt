@@ -1,4 +1,4 @@
-use Rattle.std.proofs.Common.{map, ap, refl, arith}
+use Rattle.std.proofs.Common.{ap, refl, arith}
 use Rattle.std.specs.Prelude.{option_map}
 use Rattle.ann_key.specs.KeyRefs.{text_of}
 use Rattle.special_cli.specs.Endings.{starts_in}
@@ -25,7 +25,7 @@ returns-in-Over-clause-leaves g c =
     c.close_child.new.core.journal c.in-Over.link.ear c.in-Over.link.mouth _
     (closed_starts (option_map text_of c.args.key) c.hold_interview.new.core.journal c.close_child.new.core.journal c.in-Over.link.ear.child c.in-Over.ensures.met.fits.0 c.close_child.ensures.closes)
     c.in-Over.ensures.met.starts c.finish.ensures.starts c.in-Over.ensures.met.numbers c.in-Over.ensures.met.fits.0.first c.in-Over.link.one_child
-    (c.close_child.ensures.wired c.in-Over.ensures.met.wired) (one_laid c.finish.ensures.laid (ap (map _) c.requires.room.0))
+    (c.close_child.ensures.wired c.in-Over.ensures.met.wired) (one_laid c.finish.ensures.laid c.requires.room.0)
     (let a = c.in-Over.ensures.met.later in let b = c.finish.ensures.later in omega (arith, a, b))
 
 pub returns-in-StartFault-clause-asked : goal.returns-in-StartFault-clause-asked
@@ -37,7 +37,7 @@ returns-in-StartFault-clause-complete g c = unstarted_complete (option_map text_
 pub returns-in-StartFault-clause-leaves : goal.returns-in-StartFault-clause-leaves
 returns-in-StartFault-clause-leaves g c =
     leaves_failed _ (programs_value (g.P.Programs.starts c.args.programs.now) (g.P.Programs.faults c.args.programs.now)) (programs_value (g.P.Programs.starts c.hold_interview.new.programs) (g.P.Programs.faults c.hold_interview.new.programs)) c.args.program.now c.hold_interview.new.core.journal _
-    (ap starts_in c.in-StartFault.ensures.met.only) (ap (map _) c.requires.room.0) c.in-StartFault.ensures.met.starts c.in-StartFault.ensures.met.fault
+    (ap starts_in c.in-StartFault.ensures.met.only) c.requires.room.0 c.in-StartFault.ensures.met.starts c.in-StartFault.ensures.met.fault
 
 pub returns-in-NoMemory-clause-asked : goal.returns-in-NoMemory-clause-asked
 returns-in-NoMemory-clause-asked g c = nothing_asked (option_map text_of c.args.key) c.hold_interview.new.core.journal c.in-NoMemory.ensures.met.nothing
@@ -45,4 +45,4 @@ returns-in-NoMemory-clause-asked g c = nothing_asked (option_map text_of c.args.
 pub returns-in-NoMemory-clause-leaves : goal.returns-in-NoMemory-clause-leaves
 returns-in-NoMemory-clause-leaves g c =
     leaves_unstarted _ (programs_value (g.P.Programs.starts c.args.programs.now) (g.P.Programs.faults c.args.programs.now)) (programs_value (g.P.Programs.starts c.hold_interview.new.programs) (g.P.Programs.faults c.hold_interview.new.programs)) c.args.program.now c.hold_interview.new.core.journal _
-    refl c.in-NoMemory.ensures.met.nothing (ap (map _) c.requires.room.0) c.in-NoMemory.ensures.met.starts c.in-NoMemory.ensures.met.later
+    refl c.in-NoMemory.ensures.met.nothing c.requires.room.0 c.in-NoMemory.ensures.met.starts c.in-NoMemory.ensures.met.later
