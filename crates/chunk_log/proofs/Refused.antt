@@ -1,4 +1,4 @@
--- Want of memory, as a line's reader answers it.
+-- Out of memory, as a line's reader answers it.
 use Rattle.std.proofs.Common.{◌≡◌, ℕ, List, Result, Ok, Err, sym, subst}
 use Rattle.std.specs.Prelude.{MatchResult}
 use Rattle.std.specs.Result.{IsErrAnd}

@@ -30,7 +30,7 @@ pub record ReadsPiece (old new : Option Log) (file : List ℕ) (at : ℕ) (befor
   pub calls : Gained old new (ReadAt file at (Ok piece) ∷ [])
   pub checked : Checks before after piece
 
--- the read that was refused, and is in the log where it wasn't for want of memory
+-- the read that was refused; it is in the log unless memory ran out
 abbrev pub refused_read : DeskError → List ℕ → ℕ → List Call
 refused_read E.NoMemory file at = []
 refused_read E.Failed file at = ReadAt file at (Err E.Failed) ∷ []

@@ -44,7 +44,7 @@ is_by_line (Ended why) = false
 is_by_line Unsent = false
 is_by_line verdict = true
 
--- What is known of c's output: its lines, and its end, which want of memory may bring without it.
+-- What is known of c's output: its lines, and its end, which may also come because memory ran out.
 abbrev pub is_heard : ℕ → What → Bool
 is_heard c (Got child line) = child == c
 is_heard c (End child why) = child == c && not (is_memory why)
@@ -79,7 +79,7 @@ by_ear c (End child why) = child == c && not (is_closed why)
 by_ear c (Settled child job verdict) = child == c
 by_ear c _ = false
 
--- what a mouth does: how far c's lines were written, an end for want of memory, and what these make due, which no line said
+-- what a mouth does: how far c's lines were written, an end because memory ran out, and what these make due, which no line said
 abbrev pub by_mouth : ℕ → What → Bool
 by_mouth c (Sent child) = child == c
 by_mouth c (Mute child) = child == c

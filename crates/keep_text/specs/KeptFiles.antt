@@ -62,7 +62,7 @@ notes_of bytes = notes_in (behind_head (lines_in bytes))
 abbrev pub CountsAs : List Note → List Note → Type 0
 CountsAs notes others = (key uuid : List ℕ) (chunk : ℕ) → counting notes key uuid chunk ≡ counting others key uuid chunk
 
--- the error names the first bad line. Want of memory may come at any text
+-- the error names the first bad line. Memory may run out at any text
 abbrev pub IsFaultOf : List ℕ → KeepError → Type 0
 IsFaultOf bytes (BadLine line) = bad_line bytes ≡ Some line
 IsFaultOf bytes NoMemory = Unit {0}

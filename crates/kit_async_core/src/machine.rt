@@ -96,7 +96,7 @@ impl Book {
     }
 }
 
-/// The core of a kit. It keeps its journal legal, and room for all that must not fail for want of memory.
+/// The core of a kit. It keeps its journal legal, and room for all that must not fail when memory runs out.
 ///
 /// Contracts see of it what doesn't change, the journal, and whether it is broken off.
 #[derive(Drop)]

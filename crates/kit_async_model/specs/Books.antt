@@ -44,7 +44,7 @@ abbrev pub calls_owed : Setup → List Job → ℕ
 calls_owed setup [] = 0
 calls_owed setup (job ∷ jobs) = (most_calls setup job - job.calls) + calls_owed setup jobs
 
--- The entries that must not fail for want of memory: each call that may come, what is said to it, and that it is written; and each
+-- The entries that must not fail when memory runs out: each call that may come, what is said to it, and that it is written; and each
 -- line that is to be written.
 abbrev pub room_owed : Setup → Standing → ℕ
 room_owed setup s = 3 * calls_owed setup s.jobs + length s.unwritten

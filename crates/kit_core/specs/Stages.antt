@@ -125,7 +125,7 @@ pub record Steps {R : Type 0} (calls : R → Option (List Call)) (settings : Lis
   pub step : (h : List Heard) → Follows settings old h → IsStep settings h m call say over
   pub follows : (h : List Heard) → Follows settings old h → Follows settings new (h ++ record { message = m; call = call } ∷ [])
 
--- For want of memory no line is said, and the kit is over. The remote may have been asked for what is due, and for nothing else.
+-- Out of memory: no line is said, and the kit is over. The remote may have been asked for what is due, and for nothing else.
 pub record Stops {R : Type 0} (calls : R → Option (List Call)) (settings : List (List ℕ)) (old new : KitValue R) (m : HostMessage) : Type 0 where
   pub call : Option Call
   pub gained : calls new.remote ≡ with_call (calls old.remote) call

@@ -12,7 +12,7 @@ use ann_key::{Key, KeyRef, NoMemory, Text};
 use std::alloc::Global;
 use std::marker::Model;
 
-/// A remote that passes each call on to another, keeps its calls and tells them. Where a call can't be kept for want of memory
+/// A remote that passes each call on to another, keeps its calls and tells them. If there is no memory to keep a call,
 /// it answers so, and the other remote may have been called.
 ///
 /// Contracts see the other remote, and the calls that are kept.

@@ -34,7 +34,7 @@ Says taken faults old new bytes (Err e) = ((old.is_over ≡ true) × (new ≡ ol
 abbrev pub line_of : RemoteMessage → List ℕ
 line_of m = remote_line m ++ 10 ∷ []
 
--- the message was said, and is one line; for want of memory nothing was said
+-- the message was said, and is one line; out of memory, nothing was said
 abbrev pub Tells : {W T : Type 0} → (W → Option (List ℕ)) → (W → ℕ) → LineSinkValue W → LineSinkValue W → RemoteMessage → Result T NotTold → Type 0
 Tells taken faults old new m (Ok x) = Says {E = NotTold} taken faults old new (line_of m) (Ok x) × (has_newline (remote_line m) ≡ false)
 Tells taken faults old new m (Err NoMemory) = new ≡ old

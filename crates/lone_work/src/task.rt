@@ -33,7 +33,7 @@ fn task_at(tasks: &[Task], number: u32) -> &Task
     &tasks[number as usize - 1]
 }
 
-// Want of memory is an answer as well.
+// Running out of memory is an answer as well.
 fn answer_of(outcome: Result<Answer, NoMemory>) -> Answer
     ensures { result ≡ answered outcome }
 {

@@ -131,7 +131,7 @@ fault_in work line = find (is_wrong work line) (Word ∷ Key ∷ Unsendable ∷ 
 abbrev pub fault_of : List ℕ → Option TaskError
 fault_of line = fault_in (work_at line) line
 
--- the task that the line spells; its first fault; or, for want of memory, nothing of a line that has none
+-- the task that the line spells; its first fault; or, out of memory, nothing of a line that has none
 abbrev pub IsReading : List ℕ → Result Task TaskError → Type 0
 IsReading line (Ok task) = SpellsTask task line
 IsReading line (Err NoMemory) = fault_of line ≡ None
