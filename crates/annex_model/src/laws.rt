@@ -1,7 +1,12 @@
 // Laws over the definitions, each the contract of a function with nothing to do.
 ghost use Rattle.std.specs.Prelude.{◌≡◌, ◌↔◌, ℕ, List, Some, None, true, false, codes, [], ◌∷◌};
 ghost use Rattle.annex_model.specs.declared.final_line.Final.TheVariants.{Done, Failed, Absent, Unknown, Unsupported};
-ghost use Rattle.annex_model.specs.Messages.{RemoteMessage, HostMessage, RemoteSpells, HostSpells, remote_reading, remote_line, host_reading, host_line, text_in, IsAskable, IsSayable, Version, Extensions, UnsupportedRequest, Progress, Setconfig, Setcreds, PrepareSuccess, PrepareFailure, TransferSuccess, TransferFailure, CheckpresentSuccess, CheckpresentUnknown, Config, Configend, Availability, Infofield, Infovalue, Infoend, WhereisFailure, Prepare, Transfer, Checkpresent, Listconfigs, Getinfo, Whereis, Exportsupported, Export, Transferexport, Checkpresentexport, Renameexport, ExportsupportedSuccess, ExportsupportedFailure, RenameexportSuccess, RenameexportFailure, RemoveSuccess, Removeexport, Value};
+ghost use Rattle.annex_model.specs.Messages.{RemoteMessage, HostMessage, RemoteSpells, HostSpells, remote_reading, remote_line, host_reading, host_line, text_in, IsAskable, IsSayable};
+ghost use Rattle.annex_model.specs.Messages.{Version, Extensions, UnsupportedRequest, Progress, Setconfig, Setcreds, PrepareSuccess, PrepareFailure, TransferSuccess, TransferFailure};
+ghost use Rattle.annex_model.specs.Messages.{CheckpresentSuccess, CheckpresentUnknown, Config, Configend, Availability, Infofield, Infovalue, Infoend, WhereisFailure};
+ghost use Rattle.annex_model.specs.Messages.{ExportsupportedSuccess, ExportsupportedFailure, RenameexportSuccess, RenameexportFailure, RemoveSuccess};
+ghost use Rattle.annex_model.specs.Messages.{Prepare, Transfer, Checkpresent, Listconfigs, Getinfo, Whereis, Value};
+ghost use Rattle.annex_model.specs.Messages.{Exportsupported, Export, Transferexport, Checkpresentexport, Renameexport, Removeexport};
 ghost use Rattle.annex_model.specs.Tags.{Tagged, untag};
 ghost use Rattle.annex_model.specs.Talks.{final_of, awaits};
 ghost use Rattle.annex_model.specs.Laws.{TalksAreFronts, FrontsTalk, FoulCannotFollow};
@@ -99,7 +104,8 @@ pub fn worked_answers()
     ensures half_pair { final_of Getinfo (Some (Infofield (codes "size")) ∷ Some Infoend ∷ []) ≡ None }
     ensures value_first { awaits Getinfo (Some (Infovalue (codes "5")) ∷ []) ≡ false }
     ensures unsupported { final_of Getinfo (Some UnsupportedRequest ∷ []) ≡ Some Unsupported }
-    ensures unsupported_late { (final_of Listconfigs (Some (Config (codes "a") []) ∷ Some UnsupportedRequest ∷ []) ≡ None) × (awaits Listconfigs (Some (Config (codes "a") []) ∷ Some UnsupportedRequest ∷ []) ≡ false) }
+    ensures unsupported_late { final_of Listconfigs (Some (Config (codes "a") []) ∷ Some UnsupportedRequest ∷ []) ≡ None }
+    ensures late_not_awaited { awaits Listconfigs (Some (Config (codes "a") []) ∷ Some UnsupportedRequest ∷ []) ≡ false }
     ensures whereis { final_of (Whereis (codes "WORM--a")) (Some WhereisFailure ∷ []) ≡ Some Absent }
     ensures exports { final_of Exportsupported (Some ExportsupportedSuccess ∷ []) ≡ Some Done }
     ensures no_exports { final_of Exportsupported (Some ExportsupportedFailure ∷ []) ≡ Some Absent }

@@ -3,7 +3,7 @@ ghost use Rattle.std.specs.Prelude.{◌≡◌, ◌≤◌, ℕ, List, IfOk, IfSom
 ghost use Rattle.journal_audit.specs.Audits.{IsAudit};
 ghost use Rattle.journal_model.specs.Beginnings.{MayBegin};
 ghost use Rattle.ann_outside.specs.Causes.{StaysUntold};
-ghost use Rattle.task_input.specs.Reads.{HasGiven};
+ghost use Rattle.task_input.specs.Reads.{Gave};
 ghost use Rattle.audit_run.specs.Inputs.{AuditComesTo};
 ghost use Rattle.audit_run.specs.Reads.{IsCounted, IsRead};
 ghost use Rattle.audit_run.specs.Steps.{Holds, IsStep};
@@ -28,7 +28,7 @@ pub fn audit_input<S: Source>(
     limits: &Limits,
 ) -> Result<Audit, AuditError>
     requires { S.is_open source.old ≡ true }
-    ensures input { (bytes : List ℕ) × HasGiven (S.given source.old) (S.given source.new) (S.left source.old) (S.left source.new) bytes × IsRead limits.now bytes (S.left source.new) result }
+    ensures input { (bytes : List ℕ) × Gave S.Source source.old source.new bytes × IsRead limits.now bytes (S.left source.new) result }
     ensures told { IfSome (S.left source.old) (λ all. AuditComesTo limits.now all result) }
     ensures faults { IsCounted (S.faults source.old) (S.faults source.new) result }
     ensures silent { StaysUntold (S.given source.old) (S.given source.new) × StaysUntold (S.left source.old) (S.left source.new) }
@@ -52,7 +52,7 @@ fn audit_all(alloc: Global, opening: Opening, journal: Journal) -> Result<Audit,
 // Takes what the source gives up to its end, or until a limit is passed.
 fn take_all<S: Source>(alloc: Global, source: &mut S, limits: &Limits) -> Result<Intake, AuditError>
     requires { S.is_open source.old ≡ true }
-    ensures given { (bytes : List ℕ) × HasGiven (S.given source.old) (S.given source.new) (S.left source.old) (S.left source.new) bytes × Holds limits.now bytes (S.left source.new) result }
+    ensures given { (bytes : List ℕ) × Gave S.Source source.old source.new bytes × Holds limits.now bytes (S.left source.new) result }
     ensures faults { IsCounted (S.faults source.old) (S.faults source.new) result }
     ensures silent { StaysUntold (S.given source.old) (S.given source.new) × StaysUntold (S.left source.old) (S.left source.new) }
     ensures open { S.is_open source.new ≡ true }
@@ -74,7 +74,7 @@ fn read_step<S: Source>(
     intake: &mut Intake,
 ) -> Result<bool, AuditError>
     requires { S.is_open source.old ≡ true }
-    ensures given { (piece : List ℕ) × HasGiven (S.given source.old) (S.given source.new) (S.left source.old) (S.left source.new) piece × IsStep limits.now intake.old intake.new piece (S.left source.new) result }
+    ensures given { (piece : List ℕ) × Gave S.Source source.old source.new piece × IsStep limits.now intake.old intake.new piece (S.left source.new) result }
     ensures faults { IsCounted (S.faults source.old) (S.faults source.new) result }
     ensures silent { StaysUntold (S.given source.old) (S.given source.new) × StaysUntold (S.left source.old) (S.left source.new) }
     ensures open { S.is_open source.new ≡ true }

@@ -27,6 +27,10 @@ newer (Some line) note = if is_no_later line.stamp note.line.stamp then Some not
 abbrev pub counting : List Note → List ℕ → List ℕ → ℕ → Option ChunkLine
 counting notes key uuid chunk = fold newer None (filter (is_of key uuid chunk) notes)
 
+-- of each key, UUID and chunk size the same line counts in both
+abbrev pub CountsAs : List Note → List Note → Type 0
+CountsAs notes others = (key uuid : List ℕ) (chunk : ℕ) → counting notes key uuid chunk ≡ counting others key uuid chunk
+
 -- by key text, then UUID, then chunk size
 abbrev pub place_cmp : Note → Note → Ordering
 place_cmp = then_cmp (then_cmp (on (λ n. n.key) (slice_cmp nat_cmp)) (on (λ n. n.line.uuid) (slice_cmp nat_cmp))) (on (λ n. n.line.chunk) nat_cmp)

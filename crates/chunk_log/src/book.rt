@@ -36,7 +36,7 @@ impl Model for NoteBook {
 }
 
 impl NoteBook {
-    ghost use Rattle.chunk_log.specs.NoteBooks.{counting, in_order, inserted, IsNote};
+    ghost use Rattle.chunk_log.specs.NoteBooks.{CountsAs, counting, in_order, inserted, IsNote};
     ghost use Rattle.chunk_log.specs.Current.{layouts_of};
     ghost use Rattle.chunk_log.specs.declared.note.Note.{Note};
 
@@ -55,7 +55,7 @@ impl NoteBook {
         requires key { list_any is_space (text_of key) ≡ true → ⊥ }
         requires line { IsWritable line }
         ensures inserted { OnOk result (self.new ≡ inserted (record { key = text_of key.entry; line = line }) self.old) }
-        ensures counts { OnOk result ((key' uuid : List ℕ) (chunk : ℕ) → counting self.new key' uuid chunk ≡ counting (self.old ++ record { key = text_of key.entry; line = line } ∷ []) key' uuid chunk) }
+        ensures counts { OnOk result (CountsAs self.new (self.old ++ record { key = text_of key.entry; line = line } ∷ [])) }
         ensures err { OnErr result (self.new ≡ self.old) }
     {
         let key = KeyText::copy(self.alloc, key)?;

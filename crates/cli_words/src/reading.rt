@@ -3,7 +3,8 @@ ghost use Rattle.std.specs.Prelude.{◌≡◌, ◌<◌, IfOk, IfSome, length, op
 ghost use Rattle.cli_words.specs.Identities.{IsFit};
 ghost use Rattle.cli_words.specs.Ranges.{HasRanges};
 ghost use Rattle.cli_words.specs.Values.{padded_number_in, texts_of};
-ghost use Rattle.cli_words.specs.Words.{all_behind, alone, check_of, command_of, info_of, init_of, is_help, of_command, most_rehearsed, most_seed, page_alone, page_of, rehearse_of, rehearse_with, run_of, walk_with};
+ghost use Rattle.cli_words.specs.Words.{all_behind, alone, command_of, is_help, of_command, most_rehearsed, most_seed, page_alone, page_of};
+ghost use Rattle.cli_words.specs.Words.{check_of, info_of, init_of, rehearse_of, rehearse_with, run_of, walk_with};
 ghost use Rattle.cli_words.specs.declared.command.Command.TheVariants.{Run, Show};
 
 use crate::command::{Command, InitWords, Page};

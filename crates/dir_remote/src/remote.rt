@@ -1,14 +1,14 @@
 // The directory remote.
-ghost use Rattle.std.specs.Prelude.{◌≡◌, ◌∷◌, [], not, codes, false, is_some, IsTrue, IfOk, IfSome, None, Some};
+ghost use Rattle.std.specs.Prelude.{◌≡◌, ◌∷◌, [], not, codes, false, IsTrue, IfOk, IfSome, None, Some};
 ghost use Rattle.std.specs.Option.{option_copied};
 ghost use Rattle.ann_key.specs.KeyRefs.{text_of};
 ghost use Rattle.annex_model.specs.Lines.{has_newline};
 ghost use Rattle.annex_model.specs.Messages.{is_sent_key};
 ghost use Rattle.kit_core.specs.declared.call.Asked.TheVariants.{Prepare, Store, Retrieve, Check, Remove};
 ghost use Rattle.kit_core.specs.Calls.{called, are_lines, is_line_said};
-ghost use Rattle.dir_remote.specs.Answers.{Answers, Prepares, StoreDoes, RetrieveDoes, CheckDoes, RemoveDoes, PreparedBy, first_of, is_of_transfer, is_of_check, is_of_removal};
+ghost use Rattle.dir_remote.specs.Answers.{Prepares, PreparedBy, first_of};
 ghost use Rattle.dir_remote.specs.Contents.{IsMark};
-ghost use Rattle.dir_remote.specs.Traces.{Each, IsCheckCall, IsRemoveCall, IsRetrieveCall, StoreTraces};
+ghost use Rattle.dir_remote.specs.Desks.{CheckAnswers, RemoveAnswers, RetrieveAnswers, StoreAnswers, desk_at};
 
 use crate::outcome::{Outcome, say};
 use crate::works;
@@ -159,8 +159,7 @@ impl<D: Desk> Remote for DirRemote<D> {
         ensures calls { None ≡ called None (Store (text_of key.entry) file.now) result }
         ensures settings { ⟦<DirRemote<D> as Remote>⟧.settings self.new ≡ ⟦<DirRemote<D> as Remote>⟧.settings self.old }
         ensures text { IfOk result (λ said. IsTrue (is_line_said said)) }
-        ensures stored { Answers is_of_transfer (λ d. StoreDoes d (text_of key.entry) file.now) (λ d. StoreTraces self.old.mark d (text_of key.entry) file.now) (is_some self.old.mark) self.old.directory (text_of key.entry)
-            (D.counts self.old.desk) (D.counts self.new.desk) (D.files self.old.desk) (D.files self.new.desk) (D.log self.old.desk) (D.log self.new.desk) result }
+        ensures stored { StoreAnswers (desk_at D.Desk self.old.desk) (desk_at D.Desk self.new.desk) self.old.mark self.old.directory (text_of key.entry) file.now result }
         ensures mark { self.new.mark ≡ self.old.mark }
         ensures directory { self.new.directory ≡ self.old.directory }
     {
@@ -184,8 +183,7 @@ impl<D: Desk> Remote for DirRemote<D> {
         ensures calls { None ≡ called None (Retrieve (text_of key.entry) file.now) result }
         ensures settings { ⟦<DirRemote<D> as Remote>⟧.settings self.new ≡ ⟦<DirRemote<D> as Remote>⟧.settings self.old }
         ensures text { IfOk result (λ said. IsTrue (is_line_said said)) }
-        ensures retrieved { Answers is_of_transfer (λ d. RetrieveDoes d (text_of key.entry) file.now) (λ d _. Each (IsRetrieveCall d (text_of key.entry) file.now)) false self.old.directory (text_of key.entry)
-            (D.counts self.old.desk) (D.counts self.new.desk) (D.files self.old.desk) (D.files self.new.desk) (D.log self.old.desk) (D.log self.new.desk) result }
+        ensures retrieved { RetrieveAnswers (desk_at D.Desk self.old.desk) (desk_at D.Desk self.new.desk) self.old.directory (text_of key.entry) file.now result }
         ensures mark { self.new.mark ≡ self.old.mark }
         ensures directory { self.new.directory ≡ self.old.directory }
     {
@@ -207,8 +205,7 @@ impl<D: Desk> Remote for DirRemote<D> {
         ensures calls { None ≡ called None (Check (text_of key.entry)) result }
         ensures settings { ⟦<DirRemote<D> as Remote>⟧.settings self.new ≡ ⟦<DirRemote<D> as Remote>⟧.settings self.old }
         ensures text { IfOk result (λ said. IsTrue (is_line_said said)) }
-        ensures checked { Answers is_of_check (λ d. CheckDoes d (text_of key.entry)) (λ d _. Each (IsCheckCall d (text_of key.entry))) false self.old.directory (text_of key.entry)
-            (D.counts self.old.desk) (D.counts self.new.desk) (D.files self.old.desk) (D.files self.new.desk) (D.log self.old.desk) (D.log self.new.desk) result }
+        ensures checked { CheckAnswers (desk_at D.Desk self.old.desk) (desk_at D.Desk self.new.desk) self.old.directory (text_of key.entry) result }
         ensures mark { self.new.mark ≡ self.old.mark }
         ensures directory { self.new.directory ≡ self.old.directory }
     {
@@ -224,8 +221,7 @@ impl<D: Desk> Remote for DirRemote<D> {
         ensures calls { None ≡ called None (Remove (text_of key.entry)) result }
         ensures settings { ⟦<DirRemote<D> as Remote>⟧.settings self.new ≡ ⟦<DirRemote<D> as Remote>⟧.settings self.old }
         ensures text { IfOk result (λ said. IsTrue (is_line_said said)) }
-        ensures removed { Answers is_of_removal (λ d. RemoveDoes d (text_of key.entry)) (λ d _. Each (IsRemoveCall d (text_of key.entry))) false self.old.directory (text_of key.entry)
-            (D.counts self.old.desk) (D.counts self.new.desk) (D.files self.old.desk) (D.files self.new.desk) (D.log self.old.desk) (D.log self.new.desk) result }
+        ensures removed { RemoveAnswers (desk_at D.Desk self.old.desk) (desk_at D.Desk self.new.desk) self.old.directory (text_of key.entry) result }
         ensures mark { self.new.mark ≡ self.old.mark }
         ensures directory { self.new.directory ≡ self.old.directory }
     {

@@ -6,7 +6,9 @@ use hall::Held;
 use std::alloc::Global;
 use std::marker::Model;
 
-/// Adds numbers to a total, and keeps who added which. It is asked to add a number and then for the total, or for the total alone. It keeps no more additions than its limit: beyond it answers as if there were no memory.
+/// Adds numbers to a total, and keeps who added which. It is asked to add a number and then for the total, or for the total alone.
+///
+/// It keeps no more additions than its limit: beyond it answers as if there were no memory.
 #[derive(Drop)]
 pub struct Tally {
     total: u64,

@@ -1,5 +1,5 @@
 -- Words for the audit's code: the event for an entry, and a core that makes the journal again.
-use Rattle.std.specs.Prelude.{ℕ, ◌≡◌, ◌⊎◌, ◌&&◌, Bool, true, false, List, [], ◌∷◌, ◌++◌, Option, Some, None}
+use Rattle.std.specs.Prelude.{ℕ, ◌≡◌, ◌⊎◌, ◌&&◌, Bool, true, false, List, [], ◌∷◌, ◌++◌, length, Option, Some, None}
 use Rattle.annex_model.specs.Messages.{HostMessage, Export, host_reading, is_askable}
 use Rattle.annex_model.specs.Talks.{has_lead}
 use Rattle.talk_serial.specs.declared.request.Request.{Request}
@@ -10,6 +10,7 @@ use Rattle.journal_model.specs.declared.entry.Entry.{Entry}
 use Rattle.journal_model.specs.declared.opening.Opening.{Opening}
 use Rattle.journal_model.specs.Journal.{addressed}
 use Rattle.journal_model.specs.Legality.{IsDue, IsGroup, is_in_turn, StandsFrom, MayStand, owed_after}
+use Rattle.host_core.specs.CoreValue.{CoreValue}
 use Rattle.host_core.specs.declared.event.Event.{Event}
 use Rattle.host_core.specs.Steps.{step_of, group_of, next_job}
 
@@ -66,6 +67,10 @@ pub record Pairs (o : Opening) (past : List Entry) (by child job : ℕ) (line : 
   pub both : MayStand o past [] (record { by = by; what = Lead child job line }) → (f : Entry) → next ≡ Some f → IsLedBy o past by child job line f
       → group_by o past by event ≡ record { by = by; what = Lead child job line } ∷ f ∷ []
 
+-- after the core's journal the event does so for each line that says this name to the child
+abbrev pub PairsName : CoreValue → ℕ → List ℕ → Option Entry → Option Event → Type 0
+PairsName core child name next event = (by job : ℕ) (line : List ℕ) → Says core.journal child line name → Pairs core.opening core.journal by child job line next event
+
 -- if the name may stand, it doesn't lead the next entry
 abbrev pub Unpaired : Opening → List Entry → ℕ → ℕ → ℕ → List ℕ → Option Entry → Type 0
 Unpaired o past by child job line next =
@@ -78,6 +83,20 @@ pub record IsTold (o : Opening) (past : List Entry) (e : Entry) (next : Option E
   pub one : (made ≡ past) ⊎ ((group : List Entry) × IsGroup o past group × (made ≡ past ++ group))
   pub led : MayStand o past [] e → (child job : ℕ) → (line : List ℕ) → e.what ≡ Lead child job line → (f : Entry) → next ≡ Some f
       → IsLedBy o past e.by child job line f → made ≡ past ++ e ∷ f ∷ []
+
+-- from the one value to the other the core was told the entry
+abbrev pub WasTold : CoreValue → CoreValue → Entry → Option Entry → Type 0
+WasTold old new e next = IsTold old.opening old.journal e next new.journal
+
+-- it was told the name, as each line that says this name to the child
+abbrev pub NameWasTold : CoreValue → CoreValue → ℕ → ℕ → List ℕ → Option Entry → Type 0
+NameWasTold old new by child name next =
+    (job : ℕ) (line : List ℕ) → Says old.journal child line name → WasTold old new (record { by = by; what = Lead child job line }) next
+
+-- nothing was made, and no line that says this name to the child leads the next entry
+abbrev pub NameWasUntold : CoreValue → CoreValue → ℕ → ℕ → List ℕ → Option Entry → Type 0
+NameWasUntold old new by child name next =
+    (new.journal ≡ old.journal) × ((job : ℕ) (line : List ℕ) → Says old.journal child line name → Unpaired old.opening old.journal by child job line next)
 
 -- What the core has made after past: what is due there, where it is known; or one request of those that a name may lead, which is the
 -- next entry if that is one.
@@ -97,3 +116,8 @@ pub record IsReplayed (o : Opening) (past : List Entry) (next : Option Entry) (m
 abbrev pub IsNext : Opening → List Entry → Entry → Option Entry → List Entry → Bool → Type 0
 IsNext o past e next made true = IsReplayed o (past ++ e ∷ []) next made
 IsNext o past e next made false = MayStand o past (owed_after o past) e → ⊥
+
+-- the same of a core that had made so many entries again, from the one value to the other
+abbrev pub StandsAt : CoreValue → CoreValue → ℕ → Entry → Option Entry → Bool → Type 0
+StandsAt old new at e next stands =
+    (past : List Entry) → length past ≡ at → IsReplayed old.opening past (Some e) old.journal → IsNext old.opening past e next new.journal stands

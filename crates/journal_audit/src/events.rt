@@ -3,7 +3,7 @@ ghost use Rattle.std.specs.Prelude.{ℕ, ◌≡◌, List, IfOk, IfSome, IsNone, 
 ghost use Rattle.journal_model.specs.Legality.{asks_job};
 ghost use Rattle.journal_model.specs.declared.entry.What.TheVariants.{Ask, Got, End, Lost};
 ghost use Rattle.journal_scan.specs.Shown.{what_shown, entry_shown};
-ghost use Rattle.journal_audit.specs.Replays.{Pairs, Says, SaysName, Suits, is_name};
+ghost use Rattle.journal_audit.specs.Replays.{PairsName, Says, SaysName, Suits, is_name};
 
 use crate::requests;
 use ann_key::{Bytes, NoMemory, Text};
@@ -92,7 +92,7 @@ fn pair_of(
     name: &Text,
     next: EntryRef<'_>,
 ) -> Result<Option<Event>, NoMemory>
-    ensures { IfOk result (λ event. (by job : ℕ) → (line : List ℕ) → Says core.now.journal child line name.now → Pairs core.now.opening core.now.journal by child job line (Some (entry_shown next.entry)) event) }
+    ensures { IfOk result (PairsName core.now child name.now (Some (entry_shown next.entry))) }
 {
     let Some((asked, _, task, line)) = asked_of(next.what) else {
         return Ok(None);
@@ -119,7 +119,7 @@ pub(super) fn pair_event(
     name: &Text,
     next: Option<EntryRef<'_>>,
 ) -> Result<Option<Event>, NoMemory>
-    ensures { IfOk result (λ event. (by job : ℕ) → (line : List ℕ) → Says core.now.journal child line name.now → Pairs core.now.opening core.now.journal by child job line (option_map entry_shown next.entry) event) }
+    ensures { IfOk result (PairsName core.now child name.now (option_map entry_shown next.entry)) }
 {
     match next {
         Some(next) => pair_of(alloc, core, child, name, next),

@@ -5,7 +5,7 @@ ghost use Rattle.journal_model.specs.declared.entry.Entry.{Entry};
 ghost use Rattle.journal_model.specs.declared.entry.What.TheVariants.{Lead};
 ghost use Rattle.journal_scan.specs.Shown.{entry_shown, what_shown};
 ghost use Rattle.journal_audit.specs.Audits.{IsAudit};
-ghost use Rattle.journal_audit.specs.Replays.{IsTold, IsReplayed, IsNext, Says, Unpaired, group_by, is_name};
+ghost use Rattle.journal_audit.specs.Replays.{IsReplayed, NameWasTold, NameWasUntold, StandsAt, WasTold, group_by, is_name};
 
 use crate::found::Audit;
 use crate::{equal, events, kind, requests};
@@ -39,8 +39,8 @@ fn tell_pair(
     next: Option<EntryRef<'_>>,
 ) -> Result<bool, NoMemory>
     requires { length core.old.journal < 2 ^ 64 }
-    ensures told { IfOk result (λ told. told ≡ true → (job : ℕ) → (line : List ℕ) → Says core.old.journal child line name.now → IsTold core.old.opening core.old.journal (record { by = by; what = Lead child job line }) (option_map entry_shown next.entry) core.new.journal) }
-    ensures untold { IfOk result (λ told. told ≡ false → (core.new.journal ≡ core.old.journal) × ((job : ℕ) → (line : List ℕ) → Says core.old.journal child line name.now → Unpaired core.old.opening core.old.journal by child job line (option_map entry_shown next.entry))) }
+    ensures told { IfOk result (λ told. told ≡ true → NameWasTold core.old core.new by child name.now (option_map entry_shown next.entry)) }
+    ensures untold { IfOk result (λ told. told ≡ false → NameWasUntold core.old core.new by child name.now (option_map entry_shown next.entry)) }
     ensures opening { core.new.opening ≡ core.old.opening }
 {
     let before = core.journal().len();
@@ -64,7 +64,7 @@ fn tell_name(
     next: Option<EntryRef<'_>>,
 ) -> Result<(), NoMemory>
     requires { length core.old.journal < 2 ^ 64 }
-    ensures told { OnOk result ((job : ℕ) → IsTold core.old.opening core.old.journal (record { by = by; what = Lead child job line.now }) (option_map entry_shown next.entry) core.new.journal) }
+    ensures told { OnOk result ((job : ℕ) → WasTold core.old core.new (record { by = by; what = Lead child job line.now }) (option_map entry_shown next.entry)) }
     ensures opening { core.new.opening ≡ core.old.opening }
 {
     let Some(name) = requests::name_text(alloc, core, child, line)? else {
@@ -80,7 +80,7 @@ fn tell_name(
 /// Tells the core the event that appends the entry, which says no name, where one does.
 fn tell_plain(alloc: Global, core: &mut Core, by: u32, what: WhatRef<'_>) -> Result<(), NoMemory>
     requires { length core.old.journal < 2 ^ 64 }
-    ensures told { OnOk result (is_name (what_shown what.entry) ≡ false → (next : Option Entry) → IsTold core.old.opening core.old.journal (record { by = by; what = what_shown what.entry }) next core.new.journal) }
+    ensures told { OnOk result (is_name (what_shown what.entry) ≡ false → (next : Option Entry) → WasTold core.old core.new (record { by = by; what = what_shown what.entry }) next) }
     ensures opening { core.new.opening ≡ core.old.opening }
 {
     let event = events::event_of(alloc, core, what)?;
@@ -106,7 +106,7 @@ fn tell(
     next: Option<EntryRef<'_>>,
 ) -> Result<(), NoMemory>
     requires { length core.old.journal < 2 ^ 64 }
-    ensures told { OnOk result (IsTold core.old.opening core.old.journal (entry_shown entry.entry) (option_map entry_shown next.entry) core.new.journal) }
+    ensures told { OnOk result (WasTold core.old core.new (entry_shown entry.entry) (option_map entry_shown next.entry)) }
     ensures opening { core.new.opening ≡ core.old.opening }
 {
     match lead_of(entry.what) {
@@ -134,7 +134,7 @@ fn may_stand(
     entry: EntryRef<'_>,
     next: Option<EntryRef<'_>>,
 ) -> Result<bool, NoMemory>
-    ensures next { IfOk result (λ stands. (past : List Entry) → length past ≡ at → IsReplayed core.old.opening past (Some (entry_shown entry.entry)) core.old.journal → IsNext core.old.opening past (entry_shown entry.entry) (option_map entry_shown next.entry) core.new.journal stands) }
+    ensures next { IfOk result (StandsAt core.old core.new at (entry_shown entry.entry) (option_map entry_shown next.entry)) }
     ensures opening { core.new.opening ≡ core.old.opening }
 {
     if core.journal().len() == at {

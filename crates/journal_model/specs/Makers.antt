@@ -1,5 +1,5 @@
 -- Who made which entries, and which entries are a task's.
-use Rattle.std.specs.Prelude.{ℕ, ◌==◌, ◌&&◌, ◌||◌, not, if◌then◌else◌, Bool, true, false, List, [], ◌∷◌, Option, is_none, filter, map}
+use Rattle.std.specs.Prelude.{ℕ, ◌≡◌, ◌<◌, ◌==◌, ◌&&◌, ◌||◌, not, if◌then◌else◌, Bool, true, false, List, [], ◌∷◌, Option, is_none, filter, map}
 use Rattle.std.specs.List.{list_any}
 use Rattle.journal_model.specs.declared.entry.What.{What}
 use Rattle.journal_model.specs.declared.entry.What.TheVariants.{Claim, Ask, Lost, Answer as Answered, Note as Noted, Again}
@@ -7,7 +7,7 @@ use Rattle.journal_model.specs.declared.entry.Entry.{Entry}
 use Rattle.journal_model.specs.declared.verdict.Verdict.{Verdict}
 use Rattle.journal_model.specs.Journal.{each_of, verdict_of}
 use Rattle.journal_model.specs.declared.holder.Holder.{Holder}
-use Rattle.journal_model.specs.Legality.{claims, is_held_by, job_for, turned}
+use Rattle.journal_model.specs.Legality.{claims, is_busy, is_claimed, is_held_by, job_for, turned}
 
 -- the entries that this number made
 abbrev pub made_by_number : ℕ → List Entry → List Entry
@@ -22,6 +22,10 @@ is_of_task t (Answered task answer) = task == t
 is_of_task t (Noted task chunk count) = task == t
 is_of_task t (Again task answer) = task == t
 is_of_task t _ = false
+
+-- the task was claimed, and isn't busy any more
+abbrev pub IsThrough : List Entry → ℕ → Type 0
+IsThrough past t = (0 < t) × (is_claimed past t ≡ true) × (is_busy past t ≡ false)
 
 -- the number claims the task in one of the entries, and may have answered it since
 abbrev pub is_taken_by : List Entry → ℕ → ℕ → Bool

@@ -42,3 +42,7 @@ pub record AreCurrentAt (o : Opening) (past : List Entry) (key : List ℕ) (layo
 -- a book that is given notes one by one
 abbrev pub with_notes : List Note → List Note → List Note
 with_notes book notes = fold (λ b n. inserted n b) book notes
+
+-- the run's book was in order, and gives these layouts once it is given all notes so far
+abbrev pub GivesLayouts : Opening → List Entry → List ℕ → List (ℕ × ℕ) → Type 0
+GivesLayouts o past key layouts = IsTrue (in_order o.notes) × IsCurrent (with_notes o.notes (each_of (noted o) past)) key o.identity.uuid layouts

@@ -33,6 +33,16 @@ foul_setting = saying (codes "SETSTATE WORM--a s" ∷ []) ++ by_main (End 1 (Fou
 abbrev pub tagged_saying : List ℕ → List Entry
 tagged_saying line = tagged_greeting ++ says 1 line ∷ []
 
+-- three URLs of one key; two, of which one is said twice; and the one that it had, taken away and set again
+abbrev pub urls_said : List (List ℕ)
+urls_said = codes "SETURLPRESENT WORM--a http://c" ∷ codes "SETURLPRESENT WORM--a ftp://d" ∷ codes "SETURLPRESENT WORM--a http://a" ∷ []
+
+abbrev pub url_said_twice : List (List ℕ)
+url_said_twice = codes "SETURLPRESENT WORM--a http://c" ∷ codes "SETURLPRESENT WORM--a ftp://d" ∷ codes "SETURLPRESENT WORM--a http://c" ∷ []
+
+abbrev pub url_said_again : List (List ℕ)
+url_said_again = codes "SETURLMISSING WORM--a http://b" ∷ codes "SETURLPRESENT WORM--a http://b" ∷ []
+
 -- config a was set when the run began, and the key had a URL
 abbrev pub before : RegisterFile
 before = with_url (with_config nothing_set (codes "a") (codes "1")) (codes "WORM--a") (codes "http://b") true

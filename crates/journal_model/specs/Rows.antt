@@ -66,6 +66,10 @@ answered = by_main (Answered 1 Present)
 abbrev pub closed : Entry
 closed = by_main (End 1 Closed)
 
+-- the lines to its child
+abbrev pub asked_lines : List (List ℕ)
+asked_lines = codes "EXTENSIONS INFO GETGITREMOTENAME" ∷ codes "PREPARE" ∷ (codes "CHECKPRESENT " ++ sample_key) ∷ []
+
 abbrev pub check_present : List Entry
 check_present = greeting ++ asking ++ success_of sample_key ∷ settled ∷ answered ∷ closed ∷ []
 
@@ -269,6 +273,13 @@ name_said = by_main (Lead 1 2 (codes "J 2 EXPORT x y"))
 
 abbrev pub export_asked : Entry
 export_asked = by_main (Ask 1 2 1 (codes "J 2 TRANSFEREXPORT STORE WORM--a f"))
+
+-- a request of another job, and one by another number
+abbrev pub other_job_asked : Entry
+other_job_asked = by_main (Ask 1 3 1 (codes "J 3 TRANSFEREXPORT STORE WORM--a f"))
+
+abbrev pub asked_by_other : Entry
+asked_by_other = record { by = 1; what = Ask 1 2 1 (codes "J 2 TRANSFEREXPORT STORE WORM--a f") }
 
 abbrev pub exported : List Entry
 exported =

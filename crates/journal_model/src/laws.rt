@@ -18,7 +18,9 @@ ghost use Rattle.journal_model.specs.Projection.{JobFits, PartIsAsked};
 ghost use Rattle.journal_model.specs.Wires.{Wired};
 ghost use Rattle.journal_model.specs.Output.{answer_line};
 ghost use Rattle.journal_model.specs.Room.{room_for, room_for_all, room_of, is_put, is_ask};
-ghost use Rattle.journal_model.specs.Rows.{one_check, check_present, not_closed, other_key, not_settled, sample_key, by_main, settled, answered, greeting, two_checks, crossed, unknown_job, tag_left_off, tagged_greeting, end_with, not_extended, no_disk, checking, away, settled_by_aside, out_of_disk, one_left, ask_configs, listing, one_listed, set_up, two_stores, first_claimed};
+ghost use Rattle.journal_model.specs.Rows.{one_check, check_present, not_closed, other_key, not_settled, sample_key, by_main, settled, answered, greeting, asked_lines};
+ghost use Rattle.journal_model.specs.Rows.{two_checks, crossed, unknown_job, tag_left_off, tagged_greeting, end_with, not_extended, no_disk, checking, away};
+ghost use Rattle.journal_model.specs.Rows.{settled_by_aside, out_of_disk, one_left, ask_configs, listing, one_listed, set_up, two_stores, first_claimed};
 
 /// The journal of one check is legal, and so it is before its child is closed.
 pub fn check_present_is_legal()
@@ -66,7 +68,7 @@ pub fn check_present_talks()
 
 /// What was read and written, and what is printed.
 pub fn check_present_is_wired()
-    ensures wired { Wired check_present 1 (Some (text (got_lines check_present 1))) (Some (text (codes "EXTENSIONS INFO GETGITREMOTENAME" ∷ codes "PREPARE" ∷ (codes "CHECKPRESENT " ++ sample_key) ∷ []))) [] }
+    ensures wired { Wired check_present 1 (Some (text (got_lines check_present 1))) (Some (text asked_lines)) [] }
     ensures printed { answer_line check_present 1 Present ≡ codes "1 present" ++ 10 ∷ [] }
     ensures foul { answer_line other_key 1 (EndedAnswer (Foul 13)) ≡ codes "1 foul CHECKPRESENT-SUCCESS WORM--x" ++ 10 ∷ [] }
 {}
@@ -161,7 +163,7 @@ pub fn parts_fit()
 pub fn room_suffices()
     ensures long { (o : Opening) (journal : List Entry) → Legal o journal → length journal ≤ room_of o journal }
     ensures grows { (o : Opening) (past more : List Entry) → room_of o (past ++ more) ≡ room_of o past + room_for_all more }
-    ensures group { (o : Opening) (past : List Entry) (e : Entry) (rest : List Entry) → IsGroup o past (e ∷ rest) → room_for_all (e ∷ rest) ≡ room_for e.what + 2 * count is_put rest + 3 * count is_ask rest }
+    ensures group { (o : Opening) (past rest : List Entry) (e : Entry) → IsGroup o past (e ∷ rest) → room_for_all (e ∷ rest) ≡ room_for e.what + 2 * count is_put rest + 3 * count is_ask rest }
     ensures no_reply { (o : Opening) (past : List Entry) (e : Entry) (rest : List Entry) → IsGroup o past (e ∷ rest) → is_got e.what ≡ false → count is_put rest ≡ 0 }
 {}
 

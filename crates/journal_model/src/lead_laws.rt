@@ -7,7 +7,7 @@ ghost use Rattle.journal_model.specs.declared.entry.What.TheVariants.{Lead, Ask,
 ghost use Rattle.journal_model.specs.Parts.{part};
 ghost use Rattle.journal_model.specs.Due.{replies_at};
 ghost use Rattle.journal_model.specs.Legality.{Legal, FirstWrong, Unfinished, may_come};
-ghost use Rattle.journal_model.specs.Rows.{two_checks, by_main, claimed_tagged, name_said, export_asked, exported, half_written};
+ghost use Rattle.journal_model.specs.Rows.{two_checks, by_main, claimed_tagged, name_said, export_asked, other_job_asked, asked_by_other, exported, half_written};
 
 /// A name and the request that it leads stand together, and both belong to the job's conversation. Where the name alone was written, the
 /// request is unsent.
@@ -26,8 +26,8 @@ pub fn names_are_followed()
     ensures nameless { FirstWrong two_checks (claimed_tagged ++ export_asked ∷ []) 11 export_asked }
     ensures twice { FirstWrong two_checks (claimed_tagged ++ name_said ∷ name_said ∷ []) 12 name_said }
     ensures other { FirstWrong two_checks (claimed_tagged ++ name_said ∷ by_main (Ask 1 2 1 (codes "J 2 CHECKPRESENT WORM--a")) ∷ []) 12 (by_main (Ask 1 2 1 (codes "J 2 CHECKPRESENT WORM--a"))) }
-    ensures other_job { FirstWrong two_checks (claimed_tagged ++ name_said ∷ by_main (Ask 1 3 1 (codes "J 3 TRANSFEREXPORT STORE WORM--a f")) ∷ []) 12 (by_main (Ask 1 3 1 (codes "J 3 TRANSFEREXPORT STORE WORM--a f"))) }
-    ensures by_other { FirstWrong two_checks (claimed_tagged ++ name_said ∷ record { by = 1; what = Ask 1 2 1 (codes "J 2 TRANSFEREXPORT STORE WORM--a f") } ∷ []) 12 (record { by = 1; what = Ask 1 2 1 (codes "J 2 TRANSFEREXPORT STORE WORM--a f") }) }
+    ensures other_job { FirstWrong two_checks (claimed_tagged ++ name_said ∷ other_job_asked ∷ []) 12 other_job_asked }
+    ensures by_other { FirstWrong two_checks (claimed_tagged ++ name_said ∷ asked_by_other ∷ []) 12 asked_by_other }
     ensures late { FirstWrong two_checks (claimed_tagged ++ name_said ∷ export_asked ∷ name_said ∷ []) 13 name_said }
 {}
 

@@ -12,7 +12,7 @@ ghost use Rattle.journal_model.specs.declared.entry.Entry.{Entry};
 ghost use Rattle.journal_model.specs.declared.opening.Opening.{Opening};
 ghost use Rattle.journal_model.specs.Journal.{each_of};
 ghost use Rattle.journal_model.specs.Legality.{Legal, IsGroup, may_come};
-ghost use Rattle.journal_model.specs.Notes.{stamp_of, note_of, noted, notes_at, with_notes, AreCurrentAt};
+ghost use Rattle.journal_model.specs.Notes.{stamp_of, note_of, noted, notes_at, with_notes, AreCurrentAt, GivesLayouts};
 ghost use Rattle.journal_model.specs.Rows.{greeting, by_main};
 ghost use Rattle.journal_model.specs.NoteRows.{content, remote, to_do, line_of, known_since, claimed, storing, stored, noting, noted_and_answered};
 
@@ -22,7 +22,7 @@ pub fn notes_follow()
     ensures counts { (book notes : List Note) → IsTrue (in_order book) → (key uuid : List ℕ) (chunk : ℕ) → counting (with_notes book notes) key uuid chunk ≡ counting (book ++ notes) key uuid chunk }
     ensures one { (a b : List Note) → IsTrue (in_order a) → IsTrue (in_order b) → ((key uuid : List ℕ) (chunk : ℕ) → counting a key uuid chunk ≡ counting b key uuid chunk) → a ≡ b }
     ensures order { (book notes : List Note) → IsTrue (in_order book) → IsTrue (in_order (with_notes book notes)) }
-    ensures current { (o : Opening) (past : List Entry) (key : List ℕ) (layouts : List (ℕ × ℕ)) → IsTrue (in_order o.notes) → IsCurrent (with_notes o.notes (each_of (noted o) past)) key o.identity.uuid layouts → AreCurrentAt o past key layouts }
+    ensures current { (o : Opening) (past : List Entry) (key : List ℕ) (layouts : List (ℕ × ℕ)) → GivesLayouts o past key layouts → AreCurrentAt o past key layouts }
 {}
 
 /// After more entries stand the notes before and then those of the entries. In a group the first entry alone may note something.

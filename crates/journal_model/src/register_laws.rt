@@ -10,7 +10,7 @@ ghost use Rattle.journal_model.specs.declared.entry.Entry.{Entry};
 ghost use Rattle.journal_model.specs.declared.opening.Identity.{Identity};
 ghost use Rattle.journal_model.specs.Replies.{base_text, are_line_fields, SameValues, Values, values_of, replies_by, set_by_all};
 ghost use Rattle.journal_model.specs.Registers.{settings, settings_from, values_at, urls_at, NamesNoLine, HasNoLine};
-ghost use Rattle.journal_model.specs.RegisterRows.{says, saying, with_second, foul_setting, tagged_saying, before, owed};
+ghost use Rattle.journal_model.specs.RegisterRows.{says, saying, with_second, foul_setting, tagged_saying, urls_said, url_said_twice, url_said_again, before, owed};
 ghost use Rattle.journal_model.specs.Rows.{greeting};
 
 /// What the last settings gave is what registers hold that were set by each setting in turn; and what is owed to a message
@@ -66,9 +66,9 @@ pub fn worked_urls()
     ensures at_first { owed (saying []) (Geturls (codes "WORM--a") []) ≡ codes "VALUE http://b" ∷ codes "VALUE " ∷ [] }
     ensures taken_away { owed (saying (codes "SETURLMISSING WORM--a http://b" ∷ [])) (Geturls (codes "WORM--a") []) ≡ codes "VALUE " ∷ [] }
     ensures set_and_taken_away { owed (saying (codes "SETURLPRESENT WORM--a x" ∷ codes "SETURLMISSING WORM--a x" ∷ [])) (Geturls (codes "WORM--a") (codes "x")) ≡ codes "VALUE " ∷ [] }
-    ensures taken_away_and_set { owed (saying (codes "SETURLMISSING WORM--a http://b" ∷ codes "SETURLPRESENT WORM--a http://b" ∷ [])) (Geturls (codes "WORM--a") []) ≡ codes "VALUE http://b" ∷ codes "VALUE " ∷ [] }
-    ensures prefix { owed (saying (codes "SETURLPRESENT WORM--a http://c" ∷ codes "SETURLPRESENT WORM--a ftp://d" ∷ codes "SETURLPRESENT WORM--a http://a" ∷ [])) (Geturls (codes "WORM--a") (codes "http:")) ≡ codes "VALUE http://a" ∷ codes "VALUE http://b" ∷ codes "VALUE http://c" ∷ codes "VALUE " ∷ [] }
-    ensures all { owed (saying (codes "SETURLPRESENT WORM--a http://c" ∷ codes "SETURLPRESENT WORM--a ftp://d" ∷ codes "SETURLPRESENT WORM--a http://c" ∷ [])) (Geturls (codes "WORM--a") []) ≡ codes "VALUE ftp://d" ∷ codes "VALUE http://b" ∷ codes "VALUE http://c" ∷ codes "VALUE " ∷ [] }
+    ensures taken_away_and_set { owed (saying url_said_again) (Geturls (codes "WORM--a") []) ≡ codes "VALUE http://b" ∷ codes "VALUE " ∷ [] }
+    ensures prefix { owed (saying urls_said) (Geturls (codes "WORM--a") (codes "http:")) ≡ codes "VALUE http://a" ∷ codes "VALUE http://b" ∷ codes "VALUE http://c" ∷ codes "VALUE " ∷ [] }
+    ensures all { owed (saying url_said_twice) (Geturls (codes "WORM--a") []) ≡ codes "VALUE ftp://d" ∷ codes "VALUE http://b" ∷ codes "VALUE http://c" ∷ codes "VALUE " ∷ [] }
     ensures other_key { owed (saying (codes "SETURLPRESENT WORM--ab x" ∷ [])) (Geturls (codes "WORM--a") (codes "x")) ≡ codes "VALUE " ∷ [] }
 {}
 

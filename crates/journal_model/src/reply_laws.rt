@@ -12,8 +12,10 @@ ghost use Rattle.journal_model.specs.Wires.{Wired};
 ghost use Rattle.journal_model.specs.Due.{due_by_got, replies_at, foul};
 ghost use Rattle.journal_model.specs.Legality.{Legal, FirstWrong, Unfinished};
 ghost use Rattle.journal_model.specs.Projection.{PutsReply};
-ghost use Rattle.journal_model.specs.Rows.{one_check, sample_key, by_main, greeting, two_checks, one_left};
-ghost use Rattle.journal_model.specs.ReplyRows.{with_settings, told, config_asked, config_told, set_and_told, urls_told, directory_told, state_told, tagged_told, told_twice, not_told, other_value, by_other, ended_for_asking, told_behind_final, talk_told, setting_told, urls_cut, urls_crossed, state_unseen, other_tag, other_job, no_tag};
+ghost use Rattle.journal_model.specs.Rows.{one_check, sample_key, by_main, greeting, asked_lines, two_checks, one_left};
+ghost use Rattle.journal_model.specs.ReplyRows.{with_settings, told, config_asked, config_told, set_and_told, urls_told, directory_told, state_told, tagged_told};
+ghost use Rattle.journal_model.specs.ReplyRows.{told_twice, not_told, other_value, by_other, ended_for_asking, told_behind_final, talk_told, setting_told};
+ghost use Rattle.journal_model.specs.ReplyRows.{urls_cut, urls_crossed, state_unseen, other_tag, other_job, no_tag};
 
 /// In a legal journal each Put is one of the replies that a line is owed, after it at its place.
 pub fn puts_reply()
@@ -28,7 +30,7 @@ pub fn answered_asides()
     ensures urls { Legal with_settings urls_told }
     ensures directory { Legal one_check directory_told }
     ensures config_talks { Conv (replies_at with_settings config_told) (Checkpresent sample_key) (part config_told 1 2) }
-    ensures config_wired { Wired config_told 1 (Some (text (got_lines config_told 1))) (Some (text (codes "EXTENSIONS INFO GETGITREMOTENAME" ∷ codes "PREPARE" ∷ (codes "CHECKPRESENT " ++ sample_key) ∷ codes "VALUE 1" ∷ []))) [] }
+    ensures config_wired { Wired config_told 1 (Some (text (got_lines config_told 1))) (Some (text (asked_lines ++ codes "VALUE 1" ∷ []))) [] }
     ensures urls_talk { Conv (replies_at with_settings urls_told) (Checkpresent sample_key) (part urls_told 1 2) }
 {}
 

@@ -1,6 +1,5 @@
 -- One text tells one run.
 use Rattle.std.proofs.Common.{◌≡◌, ◌∙◌, ℕ, List, [], ◌++◌, map, Some, refl, sym, ap, subst}
-use Rattle.std.specs.List.{slice_get}
 use Rattle.std.proofs.lemmas.List.{append-nil}
 use Rattle.reg_file.specs.Registers.{RegisterFile, nothing_set}
 use Rattle.reg_file.specs.RegLines.{lines_of, set_by_lines}
@@ -13,11 +12,10 @@ use Rattle.task_text.specs.declared.task.Task.{Task}
 use Rattle.journal_model.specs.declared.entry.Entry.{Entry}
 use Rattle.journal_model.specs.declared.opening.Identity.{Identity}
 use Rattle.journal_model.specs.declared.opening.Opening.{Opening}
-use Rattle.entry_lines.specs.Entries.{IsEntry}
 use Rattle.journal_lines.specs.JournalTexts.{Told, journal_lines, kept_lines, told, told_lines}
 use Rattle.journal_reader.specs.Openings.{IsTellable, as_told}
 use Rattle.journal_reader.specs.Readings.{Reading, start}
-use Rattle.journal_reader.specs.RunTexts.{IsTold}
+use Rattle.journal_reader.specs.RunTexts.{AreEntries, IsTold}
 use Rattle.journal_reader.specs.Runs.{IsOpeningOf, Reads}
 use Rattle.journal_reader.specs.declared.place.Place.TheVariants.{Over}
 use Rattle.journal_reader.proofs.Agreeing.{reads_same}
@@ -61,10 +59,7 @@ same_opening a b t r n i s g =
     ∙ ap (λ (x : ℕ). record b { stamp = x; again = a.again }) s
     ∙ ap (λ (x : ℕ). record b { again = x }) g
 
-abbrev Entries : List Entry → Type 0
-Entries journal = (n : ℕ) (entry : Entry) → slice_get journal n ≡ Some entry → IsEntry entry
-
-pub one_run : (o p : Opening) (journal entries : List Entry) → IsTellable o → IsTellable p → Entries journal → Entries entries → journal_lines o journal ≡ journal_lines p entries
+pub one_run : (o p : Opening) (journal entries : List Entry) → IsTellable o → IsTellable p → AreEntries journal → AreEntries entries → journal_lines o journal ≡ journal_lines p entries
     → (as_told o ≡ as_told p) × (journal ≡ entries)
 one_run o p journal entries is other given more same =
     let one : told o journal ≡ told p entries = one_told (told o journal) (told p entries) (written_is_told o journal is given) (written_is_told p entries other more) same in

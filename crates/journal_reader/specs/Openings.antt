@@ -1,12 +1,13 @@
 -- Openings whose text tells them whole, but for users and passwords and for parts of a microsecond.
-use Rattle.std.specs.Prelude.{ℕ, ◌≡◌, ◌<◌, ◌≤◌, ◌^◌, [], Some, All, map, length, slice_get, IsTrue}
+use Rattle.std.specs.Prelude.{ℕ, ◌≡◌, ◌<◌, ◌≤◌, ◌^◌, List, [], Some, All, map, length, slice_get, IsTrue}
 use Rattle.reg_file.specs.Registers.{IsKept}
 use Rattle.chunk_log.specs.NoteBooks.{in_order}
 use Rattle.keep_text.specs.KeptFiles.{cut_note, IsKeepable}
 use Rattle.task_text.specs.TaskLines.{IsTask}
 use Rattle.task_text.specs.declared.task.Task.{Task}
+use Rattle.journal_model.specs.declared.entry.Entry.{Entry}
 use Rattle.journal_model.specs.declared.opening.Opening.{Opening}
-use Rattle.journal_reader.specs.RunTexts.{is_uuid, is_text}
+use Rattle.journal_reader.specs.RunTexts.{AreEntries, is_uuid, is_text}
 
 -- its texts, numbers, tasks, registers and notes are of their classes
 pub record IsTellable (o : Opening) : Type 0 where
@@ -20,6 +21,11 @@ pub record IsTellable (o : Opening) : Type 0 where
   pub registers : IsKept o.registers
   pub notes : All IsKeepable o.notes
   pub order : IsTrue (in_order o.notes)
+
+-- and so is each entry of the journal
+pub record CanBeTold (o : Opening) (journal : List Entry) : Type 0 where
+  pub opening : IsTellable o
+  pub entries : AreEntries journal
 
 -- The opening that was read is the one that was written: users and passwords are left out, and the stamps of notes are cut to
 -- microseconds.

@@ -8,9 +8,9 @@ use Rattle.task_text.specs.declared.task.Task.{Task}
 use Rattle.journal_model.specs.declared.entry.What.{What}
 use Rattle.journal_model.specs.declared.entry.What.TheVariants.{Again}
 use Rattle.journal_model.specs.declared.entry.Entry.{Entry}
-use Rattle.entry_lines.specs.Entries.{IsEntry}
+use Rattle.entry_lines.specs.Entries.{entry_line, IsEntry}
 use Rattle.keep_text.specs.Orders.{is_written_line, comes_before}
-use Rattle.journal_lines.specs.JournalTexts.{Told, told_lines}
+use Rattle.journal_lines.specs.JournalTexts.{Told, told_lines, worded}
 
 -- UTF-8 on one line
 abbrev pub is_text : List ℕ → Bool
@@ -23,6 +23,14 @@ is_written_uuid text (Some uuid) = bytes_eq (hyphenated_text lower uuid) text
 -- a UUID in lower case with hyphens
 abbrev pub is_uuid : List ℕ → Bool
 is_uuid text = is_written_uuid text (parsed text)
+
+-- after the word the line has this text, which is of that class
+abbrev pub HasText : (List ℕ → Bool) → List ℕ → List ℕ → List ℕ → Type 0
+HasText is_so word line text = (line ≡ worded word text) × IsTrue (is_so text)
+
+-- it has no such text there
+abbrev pub HasNoText : (List ℕ → Bool) → List ℕ → List ℕ → Type 0
+HasNoText is_so word line = (text : List ℕ) → line ≡ worded word text → IsTrue (is_so text) → ⊥
 
 -- a line of a kept file as it is written
 abbrev pub is_kept : List ℕ → Bool
@@ -54,6 +62,18 @@ is_again what = false
 abbrev pub may_stand : Bool → What → Bool
 may_stand early what = not (early && is_again what)
 
+-- the line is that of the entry, which may stand in such a text
+abbrev pub HasEntry : Bool → List ℕ → Entry → Type 0
+HasEntry early line entry = (line ≡ entry_line entry) × IsEntry entry × IsTrue (may_stand early entry.what)
+
+-- it is the line of no such entry
+abbrev pub HasNoEntry : Bool → List ℕ → Type 0
+HasNoEntry early line = (entry : Entry) → IsEntry entry → IsTrue (may_stand early entry.what) → line ≡ entry_line entry → ⊥
+
+-- each of them can be written as a line
+abbrev pub AreEntries : List Entry → Type 0
+AreEntries entries = (n : ℕ) (entry : Entry) → slice_get entries n ≡ Some entry → IsEntry entry
+
 -- what a text may tell
 pub record IsTold (t : Told) : Type 0 where
   pub uuid : IsTrue (is_uuid t.uuid)
@@ -64,7 +84,7 @@ pub record IsTold (t : Told) : Type 0 where
   pub few : length t.tasks ≤ 65536
   pub tasks : (n : ℕ) (task : Task) → slice_get t.tasks n ≡ Some task → IsTask task
   pub kept : AreInOrder t.kept
-  pub entries : (n : ℕ) (entry : Entry) → slice_get t.entries n ≡ Some entry → IsEntry entry
+  pub entries : AreEntries t.entries
   pub stand : (n : ℕ) (entry : Entry) → slice_get t.entries n ≡ Some entry → IsTrue (may_stand t.early entry.what)
 
 -- the lines are the text of a run

@@ -1,9 +1,7 @@
 // Taking the lines of entries, and the end.
-ghost use Rattle.std.specs.Prelude.{◌≡◌, IfOk, IsTrue, MatchOption, bytes_eq, length};
-ghost use Rattle.journal_model.specs.declared.entry.Entry.{Entry};
+ghost use Rattle.std.specs.Prelude.{◌≡◌, IfOk, MatchOption, bytes_eq, length};
 ghost use Rattle.journal_lines.specs.JournalTexts.{end_line};
-ghost use Rattle.entry_lines.specs.Entries.{entry_line, IsEntry};
-ghost use Rattle.journal_reader.specs.RunTexts.{may_stand};
+ghost use Rattle.journal_reader.specs.RunTexts.{HasEntry, HasNoEntry, may_stand};
 
 use crate::place::Place;
 use crate::reader::Reader;
@@ -52,7 +50,7 @@ fn is_end(alloc: Global, line: &[u8], count: u64) -> Result<bool, NoMemory>
 
 // The entry whose line this is, if it may stand in the text.
 fn entry_of(alloc: Global, line: &[u8], early: bool) -> Result<Option<Entry>, NoMemory>
-    ensures { IfOk result (λ found. MatchOption found ((entry : Entry) → IsEntry entry → IsTrue (may_stand early entry.what) → line.now ≡ entry_line entry → ⊥) (λ entry. (line.now ≡ entry_line entry) × IsEntry entry × IsTrue (may_stand early entry.what))) }
+    ensures { IfOk result (λ found. MatchOption found (HasNoEntry early line.now) (HasEntry early line.now)) }
 {
     match read_entry(alloc, line)? {
         Some(entry) if is_entry(&entry) && may_stand(early, &entry.what) => Ok(Some(entry)),

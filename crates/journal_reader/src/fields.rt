@@ -6,7 +6,7 @@ ghost use Rattle.chunk_log.specs.ChunkLines.{number_in};
 ghost use Rattle.uuid.specs.Text.{parsed, hyphenated_text, lower};
 ghost use Rattle.annex_model.specs.Lines.{has_newline};
 ghost use Rattle.journal_lines.specs.JournalTexts.{worded, stamp_line, again_line};
-ghost use Rattle.journal_reader.specs.RunTexts.{is_text, is_uuid};
+ghost use Rattle.journal_reader.specs.RunTexts.{HasNoText, HasText, is_text, is_uuid};
 
 use ann_key::{NoMemory, Text};
 use std::alloc::Global;
@@ -47,7 +47,7 @@ pub(crate) fn has_newline(line: &[u8]) -> bool
 
 /// The text after the word, where it is UTF-8 on one line.
 pub(crate) fn text_behind<'a>(line: &'a [u8], word: &[u8]) -> Option<&'a str>
-    ensures { MatchOption result ((text : List ℕ) → line.entry.now ≡ worded word.now text → IsTrue (is_text text) → ⊥) (λ text. (line.entry.now ≡ worded word.now text.now) × IsTrue (is_text text.now)) }
+    ensures { MatchOption result (HasNoText is_text word.now line.entry.now) (λ text. HasText is_text word.now line.entry.now text.now) }
 {
     match behind(line, word) {
         Some(text) => text_of(text),
@@ -69,7 +69,7 @@ fn text_of(text: &[u8]) -> Option<&str>
 
 /// The UUID after the word, in lower case with hyphens.
 pub(crate) fn uuid_behind(line: &[u8], word: &[u8]) -> Option<Uuid>
-    ensures { MatchOption result ((text : List ℕ) → line.now ≡ worded word.now text → IsTrue (is_uuid text) → ⊥) (λ uuid. (line.now ≡ worded word.now (hyphenated_text lower uuid)) × IsTrue (is_uuid (hyphenated_text lower uuid))) }
+    ensures { MatchOption result (HasNoText is_uuid word.now line.now) (λ uuid. HasText is_uuid word.now line.now (hyphenated_text lower uuid)) }
 {
     match behind(line, word) {
         Some(text) => uuid_of(text),

@@ -1,13 +1,12 @@
 // Laws over whole texts, each the contract of a function with nothing to do.
-ghost use Rattle.std.specs.Prelude.{◌≡◌, ℕ, List, [], ◌∷◌, ◌++◌, Some, length, slice_get, codes, true, IsTrue};
+ghost use Rattle.std.specs.Prelude.{◌≡◌, ℕ, List, [], ◌∷◌, ◌++◌, length, codes, true, IsTrue};
 ghost use Rattle.chunk_log.specs.NoteBooks.{in_order};
-ghost use Rattle.entry_lines.specs.Entries.{IsEntry};
 ghost use Rattle.journal_lines.specs.JournalTexts.{Told, journal_lines, told, told_lines};
 ghost use Rattle.journal_model.specs.declared.answer.Answer.TheVariants.{Unsent};
 ghost use Rattle.journal_model.specs.declared.entry.Entry.{Entry};
 ghost use Rattle.journal_model.specs.declared.entry.What.TheVariants.{Again};
 ghost use Rattle.journal_model.specs.declared.opening.Opening.{Opening};
-ghost use Rattle.journal_reader.specs.Openings.{IsReadBack, IsTellable, as_told};
+ghost use Rattle.journal_reader.specs.Openings.{CanBeTold, IsReadBack, IsTellable, as_told};
 ghost use Rattle.journal_reader.specs.Readings.{Reading, Goes, CannotGo, nothing_told, start};
 ghost use Rattle.journal_reader.specs.RunTexts.{Begins, IsTold};
 ghost use Rattle.journal_reader.specs.Runs.{IsOpeningOf, Reads};
@@ -38,7 +37,7 @@ pub fn what_is_refused_is_in_no_text()
 /// What is written of an opening and a journal is a whole text, and is read as that opening: users and passwords are left out,
 /// and the stamps of notes are cut to microseconds.
 pub fn what_is_written_is_read()
-    ensures text { (o : Opening) (journal : List Entry) → IsTellable o → ((n : ℕ) (entry : Entry) → slice_get journal n ≡ Some entry → IsEntry entry) → IsTold (told o journal) }
+    ensures text { (o : Opening) (journal : List Entry) → CanBeTold o journal → IsTold (told o journal) }
     ensures opening { (o read : Opening) (journal : List Entry) → IsTellable o → IsTrue (in_order read.notes) → IsOpeningOf read (told o journal) → IsReadBack read o }
 {}
 
@@ -46,7 +45,7 @@ pub fn what_is_written_is_read()
 /// for users and passwords and for parts of a microsecond in the stamps of notes.
 pub fn one_text_tells_one_run()
     ensures told { (t u : Told) → IsTold t → IsTold u → told_lines t ≡ told_lines u → t ≡ u }
-    ensures run { (o p : Opening) (journal entries : List Entry) → IsTellable o → IsTellable p → ((n : ℕ) (entry : Entry) → slice_get journal n ≡ Some entry → IsEntry entry) → ((n : ℕ) (entry : Entry) → slice_get entries n ≡ Some entry → IsEntry entry) → journal_lines o journal ≡ journal_lines p entries → (as_told o ≡ as_told p) × (journal ≡ entries) }
+    ensures run { (o p : Opening) (a b : List Entry) → CanBeTold o a → CanBeTold p b → journal_lines o a ≡ journal_lines p b → (as_told o ≡ as_told p) × (a ≡ b) }
 {}
 
 /// Each text says after its stamp how often a task may be run again. A text with the head of before doesn't, and holds no Again.

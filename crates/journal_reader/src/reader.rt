@@ -32,7 +32,21 @@ impl Model for Reader {
 
     ghost Value = { Reading };
 
-    ghost view = { λ r. record { place = r.place; taken = r.taken; told = record { early = r.early; uuid = r.uuid; name = r.name; gitdir = r.gitdir; stamp = r.stamp; again = r.again; tasks = r.tasks.items; kept = r.kept.items; entries = r.journal.entries } } };
+    ghost view = { λ r. record {
+      place = r.place;
+      taken = r.taken;
+      told = record {
+        early = r.early;
+        uuid = r.uuid;
+        name = r.name;
+        gitdir = r.gitdir;
+        stamp = r.stamp;
+        again = r.again;
+        tasks = r.tasks.items;
+        kept = r.kept.items;
+        entries = r.journal.entries;
+      };
+    } };
 
     ghost invariant = { λ r. IsTrue (list_all is_kept r.kept.items) };
 }

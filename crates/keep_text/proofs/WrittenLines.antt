@@ -14,7 +14,7 @@ use Rattle.chunk_log.specs.ChunkLines.{line_text}
 use Rattle.chunk_log.specs.declared.note.Note.{Note}
 use Rattle.chunk_log.proofs.ReadBack.{reads_back}
 use Rattle.keep_text.specs.KeptLines.{KeptLine, Setting, Expression, State, Url, Chunks, kept_row, kept_reading, chunk_in, is_kept_line, is_right, setting_of, note_of, line_of}
-use Rattle.keep_text.specs.KeptFiles.{lines_in, with_byte, first_bad, settings_in, notes_in, kept_of, written_line, written_note, cut_note, IsKeepable}
+use Rattle.keep_text.specs.KeptFiles.{lines_in, are_lines, is_unended, with_byte, first_bad, settings_in, notes_in, kept_of, written_line, written_note, cut_note, IsKeepable}
 use Rattle.keep_text.proofs.Chunked.{chunk_read}
 use Rattle.keep_text.proofs.LogText.{log_fits}
 use Rattle.keep_text.proofs.Spelled.{read_of_spelled}
@@ -27,9 +27,6 @@ line_back [] t h = refl
 line_back (b ∷ bs) t h =
     let parts = apart (b == 10) (has_newline bs) h in
     ap (λ (s : Bool). cond s ([] ∷ lines_in (bs ++ 10 ∷ t)) (with_byte b (lines_in (bs ++ 10 ∷ t)))) parts.0 ∙ ap (with_byte b) (line_back bs t parts.1)
-
-abbrev pub are_lines : List (List ℕ) → Bool
-are_lines ls = list_all (λ l. not (has_newline l)) ls
 
 pub lines_back : (ls : List (List ℕ)) → are_lines ls ≡ true → lines_in (text ls) ≡ ls
 lines_back [] h = refl
@@ -178,3 +175,7 @@ unended [] b bs h k = alone b bs k
 unended (l ∷ ls) b bs h k =
     let parts = both (not (has_newline l)) (are_lines ls) h in
     ap lines_in (append_assoc l (10 ∷ text ls) (b ∷ bs)) ∙ line_back l (text ls ++ b ∷ bs) parts.0 ∙ ap (λ (rest : List (List ℕ)). l ∷ rest) (unended ls b bs parts.1 k)
+
+pub unended_last : (ls : List (List ℕ)) (last : List ℕ) → are_lines ls ≡ true → is_unended last ≡ true → lines_in (text ls ++ last) ≡ ls ++ last ∷ []
+unended_last ls [] h k = absurd cc
+unended_last ls (b ∷ bs) h k = unended ls b bs h k

@@ -1,17 +1,27 @@
 -- Kept files: what their text says, and how they are written.
-use Rattle.std.specs.Prelude.{ℕ, ◌≡◌, ◌+◌, ◌==◌, not, Bool, true, false, if◌then◌else◌, List, [], ◌∷◌, ◌++◌, Option, Some, None, map, filter, filter_map, codes, bytes_eq, IsTrue, ◌<◌, ◌^◌}
-use Rattle.annex_model.specs.Lines.{text}
-use Rattle.reg_file.specs.Registers.{RegisterFile, nothing_set, is_key_word}
+use Rattle.std.specs.Prelude.{ℕ, ◌≡◌, ◌+◌, ◌==◌, not, Bool, true, false, if◌then◌else◌, List, [], ◌∷◌, ◌++◌, Option, Some, None, map, filter, filter_map, codes, bytes_eq, All, IsTrue, ◌<◌, ◌^◌}
+use Rattle.std.specs.List.{list_all}
+use Rattle.annex_model.specs.Lines.{text, has_newline}
+use Rattle.reg_file.specs.Registers.{RegisterFile, nothing_set, is_key_word, IsKept}
 use Rattle.reg_file.specs.RegLines.{Line, ConfigLine, WantedLine, StateLine, UrlLine, lines_of, set_by_lines}
 use Rattle.chunk_log.specs.ChunkLines.{line_text, IsWritable}
 use Rattle.chunk_log.specs.LogLaws.{cut}
-use Rattle.chunk_log.specs.NoteBooks.{counting}
+pub use Rattle.chunk_log.specs.NoteBooks.{CountsAs}
 use Rattle.chunk_log.specs.declared.note.Note.{Note}
 use Rattle.keep_text.specs.KeptLines.{KeptLine, Setting, Expression, State, Url, Chunks, kept_reading, is_kept_line, setting_of, note_of, line_of}
 use Rattle.keep_text.specs.declared.error.KeepError.{KeepError}
 use Rattle.keep_text.specs.declared.error.KeepError.TheVariants.{BadLine, NoMemory}
 
 -- ---- lines
+
+-- none holds the byte that ends a line
+abbrev pub are_lines : List (List ℕ) → Bool
+are_lines lines = list_all (λ line. not (has_newline line)) lines
+
+-- some bytes, none of which ends a line
+abbrev pub is_unended : List ℕ → Bool
+is_unended [] = false
+is_unended (byte ∷ more) = not (has_newline (byte ∷ more))
 
 abbrev pub with_byte : ℕ → List (List ℕ) → List (List ℕ)
 with_byte b [] = (b ∷ []) ∷ []
@@ -57,10 +67,6 @@ registers_of bytes = set_by_lines nothing_set (settings_in (behind_head (lines_i
 -- the notes of its lines, in their order
 abbrev pub notes_of : List ℕ → List Note
 notes_of bytes = notes_in (behind_head (lines_in bytes))
-
--- of each key, UUID and chunk size the same line counts in both
-abbrev pub CountsAs : List Note → List Note → Type 0
-CountsAs notes others = (key uuid : List ℕ) (chunk : ℕ) → counting notes key uuid chunk ≡ counting others key uuid chunk
 
 -- the error names the first bad line. Memory may run out at any text
 abbrev pub IsFaultOf : List ℕ → KeepError → Type 0
@@ -123,3 +129,7 @@ pub record IsKeepable (note : Note) : Type 0 where
   pub seconds : note.line.stamp.seconds < 2 ^ 64
   pub chunk : note.line.chunk < 2 ^ 64
   pub count : note.line.count < 2 ^ 64
+
+-- what a file can be written of: registers that are kept in order, and such notes
+abbrev pub AreKeepable : RegisterFile → RegisterFile → List Note → Type 0
+AreKeepable config now notes = IsKept config × IsKept now × All IsKeepable notes

@@ -1,16 +1,15 @@
 // Laws over kept files, each the contract of a function with nothing to do.
-ghost use Rattle.std.specs.Prelude.{ℕ, ◌≡◌, ◌↔◌, List, [], ◌∷◌, ◌++◌, not, map, Some, None, All, IsTrue};
-ghost use Rattle.std.specs.List.{list_all};
-ghost use Rattle.annex_model.specs.Lines.{text, has_newline};
-ghost use Rattle.reg_file.specs.Registers.{RegisterFile, IsKept};
+ghost use Rattle.std.specs.Prelude.{ℕ, ◌≡◌, ◌↔◌, List, [], ◌∷◌, ◌++◌, map, Some, None, IsTrue};
+ghost use Rattle.annex_model.specs.Lines.{text};
+ghost use Rattle.reg_file.specs.Registers.{RegisterFile};
 ghost use Rattle.chunk_log.specs.declared.note.Note.{Note};
-ghost use Rattle.keep_text.specs.KeptFiles.{lines_in, bad_line, registers_of, notes_of, kept_text, cut_note, IsKeepable};
+ghost use Rattle.keep_text.specs.KeptFiles.{lines_in, bad_line, registers_of, notes_of, kept_text, cut_note, are_lines, is_unended, AreKeepable};
 ghost use Rattle.keep_text.specs.KeptLines.{KeptLine, KeptSpells, kept_reading};
 
 /// The lines of a text are those that were put one after the other; the last may lack its end.
 pub fn lines_are_cut()
-    ensures ended { (lines : List (List ℕ)) → IsTrue (list_all (λ line. not (has_newline line)) lines) → lines_in (text lines) ≡ lines }
-    ensures unended { (lines : List (List ℕ)) (byte : ℕ) (more : List ℕ) → IsTrue (list_all (λ line. not (has_newline line)) lines) → IsTrue (not (has_newline (byte ∷ more))) → lines_in (text lines ++ byte ∷ more) ≡ lines ++ (byte ∷ more) ∷ [] }
+    ensures ended { (lines : List (List ℕ)) → IsTrue (are_lines lines) → lines_in (text lines) ≡ lines }
+    ensures unended { (lines : List (List ℕ)) (last : List ℕ) → IsTrue (are_lines lines) → IsTrue (is_unended last) → lines_in (text lines ++ last) ≡ lines ++ last ∷ [] }
 {}
 
 /// A line is read as what it spells, and as nothing else.
@@ -21,7 +20,7 @@ pub fn reading_is_spelling()
 /// What is written is read: the config of the first registers, all else of the second but creds, and the notes with their
 /// stamps cut to millionths of a second.
 pub fn what_is_written_is_read()
-    ensures right { (config now : RegisterFile) (notes : List Note) → IsKept config → IsKept now → All IsKeepable notes → bad_line (kept_text config now notes) ≡ None }
-    ensures registers { (config now : RegisterFile) (notes : List Note) → IsKept config → IsKept now → All IsKeepable notes → registers_of (kept_text config now notes) ≡ record now { config = config.config; creds = [] } }
-    ensures notes { (config now : RegisterFile) (notes : List Note) → IsKept config → IsKept now → All IsKeepable notes → notes_of (kept_text config now notes) ≡ map cut_note notes }
+    ensures right { (config now : RegisterFile) (notes : List Note) → AreKeepable config now notes → bad_line (kept_text config now notes) ≡ None }
+    ensures registers { (config now : RegisterFile) (notes : List Note) → AreKeepable config now notes → registers_of (kept_text config now notes) ≡ record now { config = config.config; creds = [] } }
+    ensures notes { (config now : RegisterFile) (notes : List Note) → AreKeepable config now notes → notes_of (kept_text config now notes) ≡ map cut_note notes }
 {}

@@ -1,10 +1,30 @@
--- One turn more of a role of a kit, by the thread that takes all turns.
-use Rattle.std.specs.Prelude.{ℕ, ◌≡◌, Option}
+-- What a role of a kit did: by one turn more, by the thread that takes all turns, or since its thread began.
+use Rattle.std.specs.Prelude.{ℕ, ◌≡◌, List, Option}
+use Rattle.ann_outside.specs.declared.Sink.{Ghosts as SinkGhosts}
+use Rattle.ann_outside.specs.declared.Source.{Ghosts as SourceGhosts}
+use Rattle.kit_core.specs.declared.remote.Remote.{Ghosts as RemoteGhosts}
 use Rattle.kit_async_core.specs.Halls.{KitHall, KitPass}
 use Rattle.kit_async_roles.specs.declared.why.Why.{Why}
-use Rattle.kit_async_roles.specs.Calling.{HandValue, WorkerRan}
-use Rattle.kit_async_roles.specs.Reading.{EarValue, ReaderRan}
-use Rattle.kit_async_roles.specs.Writing.{MouthValue, WriterRan}
+use Rattle.kit_async_roles.specs.Calling.{HandValue, WorkerRan, hand_of}
+use Rattle.kit_async_roles.specs.Passes.{half_of}
+use Rattle.kit_async_roles.specs.Reading.{EarValue, ReaderRan, ear_of}
+use Rattle.kit_async_roles.specs.Writing.{MouthValue, WriterRan, mouth_of}
+use Rattle.kit_async.specs.declared.roles.Reader.{Reader}
+use Rattle.kit_async.specs.declared.roles.Worker.{Worker}
+use Rattle.kit_async.specs.declared.roles.Writer.{Writer}
+
+-- ---- what is seen of what a role holds
+
+abbrev pub ear_at : {S : Type 0} → SourceGhosts S → S → List ℕ → EarValue
+ear_at g source held = ear_of (g.given source) (g.left source) (half_of (g.faults source) (g.is_open source) (g.number source)) held
+
+abbrev pub mouth_at : {W : Type 0} → SinkGhosts W → W → MouthValue
+mouth_at g sink = mouth_of (g.taken sink) (half_of (g.faults sink) (g.is_open sink) (g.number sink))
+
+abbrev pub hand_at : {K : Type 0} → RemoteGhosts K → K → HandValue
+hand_at g remote = hand_of (g.calls remote) (g.settings remote)
+
+-- ---- one turn more
 
 -- what the reader did before, with this it did that and more
 abbrev pub ReaderWent : KitHall → KitPass → KitPass → EarValue → EarValue → Option Why → Option Why → Type 0
@@ -16,3 +36,22 @@ WriterWent h p q m w old new = (begun : KitPass) (mouth : MouthValue) → Writer
 -- who calls a remote did so, in its hall and by its number
 abbrev pub WorkerWent : KitHall → ℕ → KitPass → HandValue → KitHall → ℕ → KitPass → HandValue → Type 0
 WorkerWent h n p a g k q b = WorkerRan h n p q a b × (g ≡ h) × (k ≡ n)
+
+-- the same of the role that holds the pass
+abbrev pub ReaderGoes : {S R : Type 0} {g : SourceGhosts S} → Reader S R g → Reader S R g → Type 0
+ReaderGoes {g = g} a b = ReaderWent a.hall.now a.pass b.pass (ear_at g a.source a.splitter.bytes) (ear_at g b.source b.splitter.bytes) a.why b.why
+
+abbrev pub WriterGoes : {W R : Type 0} {g : SinkGhosts W} → Writer W R g → Writer W R g → Type 0
+WriterGoes {g = g} a b = WriterWent a.hall.now a.pass b.pass (mouth_at g a.sink) (mouth_at g b.sink) a.why b.why
+
+abbrev pub WorkerGoes : {K R : Type 0} {g : RemoteGhosts K} → Worker K R g → Worker K R g → Type 0
+WorkerGoes {g = g} a b = WorkerWent a.hall.now a.number a.pass (hand_at g a.remote) b.hall.now b.number b.pass (hand_at g b.remote)
+
+-- ---- since its thread began
+
+-- it did what it promises in its hall, from the role as it began to the role as it came back
+abbrev pub ReaderRuns : {S R : Type 0} {g : SourceGhosts S} → Reader S R g → Reader S R g → Type 0
+ReaderRuns {g = g} a b = ReaderRan a.hall.now a.pass b.pass (ear_at g a.source a.splitter.bytes) (ear_at g b.source b.splitter.bytes) b.why
+
+abbrev pub WriterRuns : {W R : Type 0} {g : SinkGhosts W} → Writer W R g → Writer W R g → Type 0
+WriterRuns {g = g} a b = WriterRan a.hall.now a.pass b.pass (mouth_at g a.sink) (mouth_at g b.sink) b.why

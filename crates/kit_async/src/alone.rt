@@ -2,11 +2,8 @@
 ghost use Rattle.std.specs.Prelude.{◌≡◌, ◌+◌, true, All};
 ghost use Rattle.gathering.specs.Pairs.{Pairwise};
 ghost use Rattle.kit_serve.specs.Limits.{longest_line};
-ghost use Rattle.kit_async_roles.specs.Calling.{hand_of};
-ghost use Rattle.kit_async_roles.specs.Passes.{Stands, half_of};
-ghost use Rattle.kit_async_roles.specs.Reading.{ear_of};
-ghost use Rattle.kit_async_roles.specs.Writing.{mouth_of};
-ghost use Rattle.kit_async.specs.Turns.{ReaderWent, WorkerWent, WriterWent};
+ghost use Rattle.kit_async_roles.specs.Passes.{Stands};
+ghost use Rattle.kit_async.specs.Turns.{ReaderGoes, WorkerGoes, WriterGoes};
 
 use crate::roles::{Reader, Worker, Writer};
 use ann_outside::{Sink, Source};
@@ -16,7 +13,7 @@ use std::sync::Wait;
 // One turn of each worker, and whether one of them did something.
 fn work_once<'a, K: Remote, R: Wait>(workers: &mut [Worker<'a, K, R>]) -> bool
     requires { All (λ w. Stands w.hall.now (w.number + 3) w.pass) workers.old }
-    ensures { Pairwise (λ w v. WorkerWent w.hall.now w.number w.pass (hand_of (K.calls w.remote) (K.settings w.remote)) v.hall.now v.number v.pass (hand_of (K.calls v.remote) (K.settings v.remote))) workers.old workers.new }
+    ensures { Pairwise WorkerGoes workers.old workers.new }
 {
     let mut went = false;
     for at in 0..workers.len() {
@@ -34,9 +31,9 @@ fn settle<'a, W: Sink, K: Remote, R: Wait>(
 )
     requires writer { Stands writer.old.hall.now 2 writer.old.pass × (W.is_open writer.old.sink ≡ true) }
     requires workers { All (λ w. Stands w.hall.now (w.number + 3) w.pass) workers.old }
-    ensures wrote { WriterWent writer.old.hall.now writer.old.pass writer.new.pass (mouth_of (W.taken writer.old.sink) (half_of (W.faults writer.old.sink) (W.is_open writer.old.sink) (W.number writer.old.sink))) (mouth_of (W.taken writer.new.sink) (half_of (W.faults writer.new.sink) (W.is_open writer.new.sink) (W.number writer.new.sink))) writer.old.why writer.new.why }
+    ensures wrote { WriterGoes writer.old writer.new }
     ensures writer { Stands writer.new.hall.now 2 writer.new.pass × (W.is_open writer.new.sink ≡ true) × (writer.new.hall.now ≡ writer.old.hall.now) }
-    ensures workers { Pairwise (λ w v. WorkerWent w.hall.now w.number w.pass (hand_of (K.calls w.remote) (K.settings w.remote)) v.hall.now v.number v.pass (hand_of (K.calls v.remote) (K.settings v.remote))) workers.old workers.new }
+    ensures workers { Pairwise WorkerGoes workers.old workers.new }
 {
     let rt = writer.rt;
     for _ in rt.forever() {
@@ -58,9 +55,9 @@ pub(crate) fn serve_alone<'a, S: Source, W: Sink, K: Remote, R: Wait>(
     requires reader { Stands reader.old.hall.now 1 reader.old.pass × (S.is_open reader.old.source ≡ true) × (reader.old.splitter.limit ≡ longest_line) }
     requires writer { Stands writer.old.hall.now 2 writer.old.pass × (W.is_open writer.old.sink ≡ true) }
     requires workers { All (λ w. Stands w.hall.now (w.number + 3) w.pass) workers.old }
-    ensures read { ReaderWent reader.old.hall.now reader.old.pass reader.new.pass (ear_of (S.given reader.old.source) (S.left reader.old.source) (half_of (S.faults reader.old.source) (S.is_open reader.old.source) (S.number reader.old.source)) reader.old.splitter.bytes) (ear_of (S.given reader.new.source) (S.left reader.new.source) (half_of (S.faults reader.new.source) (S.is_open reader.new.source) (S.number reader.new.source)) reader.new.splitter.bytes) reader.old.why reader.new.why }
-    ensures wrote { WriterWent writer.old.hall.now writer.old.pass writer.new.pass (mouth_of (W.taken writer.old.sink) (half_of (W.faults writer.old.sink) (W.is_open writer.old.sink) (W.number writer.old.sink))) (mouth_of (W.taken writer.new.sink) (half_of (W.faults writer.new.sink) (W.is_open writer.new.sink) (W.number writer.new.sink))) writer.old.why writer.new.why }
-    ensures workers { Pairwise (λ w v. WorkerWent w.hall.now w.number w.pass (hand_of (K.calls w.remote) (K.settings w.remote)) v.hall.now v.number v.pass (hand_of (K.calls v.remote) (K.settings v.remote))) workers.old workers.new }
+    ensures read { ReaderGoes reader.old reader.new }
+    ensures wrote { WriterGoes writer.old writer.new }
+    ensures workers { Pairwise WorkerGoes workers.old workers.new }
 {
     let rt = reader.rt;
     for _ in rt.forever() {

@@ -4,13 +4,10 @@ ghost use Rattle.crew_round.specs.BackRole.{role_of};
 ghost use Rattle.gathering.specs.Pairs.{Pairwise};
 ghost use Rattle.hall.specs.Passes.{IsPassOf};
 ghost use Rattle.kit_serve.specs.Limits.{longest_line};
-ghost use Rattle.kit_async_roles.specs.Calling.{hand_of};
-ghost use Rattle.kit_async_roles.specs.Passes.{Stands, half_of};
-ghost use Rattle.kit_async_roles.specs.Reading.{ReaderRan, ear_of};
-ghost use Rattle.kit_async_roles.specs.Writing.{WriterRan, mouth_of};
+ghost use Rattle.kit_async_roles.specs.Passes.{Stands};
 ghost use Rattle.kit_async.specs.Dealt.{AreFresh, AreNumbered};
 ghost use Rattle.kit_async.specs.Endings.{AllWorked, ReaderDid, WriterDid};
-ghost use Rattle.kit_async.specs.Turns.{ReaderWent, WorkerWent, WriterWent};
+ghost use Rattle.kit_async.specs.Turns.{ReaderGoes, ReaderRuns, WorkerGoes, WriterGoes, WriterRuns, ear_at, hand_at, mouth_at};
 
 use crate::alone::serve_alone;
 use crate::dealt::{Site, deal, take_back};
@@ -144,9 +141,9 @@ fn serve_unless<'a, K: Remote, S: Source, W: Sink, R: Wait>(
     requires reader { Stands reader.old.hall.now 1 reader.old.pass × (S.is_open reader.old.source ≡ true) × (reader.old.splitter.limit ≡ longest_line) }
     requires writer { Stands writer.old.hall.now 2 writer.old.pass × (W.is_open writer.old.sink ≡ true) }
     requires workers { All (λ w. Stands w.hall.now (w.number + 3) w.pass) workers.old }
-    ensures read { ReaderWent reader.old.hall.now reader.old.pass reader.new.pass (ear_of (S.given reader.old.source) (S.left reader.old.source) (half_of (S.faults reader.old.source) (S.is_open reader.old.source) (S.number reader.old.source)) reader.old.splitter.bytes) (ear_of (S.given reader.new.source) (S.left reader.new.source) (half_of (S.faults reader.new.source) (S.is_open reader.new.source) (S.number reader.new.source)) reader.new.splitter.bytes) reader.old.why reader.new.why }
-    ensures wrote { WriterWent writer.old.hall.now writer.old.pass writer.new.pass (mouth_of (W.taken writer.old.sink) (half_of (W.faults writer.old.sink) (W.is_open writer.old.sink) (W.number writer.old.sink))) (mouth_of (W.taken writer.new.sink) (half_of (W.faults writer.new.sink) (W.is_open writer.new.sink) (W.number writer.new.sink))) writer.old.why writer.new.why }
-    ensures workers { Pairwise (λ w v. WorkerWent w.hall.now w.number w.pass (hand_of (K.calls w.remote) (K.settings w.remote)) v.hall.now v.number v.pass (hand_of (K.calls v.remote) (K.settings v.remote))) workers.old workers.new }
+    ensures read { ReaderGoes reader.old reader.new }
+    ensures wrote { WriterGoes writer.old writer.new }
+    ensures workers { Pairwise WorkerGoes workers.old workers.new }
 {
     if !ran {
         serve_alone(reader, writer, workers);
@@ -172,9 +169,9 @@ fn run<
     requires reader { Stands crew.ear.hall.now 1 crew.ear.pass × (S.is_open crew.ear.source ≡ true) × (crew.ear.splitter.limit ≡ longest_line) × (crew.ear.why ≡ None) }
     requires writer { Stands crew.mouth.hall.now 2 crew.mouth.pass × (W.is_open crew.mouth.sink ≡ true) × (crew.mouth.why ≡ None) }
     requires workers { All (λ w. Stands w.hall.now (w.number + 3) w.pass) crew.workers.items }
-    ensures read { ReaderRan crew.entry.ear.hall.now crew.entry.ear.pass result.ear.pass (ear_of (S.given crew.entry.ear.source) (S.left crew.entry.ear.source) (half_of (S.faults crew.entry.ear.source) (S.is_open crew.entry.ear.source) (S.number crew.entry.ear.source)) crew.entry.ear.splitter.bytes) (ear_of (S.given result.ear.source) (S.left result.ear.source) (half_of (S.faults result.ear.source) (S.is_open result.ear.source) (S.number result.ear.source)) result.ear.splitter.bytes) result.ear.why }
-    ensures wrote { WriterRan crew.entry.mouth.hall.now crew.entry.mouth.pass result.mouth.pass (mouth_of (W.taken crew.entry.mouth.sink) (half_of (W.faults crew.entry.mouth.sink) (W.is_open crew.entry.mouth.sink) (W.number crew.entry.mouth.sink))) (mouth_of (W.taken result.mouth.sink) (half_of (W.faults result.mouth.sink) (W.is_open result.mouth.sink) (W.number result.mouth.sink))) result.mouth.why }
-    ensures worked { Pairwise (λ w v. WorkerWent w.hall.now w.number w.pass (hand_of (K.calls w.remote) (K.settings w.remote)) v.hall.now v.number v.pass (hand_of (K.calls v.remote) (K.settings v.remote))) crew.entry.workers.items result.workers.items }
+    ensures read { ReaderRuns crew.entry.ear result.ear }
+    ensures wrote { WriterRuns crew.entry.mouth result.mouth }
+    ensures worked { Pairwise WorkerGoes crew.entry.workers.items result.workers.items }
 {
     let Crew {
         ear,
@@ -248,9 +245,9 @@ pub(crate) fn play<
     requires fresh { AreFresh site.now.hall.now 1 kit.passes.items }
     requires open { (S.is_open kit.source ≡ true) × (W.is_open kit.sink ≡ true) }
     ensures own { All (IsPassOf site.now.hall.now) result.0.passes.items × (length result.0.passes.items ≡ length kit.passes.items) }
-    ensures read { (held : List ℕ) × ReaderDid site.now.hall.now result.0.passes.items (ear_of (S.given kit.source) (S.left kit.source) (half_of (S.faults kit.source) (S.is_open kit.source) (S.number kit.source)) []) (ear_of (S.given result.0.source) (S.left result.0.source) (half_of (S.faults result.0.source) (S.is_open result.0.source) (S.number result.0.source)) held) result.1.read }
-    ensures wrote { WriterDid site.now.hall.now result.0.passes.items (mouth_of (W.taken kit.sink) (half_of (W.faults kit.sink) (W.is_open kit.sink) (W.number kit.sink))) (mouth_of (W.taken result.0.sink) (half_of (W.faults result.0.sink) (W.is_open result.0.sink) (W.number result.0.sink))) result.1.wrote }
-    ensures worked { AllWorked site.now.hall.now result.0.passes.items 0 (map (λ k. hand_of (K.calls k) (K.settings k)) kit.remotes.items) (map (λ k. hand_of (K.calls k) (K.settings k)) result.0.remotes.items) }
+    ensures read { (held : List ℕ) × ReaderDid site.now.hall.now result.0.passes.items (ear_at S.Source kit.source []) (ear_at S.Source result.0.source held) result.1.read }
+    ensures wrote { WriterDid site.now.hall.now result.0.passes.items (mouth_at W.Sink kit.sink) (mouth_at W.Sink result.0.sink) result.1.wrote }
+    ensures worked { AllWorked site.now.hall.now result.0.passes.items 0 (map (hand_at K.Remote) kit.remotes.items) (map (hand_at K.Remote) result.0.remotes.items) }
 {
     let Some((room, workers, backs)) = rooms(site.alloc, kit.remotes.len()) else {
         let ends = RoleEnds {

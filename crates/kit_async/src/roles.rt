@@ -1,12 +1,4 @@
 // The roles of a kit, each with its pass, in a thread or not.
-ghost use Rattle.std.specs.Prelude.{◌≡◌, ◌+◌, true};
-ghost use Rattle.kit_serve.specs.Limits.{longest_line};
-ghost use Rattle.kit_async_roles.specs.Calling.{hand_of};
-ghost use Rattle.kit_async_roles.specs.Passes.{Stands, half_of};
-ghost use Rattle.kit_async_roles.specs.Reading.{ear_of};
-ghost use Rattle.kit_async_roles.specs.Writing.{mouth_of};
-ghost use Rattle.kit_async.specs.Turns.{ReaderWent, WorkerWent, WriterWent};
-
 use ann_outside::{Sink, Source};
 use crew_round::Role;
 use hall::{Hall, Pass};
@@ -32,12 +24,12 @@ pub(crate) struct Reader<'a, S: Source, R: Wait> {
 impl<'a, S: Source, R: Wait> Role for Reader<'a, S, R> {
     ghost use Rattle.std.specs.Prelude.{◌≡◌, true};
     ghost use Rattle.kit_serve.specs.Limits.{longest_line};
-    ghost use Rattle.kit_async_roles.specs.Passes.{Stands, half_of};
-    ghost use Rattle.kit_async_roles.specs.Reading.{ReaderRan, ear_of};
+    ghost use Rattle.kit_async_roles.specs.Passes.{Stands};
+    ghost use Rattle.kit_async.specs.Turns.{ReaderRuns};
 
     ghost can_run = { λ s. Stands s.hall.now 1 s.pass × (S.is_open s.source ≡ true) × (s.splitter.limit ≡ longest_line) };
 
-    ghost ran = { λ a b. ReaderRan a.hall.now a.pass b.pass (ear_of (S.given a.source) (S.left a.source) (half_of (S.faults a.source) (S.is_open a.source) (S.number a.source)) a.splitter.bytes) (ear_of (S.given b.source) (S.left b.source) (half_of (S.faults b.source) (S.is_open b.source) (S.number b.source)) b.splitter.bytes) b.why × (b.hall.now ≡ a.hall.now) × (b.splitter.limit ≡ longest_line) };
+    ghost ran = { λ a b. ReaderRuns a b × (b.hall.now ≡ a.hall.now) × (b.splitter.limit ≡ longest_line) };
 
     fn run(self) -> Self {
         let Reader {
@@ -63,10 +55,15 @@ impl<'a, S: Source, R: Wait> Role for Reader<'a, S, R> {
 }
 
 impl<'a, S: Source, R: Wait> Reader<'a, S, R> {
+    ghost use Rattle.std.specs.Prelude.{◌≡◌, true};
+    ghost use Rattle.kit_serve.specs.Limits.{longest_line};
+    ghost use Rattle.kit_async_roles.specs.Passes.{Stands};
+    ghost use Rattle.kit_async.specs.Turns.{ReaderGoes};
+
     /// One turn, by the thread that calls it, and whether something was done. Nothing is, once it ended by itself.
     pub(crate) fn turn(&mut self) -> bool
         requires can { Stands self.old.hall.now 1 self.old.pass × (S.is_open self.old.source ≡ true) × (self.old.splitter.limit ≡ longest_line) }
-        ensures went { ReaderWent self.old.hall.now self.old.pass self.new.pass (ear_of (S.given self.old.source) (S.left self.old.source) (half_of (S.faults self.old.source) (S.is_open self.old.source) (S.number self.old.source)) self.old.splitter.bytes) (ear_of (S.given self.new.source) (S.left self.new.source) (half_of (S.faults self.new.source) (S.is_open self.new.source) (S.number self.new.source)) self.new.splitter.bytes) self.old.why self.new.why }
+        ensures went { ReaderGoes self.old self.new }
         ensures can { Stands self.new.hall.now 1 self.new.pass × (S.is_open self.new.source ≡ true) × (self.new.splitter.limit ≡ longest_line) }
         ensures hall { self.new.hall.now ≡ self.old.hall.now }
     {
@@ -99,12 +96,12 @@ pub(crate) struct Writer<'a, W: Sink, R: Wait> {
 
 impl<'a, W: Sink, R: Wait> Role for Writer<'a, W, R> {
     ghost use Rattle.std.specs.Prelude.{◌≡◌, true};
-    ghost use Rattle.kit_async_roles.specs.Passes.{Stands, half_of};
-    ghost use Rattle.kit_async_roles.specs.Writing.{WriterRan, mouth_of};
+    ghost use Rattle.kit_async_roles.specs.Passes.{Stands};
+    ghost use Rattle.kit_async.specs.Turns.{WriterRuns};
 
     ghost can_run = { λ s. Stands s.hall.now 2 s.pass × (W.is_open s.sink ≡ true) };
 
-    ghost ran = { λ a b. WriterRan a.hall.now a.pass b.pass (mouth_of (W.taken a.sink) (half_of (W.faults a.sink) (W.is_open a.sink) (W.number a.sink))) (mouth_of (W.taken b.sink) (half_of (W.faults b.sink) (W.is_open b.sink) (W.number b.sink))) b.why × (b.hall.now ≡ a.hall.now) };
+    ghost ran = { λ a b. WriterRuns a b × (b.hall.now ≡ a.hall.now) };
 
     fn run(self) -> Self {
         let Writer {
@@ -126,10 +123,14 @@ impl<'a, W: Sink, R: Wait> Role for Writer<'a, W, R> {
 }
 
 impl<'a, W: Sink, R: Wait> Writer<'a, W, R> {
+    ghost use Rattle.std.specs.Prelude.{◌≡◌, true};
+    ghost use Rattle.kit_async_roles.specs.Passes.{Stands};
+    ghost use Rattle.kit_async.specs.Turns.{WriterGoes};
+
     /// One turn, by the thread that calls it, and whether something was done. Nothing is, once it ended by itself.
     pub(crate) fn turn(&mut self) -> bool
         requires can { Stands self.old.hall.now 2 self.old.pass × (W.is_open self.old.sink ≡ true) }
-        ensures went { WriterWent self.old.hall.now self.old.pass self.new.pass (mouth_of (W.taken self.old.sink) (half_of (W.faults self.old.sink) (W.is_open self.old.sink) (W.number self.old.sink))) (mouth_of (W.taken self.new.sink) (half_of (W.faults self.new.sink) (W.is_open self.new.sink) (W.number self.new.sink))) self.old.why self.new.why }
+        ensures went { WriterGoes self.old self.new }
         ensures can { Stands self.new.hall.now 2 self.new.pass × (W.is_open self.new.sink ≡ true) }
         ensures hall { self.new.hall.now ≡ self.old.hall.now }
     {
@@ -156,12 +157,11 @@ pub(crate) struct Worker<'a, K: Remote, R: Wait> {
 impl<'a, K: Remote, R: Wait> Role for Worker<'a, K, R> {
     ghost use Rattle.std.specs.Prelude.{◌≡◌, ◌+◌};
     ghost use Rattle.kit_async_roles.specs.Passes.{Stands};
-    ghost use Rattle.kit_async_roles.specs.Calling.{hand_of};
-    ghost use Rattle.kit_async.specs.Turns.{WorkerWent};
+    ghost use Rattle.kit_async.specs.Turns.{WorkerGoes};
 
     ghost can_run = { λ s. Stands s.hall.now (s.number + 3) s.pass };
 
-    ghost ran = { λ a b. WorkerWent a.hall.now a.number a.pass (hand_of (K.calls a.remote) (K.settings a.remote)) b.hall.now b.number b.pass (hand_of (K.calls b.remote) (K.settings b.remote)) };
+    ghost ran = { WorkerGoes };
 
     fn run(self) -> Self {
         let Worker {
@@ -183,10 +183,14 @@ impl<'a, K: Remote, R: Wait> Role for Worker<'a, K, R> {
 }
 
 impl<'a, K: Remote, R: Wait> Worker<'a, K, R> {
+    ghost use Rattle.std.specs.Prelude.{◌+◌};
+    ghost use Rattle.kit_async_roles.specs.Passes.{Stands};
+    ghost use Rattle.kit_async.specs.Turns.{WorkerGoes};
+
     /// One turn, by the thread that calls it, and whether something was done.
     pub(crate) fn turn(&mut self) -> bool
         requires { Stands self.old.hall.now (self.old.number + 3) self.old.pass }
-        ensures { WorkerWent self.old.hall.now self.old.number self.old.pass (hand_of (K.calls self.old.remote) (K.settings self.old.remote)) self.new.hall.now self.new.number self.new.pass (hand_of (K.calls self.new.remote) (K.settings self.new.remote)) }
+        ensures { WorkerGoes self.old self.new }
     {
         let (rt, hall, number) = (self.rt, self.hall, self.number);
         work_turn(rt, hall, &mut self.pass, number, &mut self.remote).went()

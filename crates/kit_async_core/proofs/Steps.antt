@@ -14,6 +14,7 @@ use Rattle.kit_async_model.specs.Standings.{Standing, after, standing}
 use Rattle.kit_async_model.specs.Legality.{Legal}
 use Rattle.kit_async_model.specs.Events.{IsMadeBy, Stepped, event_step, step_of, is_call, can_break, IsUnsaid, MayStep}
 use Rattle.kit_async_model.specs.Books.{BookValue, AreApart, room_owed, TookEvent, BookIsAsBefore, IsBook}
+use Rattle.kit_async_core.specs.Steps.{Comes}
 use Rattle.kit_async_model.proofs.Fronts.{standing_append}
 use Rattle.kit_async_model.proofs.Apart.{standing_apart}
 use Rattle.kit_async_model.proofs.Making.{steps_are_made, lacks_are_made}
@@ -109,9 +110,6 @@ book_kept setup old new by event (Err n) b t e =
     }
 
 -- ---- what is answered
-
-abbrev pub Comes : Setup → List Entry → List Entry → ℕ → Event → Reply → Type 0
-Comes setup old new by event reply = (group : List Entry) × (new ≡ old ++ group) × All (IsMadeBy by) group × MayStep setup old by event group reply
 
 pub step_comes : (setup : Setup) (old new : BookValue) (by : ℕ) (event : Event) (r : Result Reply NoMemory) → IsBook setup old
     → IfOk r (TookEvent setup old new by event) → IfOk r (Comes setup old.journal new.journal by event)

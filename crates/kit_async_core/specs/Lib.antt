@@ -1,2 +1,3 @@
 pub mod Halls
 pub mod Laws
+pub mod Steps

@@ -10,6 +10,7 @@ ghost use Rattle.kit_async_model.specs.Hearings.{hearing_of, value_told};
 ghost use Rattle.kit_async_model.specs.Jobs.{request_of, job_line, lines_in, is_awaiting};
 ghost use Rattle.kit_async_model.specs.Legality.{may_hear, is_some_line};
 ghost use Rattle.kit_async_model.specs.Standings.{starts_tags};
+ghost use Rattle.kit_async_core.specs.Steps.{AsksNext};
 
 use crate::book::{Book, waiting};
 use ann_key::{Bytes, NoMemory};
@@ -330,7 +331,7 @@ impl Book {
         requires may { may_hear setup.now self.old.stands ≡ true }
         requires apart { AreApart self.old.stands.jobs }
         requires is { IsValue setup.now self.old.stands line at values }
-        requires more { IfSome (slice_get self.old.stands.jobs at) (λ job. option_map (λ name. job_line job.number (remote_line (Getconfig name))) (slice_get setup.now.settings (length values)) ≡ Some said) }
+        requires more { AsksNext setup.now self.old.stands.jobs at values said }
         ensures ok { IfOk result (Took setup.now self.old self.new (hear_step setup.now self.old.stands line)) }
         ensures err { OnErr result (BookIsAsBefore self.old self.new) }
     {

@@ -7,6 +7,7 @@ ghost use Rattle.kit_async_model.specs.Books.{AreApart, BookIsAsBefore, TookEven
 ghost use Rattle.kit_async_model.specs.Events.{MayStep, IsMadeBy, can_break, takes_no_memory, is_break, is_of_remote, remote_of};
 ghost use Rattle.kit_async_model.specs.Legality.{Legal, is_finished, is_lack};
 ghost use Rattle.kit_async_model.specs.Standings.{standing};
+ghost use Rattle.kit_async_core.specs.Steps.{Comes};
 
 use crate::book::Book;
 use ann_key::{Bytes, NoMemory};
@@ -187,7 +188,7 @@ impl KitCore {
     /// What comes of an event of that number. At `NoMemory` the journal is as before.
     pub fn step(&mut self, by: u32, event: Event) -> Result<Reply, NoMemory>
         ensures setup { self.new.setup ≡ self.old.setup }
-        ensures ok { IfOk result (λ reply. (group : List Entry) × (self.new.journal ≡ self.old.journal ++ group) × All (IsMadeBy by) group × MayStep self.old.setup self.old.journal by event group reply) }
+        ensures ok { IfOk result (Comes self.old.setup self.old.journal self.new.journal by event) }
         ensures err { OnErr result (self.new.journal ≡ self.old.journal) }
         ensures free { takes_no_memory event ≡ true → IsOk result }
         ensures broken { self.new.broken ≡ (self.old.broken || is_break event) }

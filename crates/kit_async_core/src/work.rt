@@ -1,7 +1,7 @@
 // The steps of a remote: what it takes up, and what it says.
 ghost use Rattle.std.specs.Prelude.{◌≡◌, ◌⊎◌, ◌<◌, ◌≤◌, ◌+◌, ◌^◌, IfOk, IfSome, OnErr, false, true, not, ◌&&◌, length, remove, slice_get};
 ghost use Rattle.kit_core.specs.Calls.{is_line_said};
-ghost use Rattle.kit_async_model.specs.Books.{Took, Lacked, BookIsAsBefore, AreApart, room_owed, IsCalledAt, CallNoted, AnswerBegun};
+ghost use Rattle.kit_async_model.specs.Books.{Took, Lacked, BookIsAsBefore, AreApart, room_owed, IsAnswer, IsCalledAt, CallNoted, AnswerBegun};
 ghost use Rattle.kit_async_model.specs.Legality.{is_idle};
 ghost use Rattle.kit_async_model.specs.Events.{take_step, call_step, work_in};
 ghost use Rattle.kit_async_model.specs.Jobs.{final_in, job_line, prepared_after, settles};
@@ -112,7 +112,7 @@ impl Book {
     // The answer to the job at that place, twice: for the journal and to be written.
     fn answer(&self, at: usize, said: &Said) -> Result<(Bytes, Bytes), NoMemory>
         requires at { at < length self.now.stands.jobs }
-        ensures { IfOk result (λ both. IfSome (slice_get self.now.stands.jobs at) (λ job. (both.0 ≡ job_line job.number (final_in job said.now)) × (both.1 ≡ job_line job.number (final_in job said.now)))) }
+        ensures { IfOk result (λ both. IsAnswer self.now.stands.jobs at said.now both.0 × IsAnswer self.now.stands.jobs at said.now both.1) }
     {
         let job = &self.jobs[at];
         let text = job.final_line(self.alloc, said)?;

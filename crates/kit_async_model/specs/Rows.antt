@@ -107,6 +107,21 @@ strange = Heard (codes "J 4 CLAIMURL http://a")
 abbrev pub unsupported : Entry
 unsupported = Say 4 (codes "J 4 UNSUPPORTED-REQUEST")
 
+-- ---- a host that exports
+
+-- two jobs say a name each, and the second asks before the first
+abbrev pub names_of_two_jobs : List Entry
+names_of_two_jobs =
+    ready ++ Heard (codes "J 3 EXPORT a") ∷ Heard (codes "J 4 EXPORT b")
+    ∷ Heard (codes "J 4 RENAMEEXPORT WORM--a c") ∷ Say 4 (codes "J 4 UNSUPPORTED-REQUEST")
+    ∷ Heard (codes "J 3 REMOVEEXPORT WORM--a") ∷ Say 3 (codes "J 3 UNSUPPORTED-REQUEST") ∷ []
+
+-- a question about exports, and a request about a name that wasn't said
+abbrev pub asked_about_names : List Entry
+asked_about_names =
+    ready ++ Heard (codes "J 3 EXPORTSUPPORTED") ∷ Say 3 (codes "J 3 UNSUPPORTED-REQUEST")
+    ∷ Heard (codes "J 4 CHECKPRESENTEXPORT WORM--a") ∷ Say 4 (codes "J 4 UNSUPPORTED-REQUEST") ∷ []
+
 -- ---- a host that doesn't tag its lines
 
 -- each request is answered before the next is heard
@@ -118,3 +133,9 @@ plain =
 
 abbrev pub plain_check : Entry
 plain_check = Heard (codes "CHECKPRESENT WORM--a")
+
+-- it tags them from then on
+abbrev pub tagged_late : List Entry
+tagged_late =
+    plain ++ Heard (codes "EXTENSIONS ASYNC") ∷ Say 0 (codes "EXTENSIONS ASYNC")
+    ∷ Heard (codes "J 1 GETCOST") ∷ Say 1 (codes "J 1 UNSUPPORTED-REQUEST") ∷ []

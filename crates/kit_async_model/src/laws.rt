@@ -4,7 +4,9 @@ ghost use Rattle.kit_core.specs.declared.call.Said.TheVariants.{Yes, No, Failure
 ghost use Rattle.kit_async_model.specs.declared.entry.Entry.TheVariants.{Heard, Take, Call, Say, Wrote, Close, Lack};
 ghost use Rattle.kit_async_model.specs.Laws.{FrontsAreLegal, OverIsLast, UnwrittenAre, StepsAreLegal, StepsAreMade};
 ghost use Rattle.kit_async_model.specs.Legality.{is_legal, is_done};
-ghost use Rattle.kit_async_model.specs.Rows.{two, bare, known, version, error, tagging, asking, readying, ready, check_a, check_b, absent_a, crossed, whole, plain, plain_check, configs, first_config, last_config, info, kind_told, directory_told, info_end, unready, strange, unsupported};
+ghost use Rattle.kit_async_model.specs.Rows.{two, bare, known, version, error, tagging, asking, readying, ready, check_a, check_b, absent_a, crossed, whole};
+ghost use Rattle.kit_async_model.specs.Rows.{configs, first_config, last_config, info, kind_told, directory_told, info_end, unready, strange, unsupported};
+ghost use Rattle.kit_async_model.specs.Rows.{names_of_two_jobs, asked_about_names, plain, plain_check, tagged_late};
 ghost use Rattle.kit_async_model.specs.Standings.{standing};
 
 /// Journals that a kit may have: two checks at once, answered in either order, and a host that tags no line.
@@ -87,12 +89,12 @@ pub fn worked_asides()
     ensures export { is_legal two (ready ++ check_a ∷ Heard (codes "J 3 EXPORT a b") ∷ Take 2 0 ∷ Call 2 0 No ∷ absent_a ∷ []) ≡ true }
     ensures export_answered { is_legal two (ready ++ Heard (codes "J 3 EXPORT a b") ∷ Say 3 (codes "J 3 UNSUPPORTED-REQUEST") ∷ []) ≡ false }
     ensures exported { is_legal two (ready ++ Heard (codes "J 3 EXPORT a b") ∷ Heard (codes "J 3 TRANSFEREXPORT STORE WORM--a f") ∷ Say 3 (codes "J 3 UNSUPPORTED-REQUEST") ∷ []) ≡ true }
-    ensures exports_of_two_jobs { is_legal two (ready ++ Heard (codes "J 3 EXPORT a") ∷ Heard (codes "J 4 EXPORT b") ∷ Heard (codes "J 4 RENAMEEXPORT WORM--a c") ∷ Say 4 (codes "J 4 UNSUPPORTED-REQUEST") ∷ Heard (codes "J 3 REMOVEEXPORT WORM--a") ∷ Say 3 (codes "J 3 UNSUPPORTED-REQUEST") ∷ []) ≡ true }
-    ensures export_questions { is_legal two (ready ++ Heard (codes "J 3 EXPORTSUPPORTED") ∷ Say 3 (codes "J 3 UNSUPPORTED-REQUEST") ∷ Heard (codes "J 4 CHECKPRESENTEXPORT WORM--a") ∷ Say 4 (codes "J 4 UNSUPPORTED-REQUEST") ∷ []) ≡ true }
+    ensures exports_of_two_jobs { is_legal two names_of_two_jobs ≡ true }
+    ensures export_questions { is_legal two asked_about_names ≡ true }
     ensures export_worked { is_legal two (ready ++ Heard (codes "J 3 EXPORT a") ∷ Heard (codes "J 3 CHECKPRESENTEXPORT WORM--a") ∷ Take 3 0 ∷ []) ≡ false }
     ensures export_for_a_value { is_legal two (asking ++ Heard (codes "J 1 EXPORT a b") ∷ error ∷ []) ≡ true }
     ensures plain_waits { is_legal two (plain ++ plain_check ∷ Heard (codes "GETCOST") ∷ []) ≡ false }
-    ensures late_tags { is_legal two (plain ++ Heard (codes "EXTENSIONS ASYNC") ∷ Say 0 (codes "EXTENSIONS ASYNC") ∷ Heard (codes "J 1 GETCOST") ∷ Say 1 (codes "J 1 UNSUPPORTED-REQUEST") ∷ []) ≡ true }
+    ensures late_tags { is_legal two tagged_late ≡ true }
 {}
 
 /// Requests about the remotes: all lines of an answer in their order, and nothing between them.

@@ -24,6 +24,10 @@ heard_with m asked said = record { message = m; call = Some record { asked = ask
 abbrev pub settings : List (List ℕ)
 settings = codes "directory" ∷ []
 
+-- what the kit says to ask for it
+abbrev pub asks_directory : List ℕ
+asks_directory = codes "GETCONFIG directory"
+
 abbrev pub key : List ℕ
 key = codes "WORM--a"
 

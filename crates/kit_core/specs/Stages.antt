@@ -115,6 +115,17 @@ pub record Tries {R : Type 0} (calls : R → Option (List Call)) (old new : KitV
   pub asks : (call ≡ None) ⊎ IsAskedBy due call
   pub gained : calls new.remote ≡ with_call (calls old.remote) call
 
+-- what is due on the message was done where the kit stands so
+abbrev pub AnswersAt : {R : Type 0} → (R → Option (List Call)) → (R → List (List ℕ)) → Stage → HostMessage → KitValue R → KitValue R → List (List ℕ) → Type 0
+AnswersAt calls settings stage m old new = Answers calls old new (stage_due (settings old.remote) old.prepared stage m) (request_after stage m)
+
+abbrev pub TriesAt : {R : Type 0} → (R → Option (List Call)) → (R → List (List ℕ)) → Stage → HostMessage → KitValue R → KitValue R → Type 0
+TriesAt calls settings stage m old new = Tries calls old new (stage_due (settings old.remote) old.prepared stage m)
+
+-- what is due on a request that needs no value was done
+abbrev pub WorksOn : {R : Type 0} → (R → Option (List Call)) → HostMessage → KitValue R → KitValue R → List (List ℕ) → Type 0
+WorksOn calls m old new = Answers calls old new (work_due None [] old.prepared m) (Some m)
+
 -- ---- one step
 
 -- The message had one call made, or none, and it is the one that is due after whatever the kit followed; these lines are said,

@@ -10,7 +10,8 @@ ghost use Rattle.kit_core.specs.declared.call.Asked.TheVariants.{Prepare as AskP
 ghost use Rattle.kit_core.specs.declared.kit.Stage.TheVariants.{Readying};
 ghost use Rattle.kit_core.specs.Calls.{are_lines, is_line_said};
 ghost use Rattle.kit_core.specs.Kits.{has_line_fields, readying, work_due, final_line, is_prepare, is_yes, Asks};
-ghost use Rattle.kit_core.specs.Stages.{Answers, Tries, prepare_of, ready_stage, stage_due, stage_after, stage_after_request, stage_after_value, request_after, is_free, is_last, Follows, Steps, Stops};
+ghost use Rattle.kit_core.specs.Stages.{Answers, AnswersAt, Tries, TriesAt, WorksOn, Follows, Steps, Stops};
+ghost use Rattle.kit_core.specs.Stages.{prepare_of, ready_stage, stage_after, stage_after_request, stage_after_value, is_free, is_last};
 
 use crate::call::Said;
 use crate::finals;
@@ -180,7 +181,7 @@ impl<R: Remote> Kit<R> {
         requires askable { IsTrue (is_sent_key (text_of key)) }
         requires key { IsTrue (not (has_newline (text_of key))) }
         requires line { IsTrue (not (has_newline file.now)) }
-        ensures ok { IfOk result (Answers R.calls self.old self.new (work_due None [] self.old.prepared (Transfer store (text_of key.entry) file.now)) (Some (Transfer store (text_of key.entry) file.now))) }
+        ensures ok { IfOk result (WorksOn R.calls (Transfer store (text_of key.entry) file.now) self.old self.new) }
         ensures stage { OnOk result (self.new.stage ≡ Stage.Waiting) }
         ensures err { OnErr result (Tries R.calls self.old self.new (work_due None [] self.old.prepared (Transfer store (text_of key.entry) file.now)) × (self.new.stage ≡ self.old.stage)) }
         ensures settings { R.settings self.new.remote ≡ R.settings self.old.remote }
@@ -205,7 +206,7 @@ impl<R: Remote> Kit<R> {
     fn check(&mut self, key: KeyRef<'_>) -> Result<Lines, NoMemory>
         requires askable { IsTrue (is_sent_key (text_of key)) }
         requires key { IsTrue (not (has_newline (text_of key))) }
-        ensures ok { IfOk result (Answers R.calls self.old self.new (work_due None [] self.old.prepared (Checkpresent (text_of key.entry))) (Some (Checkpresent (text_of key.entry)))) }
+        ensures ok { IfOk result (WorksOn R.calls (Checkpresent (text_of key.entry)) self.old self.new) }
         ensures stage { OnOk result (self.new.stage ≡ Stage.Waiting) }
         ensures err { OnErr result (Tries R.calls self.old self.new (work_due None [] self.old.prepared (Checkpresent (text_of key.entry))) × (self.new.stage ≡ self.old.stage)) }
         ensures settings { R.settings self.new.remote ≡ R.settings self.old.remote }
@@ -222,7 +223,7 @@ impl<R: Remote> Kit<R> {
     fn remove(&mut self, key: KeyRef<'_>) -> Result<Lines, NoMemory>
         requires askable { IsTrue (is_sent_key (text_of key)) }
         requires key { IsTrue (not (has_newline (text_of key))) }
-        ensures ok { IfOk result (Answers R.calls self.old self.new (work_due None [] self.old.prepared (Remove (text_of key.entry))) (Some (Remove (text_of key.entry)))) }
+        ensures ok { IfOk result (WorksOn R.calls (Remove (text_of key.entry)) self.old self.new) }
         ensures stage { OnOk result (self.new.stage ≡ Stage.Waiting) }
         ensures err { OnErr result (Tries R.calls self.old self.new (work_due None [] self.old.prepared (Remove (text_of key.entry))) × (self.new.stage ≡ self.old.stage)) }
         ensures settings { R.settings self.new.remote ≡ R.settings self.old.remote }
@@ -243,9 +244,9 @@ impl<R: Remote> Kit<R> {
         requires askable { IsAskable (host_shown message) }
         requires lines { IsTrue (has_line_fields (host_shown message)) }
         requires over { self.old.stage ≡ Stage.Over }
-        ensures ok { IfOk result (Answers R.calls self.old self.new (stage_due (R.settings self.old.remote) self.old.prepared Stage.Waiting (host_shown message.entry)) (request_after Stage.Waiting (host_shown message.entry))) }
+        ensures ok { IfOk result (AnswersAt R.calls R.settings Stage.Waiting (host_shown message.entry) self.old self.new) }
         ensures stage { OnOk result (self.new.stage ≡ stage_after_request (R.settings self.old.remote) (host_shown message.entry)) }
-        ensures err { OnErr result (Tries R.calls self.old self.new (stage_due (R.settings self.old.remote) self.old.prepared Stage.Waiting (host_shown message.entry)) × (self.new.stage ≡ Stage.Over)) }
+        ensures err { OnErr result (TriesAt R.calls R.settings Stage.Waiting (host_shown message.entry) self.old self.new × (self.new.stage ≡ Stage.Over)) }
         ensures settings { R.settings self.new.remote ≡ R.settings self.old.remote }
         ensures lines { IfOk result (λ say. IsTrue (are_lines say)) }
     {
@@ -282,9 +283,9 @@ impl<R: Remote> Kit<R> {
         requires lines { IsTrue (has_line_fields (host_shown message)) }
         requires over { self.old.stage ≡ Stage.Over }
         requires sound { (length values + 1 < 2 ^ 32) × IsTrue (are_lines values) }
-        ensures ok { IfOk result (Answers R.calls self.old self.new (stage_due (R.settings self.old.remote) self.old.prepared (Readying by_prepare values) (host_shown message.entry)) (request_after (Readying by_prepare values) (host_shown message.entry))) }
+        ensures ok { IfOk result (AnswersAt R.calls R.settings (Readying by_prepare values) (host_shown message.entry) self.old self.new) }
         ensures stage { OnOk result (self.new.stage ≡ stage_after_value (R.settings self.old.remote) by_prepare values (host_shown message.entry)) }
-        ensures err { OnErr result (Tries R.calls self.old self.new (stage_due (R.settings self.old.remote) self.old.prepared (Readying by_prepare values) (host_shown message.entry)) × (self.new.stage ≡ Stage.Over)) }
+        ensures err { OnErr result (TriesAt R.calls R.settings (Readying by_prepare values) (host_shown message.entry) self.old self.new × (self.new.stage ≡ Stage.Over)) }
         ensures settings { R.settings self.new.remote ≡ R.settings self.old.remote }
         ensures lines { IfOk result (λ say. IsTrue (are_lines say)) }
     {
@@ -303,9 +304,9 @@ impl<R: Remote> Kit<R> {
     fn answer(&mut self, message: HostMsg<'_>) -> Result<Lines, NoMemory>
         requires askable { IsAskable (host_shown message) }
         requires lines { IsTrue (has_line_fields (host_shown message)) }
-        ensures ok { IfOk result (Answers R.calls self.old self.new (stage_due (R.settings self.old.remote) self.old.prepared self.old.stage (host_shown message.entry)) (request_after self.old.stage (host_shown message.entry))) }
+        ensures ok { IfOk result (AnswersAt R.calls R.settings self.old.stage (host_shown message.entry) self.old self.new) }
         ensures stage { OnOk result (self.new.stage ≡ stage_after (R.settings self.old.remote) self.old.stage (host_shown message.entry)) }
-        ensures err { OnErr result (Tries R.calls self.old self.new (stage_due (R.settings self.old.remote) self.old.prepared self.old.stage (host_shown message.entry)) × (self.new.stage ≡ Stage.Over)) }
+        ensures err { OnErr result (TriesAt R.calls R.settings self.old.stage (host_shown message.entry) self.old self.new × (self.new.stage ≡ Stage.Over)) }
         ensures settings { R.settings self.new.remote ≡ R.settings self.old.remote }
         ensures lines { IfOk result (λ say. IsTrue (are_lines say)) }
     {

@@ -1,20 +1,22 @@
 // Laws over the definitions, each the contract of a function with nothing to do.
-ghost use Rattle.std.specs.Prelude.{◌≡◌, [], ◌∷◌, ◌++◌, codes, decimal, true, false};
+ghost use Rattle.std.specs.Prelude.{◌≡◌, [], ◌∷◌, ◌++◌, codes, decimal, replicate, true, false};
 ghost use Rattle.kit_core.specs.Kits.{IsServed, lines_said, is_over, messages};
 ghost use Rattle.kit_core.specs.Described.{described_lines, AreAnswered};
-ghost use Rattle.kit_core.specs.Rows.{description, described_session, untold_session, awaiting_session, intruding_session, astray_session, settings, check_session, export_session, name_session, invented_session, early_session, hasty_session, init_session, again_session, transfer_session, value_session, request_session, error_session, bare_session};
+ghost use Rattle.kit_core.specs.Rows.{settings, asks_directory, check_session, export_session, name_session, invented_session, early_session, hasty_session};
+ghost use Rattle.kit_core.specs.Rows.{init_session, again_session, transfer_session, value_session, request_session, error_session, bare_session};
+ghost use Rattle.kit_core.specs.Rows.{description, described_session, untold_session, awaiting_session, intruding_session, astray_session};
 
 /// What a kit with the one setting `directory` says in worked sessions.
 pub fn worked_lines()
-    ensures check { lines_said settings check_session ≡ codes "EXTENSIONS " ∷ codes "GETCONFIG directory" ∷ codes "PREPARE-SUCCESS" ∷ codes "CHECKPRESENT-FAILURE WORM--a" ∷ [] }
-    ensures init { lines_said settings init_session ≡ codes "GETCONFIG directory" ∷ codes "INITREMOTE-SUCCESS" ∷ codes "CHECKPRESENT-UNKNOWN WORM--a not prepared" ∷ [] }
-    ensures again { lines_said settings again_session ≡ codes "GETCONFIG directory" ∷ codes "PREPARE-SUCCESS" ∷ codes "GETCONFIG directory" ∷ codes "PREPARE-FAILURE no directory" ∷ codes "CHECKPRESENT-SUCCESS WORM--a" ∷ [] }
+    ensures check { lines_said settings check_session ≡ codes "EXTENSIONS " ∷ asks_directory ∷ codes "PREPARE-SUCCESS" ∷ codes "CHECKPRESENT-FAILURE WORM--a" ∷ [] }
+    ensures init { lines_said settings init_session ≡ asks_directory ∷ codes "INITREMOTE-SUCCESS" ∷ codes "CHECKPRESENT-UNKNOWN WORM--a not prepared" ∷ [] }
+    ensures again { lines_said settings again_session ≡ asks_directory ∷ codes "PREPARE-SUCCESS" ∷ asks_directory ∷ codes "PREPARE-FAILURE no directory" ∷ codes "CHECKPRESENT-SUCCESS WORM--a" ∷ [] }
     ensures transfer { lines_said settings transfer_session ≡ codes "EXTENSIONS " ∷ codes "TRANSFER-FAILURE STORE WORM--a not prepared" ∷ [] }
     ensures value { lines_said settings value_session ≡ codes "ERROR unexpected message" ∷ [] }
-    ensures request { lines_said settings request_session ≡ codes "GETCONFIG directory" ∷ codes "ERROR unexpected message" ∷ [] }
-    ensures error { lines_said settings error_session ≡ codes "GETCONFIG directory" ∷ [] }
-    ensures exports { lines_said settings export_session ≡ codes "UNSUPPORTED-REQUEST" ∷ codes "UNSUPPORTED-REQUEST" ∷ codes "UNSUPPORTED-REQUEST" ∷ codes "UNSUPPORTED-REQUEST" ∷ codes "UNSUPPORTED-REQUEST" ∷ [] }
-    ensures name { lines_said settings name_session ≡ codes "GETCONFIG directory" ∷ codes "ERROR unexpected message" ∷ [] }
+    ensures request { lines_said settings request_session ≡ asks_directory ∷ codes "ERROR unexpected message" ∷ [] }
+    ensures error { lines_said settings error_session ≡ asks_directory ∷ [] }
+    ensures exports { lines_said settings export_session ≡ replicate 5 (codes "UNSUPPORTED-REQUEST") }
+    ensures name { lines_said settings name_session ≡ asks_directory ∷ codes "ERROR unexpected message" ∷ [] }
     ensures bare { lines_said [] bare_session ≡ codes "PREPARE-SUCCESS" ∷ codes "CHECKPRESENT-UNKNOWN WORM--a no disk" ∷ [] }
 {}
 
@@ -46,11 +48,11 @@ pub fn worked_ends()
 /// What is said where the remote also answers requests about itself.
 pub fn worked_descriptions()
     ensures said { described_lines settings described_session ≡ codes "CONFIG directory a folder" ∷ codes "CONFIGEND" ∷ (codes "COST " ++ decimal 100)
-        ∷ codes "GETCONFIG directory" ∷ codes "PREPARE-SUCCESS" ∷ codes "AVAILABILITY LOCAL" ∷ codes "INFOFIELD folder" ∷ codes "INFOVALUE d"
+        ∷ asks_directory ∷ codes "PREPARE-SUCCESS" ∷ codes "AVAILABILITY LOCAL" ∷ codes "INFOFIELD folder" ∷ codes "INFOVALUE d"
         ∷ codes "INFOEND" ∷ codes "UNSUPPORTED-REQUEST" ∷ codes "UNSUPPORTED-REQUEST" ∷ codes "CHECKPRESENT-FAILURE WORM--a" ∷ [] }
     ensures untold { described_lines settings untold_session ≡ codes "UNSUPPORTED-REQUEST" ∷ codes "UNSUPPORTED-REQUEST"
         ∷ codes "UNSUPPORTED-REQUEST" ∷ codes "UNSUPPORTED-REQUEST" ∷ codes "WHEREIS-FAILURE" ∷ [] }
-    ensures awaiting { described_lines settings awaiting_session ≡ codes "GETCONFIG directory" ∷ codes "ERROR unexpected message" ∷ [] }
+    ensures awaiting { described_lines settings awaiting_session ≡ asks_directory ∷ codes "ERROR unexpected message" ∷ [] }
 {}
 
 /// Which lines a kit may answer aside, and which it has to.

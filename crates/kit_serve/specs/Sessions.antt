@@ -89,6 +89,9 @@ pub record Told : Type 0 where
   pub taken : Option (List ℕ)
   pub calls : Option (List Call)
 
+abbrev pub told : Option (List ℕ) → Option (List ℕ) → Option (List Call) → Told
+told given taken calls = record { given = given; taken = taken; calls = calls }
+
 pub record Gains (old new : Told) (bytes out : List ℕ) (made : List Call) : Type 0 where
   pub gave : Appends old.given new.given bytes
   pub gave_silent : StaysUntold old.given new.given

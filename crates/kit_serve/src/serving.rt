@@ -5,7 +5,7 @@ ghost use Rattle.ann_outside.specs.Causes.{Rose};
 ghost use Rattle.kit_core.specs.Stages.{is_last, Follows};
 ghost use Rattle.kit_serve.specs.Limits.{longest_line, read_size};
 ghost use Rattle.kit_serve.specs.declared.end.End.TheVariants.{Eof, Bad, ReadFault, WriteFault, Memory};
-ghost use Rattle.kit_serve.specs.Sessions.{Told, Ended, Serves};
+ghost use Rattle.kit_serve.specs.Sessions.{Told, Ended, Serves, told};
 ghost use Rattle.kit_serve.specs.Turns.{end_of, Half, IsSpent, Leaves, ReadsOn, ReadsOnce, Streams, Turned};
 ghost use Rattle.kit_serve.specs.Voices.{Bytes, Hears, Talking, Talked};
 
@@ -192,7 +192,7 @@ pub fn serve<R: Remote, S: Source, W: Sink>(
 ) -> Served<R>
     requires source { S.is_open source.old ≡ true }
     requires sink { W.is_open sink.old ≡ true }
-    ensures serves { Serves (R.settings remote) (record { given = S.given source.old; taken = W.taken sink.old; calls = R.calls remote }) (record { given = S.given source.new; taken = W.taken sink.new; calls = R.calls result.remote }) result.status }
+    ensures serves { Serves (R.settings remote) (told (S.given source.old) (W.taken sink.old) (R.calls remote)) (told (S.given source.new) (W.taken sink.new) (R.calls result.remote)) result.status }
     ensures end { result.status ≡ 0 → IfSome (S.left source.new) (λ bytes. bytes ≡ []) }
     ensures read_fault { result.status ≡ 4 → Rose (S.faults source.old) (S.faults source.new) }
     ensures write_fault { result.status ≡ 5 → Rose (W.faults sink.old) (W.faults sink.new) }

@@ -4,10 +4,11 @@ ghost use Rattle.journal_model.specs.Journal.{verdict_of};
 ghost use Rattle.journal_model.specs.Legality.{Legal};
 ghost use Rattle.journal_model.specs.Projection.{IsNamed};
 ghost use Rattle.host_core.specs.Steps.{is_asked};
-ghost use Rattle.talk_serial.specs.Requests.{message_of, name_of};
+ghost use Rattle.talk_serial.specs.Requests.{message_of};
 ghost use Rattle.link_roles.specs.Doors.{IsSameDoor, Passed};
 ghost use Rattle.journal_model.specs.Shares.{by_asking};
-ghost use Rattle.link_roles.specs.Asks.{HasAsked, Grows, never};
+ghost use Rattle.link_roles.specs.Asks.{Grows, never};
+ghost use Rattle.link_crew.specs.Jobs.{HasAskedJob};
 
 use ann_key::NoMemory;
 use journal_model::Verdict;
@@ -58,7 +59,7 @@ pub fn ask_job<D: Door, R: Wait>(
 ) -> Result<Verdict, NoMemory>
     requires legal { Legal (D.opening door.old) (D.seen door.old) }
     ensures named { IfOk result (IsNamed (message_of request.now)) }
-    ensures asked { IfOk result (HasAsked (D.opening door.old) (D.number door.old) (D.alone door.old) never (D.seen door.old) (D.seen door.new) child task (name_of request.now) (message_of request.now) (λ job. Unit {0})) }
+    ensures asked { IfOk result (HasAskedJob D.opening D.number D.alone D.seen door.old door.new child task request.now) }
     ensures none { OnErr result (Passed (D.number door.old) (D.alone door.old) (D.seen door.old) (D.seen door.new)) }
     ensures grows { Grows (D.number door.old) (D.alone door.old) (by_asking child) (D.seen door.old) (D.seen door.new) }
     ensures door { IsSameDoor D.opening D.number D.seen D.alone D.loans D.home door.old door.new }

@@ -1,5 +1,5 @@
 -- What the settings of a mirror ask for.
-use Rattle.std.specs.Prelude.{ℕ, ◌+◌, ◌==◌, ◌&&◌, not, Bool, true, false, if◌then◌else◌, List, [], ◌∷◌, fold, take, Option, Some, None, codes}
+use Rattle.std.specs.Prelude.{ℕ, ◌≡◌, ◌+◌, ◌==◌, ◌&&◌, not, Bool, true, false, if◌then◌else◌, List, [], ◌∷◌, fold, take, Option, Some, None, codes}
 use Rattle.std.specs.List.{list_all, list_any, before_first, after_first, slice_split}
 use Rattle.std.specs.Str.{is_utf8}
 use Rattle.annex_model.specs.Messages.{is_space}
@@ -28,6 +28,10 @@ is_pair name value = not (is_nil name) && (is_word name && is_line value)
 -- NAME=VALUE: the name ends at the first `=`
 abbrev pub spells_pair : List ℕ → Bool
 spells_pair word = list_any is_equals word && is_pair (before_first is_equals word) (after_first is_equals word)
+
+-- the word passes the test, and these are its name and its value
+abbrev pub IsParted : (List ℕ → Bool) → List ℕ → List ℕ → List ℕ → Type 0
+IsParted test word name value = (test word ≡ true) × (name ≡ before_first is_equals word) × (value ≡ after_first is_equals word)
 
 -- the config value of this name is set
 abbrev pub set_pair : RegisterFile → List ℕ → RegisterFile

@@ -1,9 +1,9 @@
 // What the settings ask for.
 ghost use Rattle.std.specs.Prelude.{◌≡◌, true, false, Some, None, if◌then◌else◌, take, map, IfOk, MatchOption};
-ghost use Rattle.std.specs.List.{list_any, before_first, after_first};
+ghost use Rattle.std.specs.List.{list_any};
 ghost use Rattle.reg_file.specs.Registers.{nothing_set, is_line, is_word};
 ghost use Rattle.mirror_plan.specs.Plans.{ReadsAs, ReadsPairs};
-ghost use Rattle.mirror_plan.specs.Settings.{is_equals, is_pair, spells_pair, words, are_plan, plan_of, plan_at, spells_plan};
+ghost use Rattle.mirror_plan.specs.Settings.{IsParted, is_equals, is_pair, spells_pair, words, are_plan, plan_of, plan_at, spells_plan};
 
 use ann_key::{Bytes, NoMemory, Text};
 use reg_file::Registers;
@@ -51,7 +51,7 @@ fn is_pair(name: &str, value: &str) -> bool
 
 // What stands before the first `=` of the word, and all after it.
 fn parts(word: &str) -> Option<(&str, &str)>
-    ensures { MatchOption result (list_any is_equals word.entry.now ≡ false) (λ p. (list_any is_equals word.entry.now ≡ true) × (p.0.now ≡ before_first is_equals word.entry.now) × (p.1.now ≡ after_first is_equals word.entry.now)) }
+    ensures { MatchOption result (list_any is_equals word.entry.now ≡ false) (λ p. IsParted (list_any is_equals) word.entry.now p.0.now p.1.now) }
 {
     match word.split_once('=') {
         Some((name, value)) => Some((name, value)),
@@ -61,7 +61,7 @@ fn parts(word: &str) -> Option<(&str, &str)>
 
 // The name and the value of the word, if it spells them.
 fn pair_in(word: &str) -> Option<(&str, &str)>
-    ensures { MatchOption result (spells_pair word.entry.now ≡ false) (λ p. (spells_pair word.entry.now ≡ true) × (p.0.now ≡ before_first is_equals word.entry.now) × (p.1.now ≡ after_first is_equals word.entry.now)) }
+    ensures { MatchOption result (spells_pair word.entry.now ≡ false) (λ p. IsParted spells_pair word.entry.now p.0.now p.1.now) }
 {
     let (name, value) = parts(word)?;
     if is_pair(name, value) {

@@ -57,6 +57,9 @@ pub record Told : Type 0 where
   pub given : Option (List ℕ)
   pub taken : Option (List ℕ)
 
+abbrev pub told : Option (List ℕ) → Option (List ℕ) → Told
+told given taken = record { given = given; taken = taken }
+
 -- what came is cut into these lines and a rest, and each line is short and passed on
 pub record Carried (P : Passing) (bytes : List ℕ) (lines : List (List ℕ)) (rest : List ℕ) (passed : List (Option (List ℕ))) : Type 0 where
   pub cut : Cut bytes lines rest
@@ -88,3 +91,11 @@ pub record Carries (P : Passing) (old new : Told) (end : End) : Type 0 where
   pub carried : Carried P bytes lines rest passed
   pub written : IsWritten end out (text_passed passed)
   pub ends : IsEnd end rest
+
+-- from the one to the other it goes on, with these bytes held before and after
+abbrev pub GoesOn : Passing → Told → Told → List ℕ → List ℕ → Type 0
+GoesOn P old new held held' = (begun : Told) → Going P begun old.given old.taken held → Going P begun new.given new.taken held'
+
+-- or it comes to this end
+abbrev pub ComesTo : Passing → Told → Told → List ℕ → End → Type 0
+ComesTo P old new held end = (begun : Told) → Going P begun old.given old.taken held → Carries P begun new end

@@ -1,7 +1,7 @@
 ghost use Rattle.std.specs.Prelude.{◌≡◌, ◌≤◌, [], ℕ, List, Option, true, false, Err, OnOk, IfErr, IfSome};
 ghost use Rattle.annex_model.specs.Lines.{has_newline};
 ghost use Rattle.ann_outside.specs.Causes.{Rose};
-ghost use Rattle.plain_carry.specs.Carries.{longest_line, Told, Going, Carries};
+ghost use Rattle.plain_carry.specs.Carries.{longest_line, told, Carries, ComesTo, GoesOn};
 ghost use Rattle.plain_carry.specs.Turns.{Passes, ReadsOn};
 ghost use Rattle.plain_carry.specs.declared.end.End.TheVariants.{Eof, Long, ReadFault, WriteFault};
 
@@ -73,8 +73,8 @@ fn turn<V: Way, S: Source, W: Sink>(
     requires source { S.is_open source.old ≡ true }
     requires sink { W.is_open sink.old ≡ true }
     requires limit { splitter.old.limit ≡ longest_line }
-    ensures goes { OnOk result ((begun : Told) → Going V.passes begun (S.given source.old) (W.taken sink.old) splitter.old.bytes → Going V.passes begun (S.given source.new) (W.taken sink.new) splitter.new.bytes) }
-    ensures ended { IfErr result (λ end. (begun : Told) → Going V.passes begun (S.given source.old) (W.taken sink.old) splitter.old.bytes → Carries V.passes begun (record { given = S.given source.new; taken = W.taken sink.new }) end) }
+    ensures goes { OnOk result (GoesOn V.passes (told (S.given source.old) (W.taken sink.old)) (told (S.given source.new) (W.taken sink.new)) splitter.old.bytes splitter.new.bytes) }
+    ensures ended { IfErr result (ComesTo V.passes (told (S.given source.old) (W.taken sink.old)) (told (S.given source.new) (W.taken sink.new)) splitter.old.bytes) }
     ensures end { result ≡ Err Eof → IfSome (S.left source.new) (λ bytes. bytes ≡ []) }
     ensures read_fault { result ≡ Err ReadFault → Rose (S.faults source.old) (S.faults source.new) }
     ensures write_fault { result ≡ Err WriteFault → Rose (W.faults sink.old) (W.faults sink.new) }
@@ -103,7 +103,7 @@ fn take_turns<V: Way, S: Source, W: Sink>(
     requires source { S.is_open source.old ≡ true }
     requires sink { W.is_open sink.old ≡ true }
     requires limit { splitter.old.limit ≡ longest_line }
-    ensures ended { (begun : Told) → Going V.passes begun (S.given source.old) (W.taken sink.old) splitter.old.bytes → Carries V.passes begun (record { given = S.given source.new; taken = W.taken sink.new }) result }
+    ensures ended { ComesTo V.passes (told (S.given source.old) (W.taken sink.old)) (told (S.given source.new) (W.taken sink.new)) splitter.old.bytes result }
     ensures end { result ≡ Eof → IfSome (S.left source.new) (λ bytes. bytes ≡ []) }
     ensures read_fault { result ≡ ReadFault → Rose (S.faults source.old) (S.faults source.new) }
     ensures write_fault { result ≡ WriteFault → Rose (W.faults sink.old) (W.faults sink.new) }
@@ -129,7 +129,7 @@ pub fn carry<V: Way, S: Source, W: Sink>(
 ) -> End
     requires source { S.is_open source.old ≡ true }
     requires sink { W.is_open sink.old ≡ true }
-    ensures carries { Carries V.passes (record { given = S.given source.old; taken = W.taken sink.old }) (record { given = S.given source.new; taken = W.taken sink.new }) result }
+    ensures carries { Carries V.passes (told (S.given source.old) (W.taken sink.old)) (told (S.given source.new) (W.taken sink.new)) result }
     ensures end { result ≡ Eof → IfSome (S.left source.new) (λ bytes. bytes ≡ []) }
     ensures read_fault { result ≡ ReadFault → Rose (S.faults source.old) (S.faults source.new) }
     ensures write_fault { result ≡ WriteFault → Rose (W.faults sink.old) (W.faults sink.new) }

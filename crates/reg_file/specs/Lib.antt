@@ -2,4 +2,5 @@ pub mod Links
 pub mod Logins
 pub mod RegLines
 pub mod Registers
+pub mod Rows
 pub mod Tables

@@ -1,5 +1,5 @@
 -- The registers, what reads them, and how a setting changes them.
-use Rattle.std.specs.Prelude.{◌≡◌, ◌≢◌, ℕ, Bool, not, ◌==◌, ◌&&◌, ◌||◌, if◌then◌else◌, List, [], length, nat_lt, Option, Some, None, IsTrue}
+use Rattle.std.specs.Prelude.{◌≡◌, ◌≢◌, ℕ, Bool, not, ◌==◌, ◌&&◌, ◌||◌, if◌then◌else◌, List, [], length, bytes_eq, nat_lt, Option, Some, None, IsTrue}
 use Rattle.std.specs.List.{list_all}
 use Rattle.ann_key.specs.Keys.{is_key}
 use Rattle.reg_file.specs.Tables.{Texts, Rises, value_at, text_at, put, without}
@@ -54,6 +54,10 @@ with_state r key value = record r { state = if length value == 0 then without r.
 abbrev pub with_url : RegisterFile → List ℕ → List ℕ → Bool → RegisterFile
 with_url r key url present = record r { urls = if present then with_link r.urls key url else without_link r.urls key url }
 
+-- what is read at a name, where this one was set to the value and something else was read there before
+abbrev pub set_at : {X : Type 0} → List ℕ → X → List ℕ → X → X
+set_at name value other before = if bytes_eq other name then value else before
+
 -- ---- what a setting leaves alone
 
 -- the value stands under the name, and under each other name what stood there
@@ -97,6 +101,10 @@ is_word bytes = list_all (λ b. not (b == 10 || b == 32)) bytes
 unfoldable pub is_key_word : List ℕ → Bool
 is_key_word bytes = is_word bytes && is_key bytes
 
+-- a setting, a user and a password that may stand
+abbrev pub are_creds : List ℕ → List ℕ → List ℕ → Bool
+are_creds setting user password = is_word setting && (is_word user && is_line password)
+
 abbrev pub are_texts : (List ℕ → Bool) → (List ℕ → Bool) → Texts → Bool
 are_texts is_name is_value entries = list_all (λ e. is_name e.0 && is_value e.1) entries
 
@@ -107,7 +115,7 @@ pub record IsKept (r : RegisterFile) : Type 0 where
   pub state_rises : Rises r.state
   pub urls_rise : LinksRise r.urls
   pub config_texts : IsTrue (are_texts is_word is_line r.config)
-  pub creds_texts : IsTrue (list_all (λ e. is_word e.0 && (is_word e.1.0 && is_line e.1.1)) r.creds)
+  pub creds_texts : IsTrue (list_all (λ e. are_creds e.0 e.1.0 e.1.1) r.creds)
   pub wanted_text : IsTrue (is_line r.wanted)
   pub state_texts : IsTrue (are_texts is_key_word (λ value. nat_lt 0 (length value) && is_line value) r.state)
   pub urls_texts : IsTrue (are_texts is_key_word is_line r.urls)

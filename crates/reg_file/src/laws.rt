@@ -4,14 +4,16 @@ ghost use Rattle.std.specs.List.{list_all, list_any, starts_with};
 ghost use Rattle.std.specs.List.Sorted.{IsStrictlySortedBy};
 ghost use Rattle.reg_file.specs.Tables.{by_bytes};
 ghost use Rattle.reg_file.specs.Links.{is_link};
-ghost use Rattle.reg_file.specs.Registers.{RegisterFile, nothing_set, config_of, creds_of, state_of, urls_of, has_url, with_config, with_creds, with_wanted, with_state, with_url, is_line, is_word, is_key_word, IsKept};
+ghost use Rattle.reg_file.specs.Registers.{RegisterFile, nothing_set, config_of, creds_of, state_of, urls_of, has_url, is_line, is_word, is_key_word, are_creds, set_at, IsKept};
+ghost use Rattle.reg_file.specs.Registers.{with_config, with_creds, with_wanted, with_state, with_url};
 ghost use Rattle.reg_file.specs.RegLines.{ConfigLine, WantedLine, lines_of, set_by_lines, is_fit};
+ghost use Rattle.reg_file.specs.Rows.{configs_and_wanted, key, some_urls};
 
 /// What was set is read until the next setting of that register, and each other one as before.
 pub fn what_is_set_is_read()
-    ensures config { (r : RegisterFile) (name value other : List ℕ) → config_of (with_config r name value) other ≡ (if bytes_eq other name then value else config_of r other) }
-    ensures creds { (r : RegisterFile) (setting user password other : List ℕ) → creds_of (with_creds r setting user password) other ≡ (if bytes_eq other setting then (user, password) else creds_of r other) }
-    ensures state { (r : RegisterFile) (key value other : List ℕ) → state_of (with_state r key value) other ≡ (if bytes_eq other key then value else state_of r other) }
+    ensures config { (r : RegisterFile) (name value other : List ℕ) → config_of (with_config r name value) other ≡ set_at name value other (config_of r other) }
+    ensures creds { (r : RegisterFile) (setting user password other : List ℕ) → creds_of (with_creds r setting user password) other ≡ set_at setting (user, password) other (creds_of r other) }
+    ensures state { (r : RegisterFile) (key value other : List ℕ) → state_of (with_state r key value) other ≡ set_at key value other (state_of r other) }
     ensures url { (r : RegisterFile) (key url : List ℕ) (present : Bool) (k u : List ℕ) → has_url (with_url r key url present) k u ≡ (if is_link k u (key, url) then present else has_url r k u) }
 {}
 
@@ -31,7 +33,7 @@ pub fn lines_give_the_registers()
 pub fn settings_are_kept()
     ensures none { IsKept nothing_set }
     ensures config { (r : RegisterFile) (name value : List ℕ) → IsKept r → IsTrue (is_word name) → IsTrue (is_line value) → IsKept (with_config r name value) }
-    ensures creds { (r : RegisterFile) (setting user password : List ℕ) → IsKept r → IsTrue (is_word setting) → IsTrue (is_word user) → IsTrue (is_line password) → IsKept (with_creds r setting user password) }
+    ensures creds { (r : RegisterFile) (setting user password : List ℕ) → IsKept r → IsTrue (are_creds setting user password) → IsKept (with_creds r setting user password) }
     ensures wanted { (r : RegisterFile) (expression : List ℕ) → IsKept r → IsTrue (is_line expression) → IsKept (with_wanted r expression) }
     ensures state { (r : RegisterFile) (key value : List ℕ) → IsKept r → IsTrue (is_key_word key) → IsTrue (is_line value) → IsKept (with_state r key value) }
     ensures url { (r : RegisterFile) (key url : List ℕ) (present : Bool) → IsKept r → IsTrue (is_key_word key) → IsTrue (is_line url) → IsKept (with_url r key url present) }
@@ -49,9 +51,9 @@ pub fn what_is_read_is_kept()
 
 /// Settings one after the other, and what is read then.
 pub fn worked_settings()
-    ensures urls { let key = codes "WORM--a" in urls_of (with_url (with_url (with_url (with_url nothing_set key (codes "http://b") true) key (codes "http://a") true) key (codes "ftp://c") true) key (codes "http://b") false) key (codes "http:") ≡ codes "http://a" ∷ [] }
+    ensures urls { urls_of some_urls key (codes "http:") ≡ codes "http://a" ∷ [] }
     ensures other_key { urls_of (with_url nothing_set (codes "WORM--ab") (codes "u") true) (codes "WORM--a") [] ≡ [] }
     ensures empty_config { lines_of (with_config nothing_set (codes "a") []) ≡ ConfigLine (codes "a") [] ∷ [] }
     ensures empty_state { lines_of (with_state (with_state nothing_set (codes "WORM--a") (codes "x")) (codes "WORM--a") []) ≡ [] }
-    ensures order { lines_of (with_config (with_wanted (with_config nothing_set (codes "b") (codes "1")) (codes "w")) (codes "a") (codes "2")) ≡ ConfigLine (codes "a") (codes "2") ∷ ConfigLine (codes "b") (codes "1") ∷ WantedLine (codes "w") ∷ [] }
+    ensures order { lines_of configs_and_wanted ≡ ConfigLine (codes "a") (codes "2") ∷ ConfigLine (codes "b") (codes "1") ∷ WantedLine (codes "w") ∷ [] }
 {}

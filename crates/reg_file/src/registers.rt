@@ -37,7 +37,8 @@ impl Model for Registers {
 }
 
 impl Registers {
-    ghost use Rattle.reg_file.specs.Registers.{nothing_set, config_of, creds_of, state_of, urls_of, with_config, with_creds, with_wanted, with_state, with_url, SetsConfig, SetsCreds, SetsWanted, SetsState, SetsUrl, is_line, is_word, IsKept};
+    ghost use Rattle.reg_file.specs.Registers.{nothing_set, config_of, creds_of, state_of, urls_of, is_line, is_word, IsKept};
+    ghost use Rattle.reg_file.specs.Registers.{with_config, with_creds, with_wanted, with_state, with_url, SetsConfig, SetsCreds, SetsWanted, SetsState, SetsUrl};
     ghost use Rattle.reg_file.specs.RegLines.{ConfigLine, StateLine, UrlLine, line_of, lines_of, wanted_lines, later_lines_of, keyed_lines_of};
 
     /// Nothing is set. It takes no memory.

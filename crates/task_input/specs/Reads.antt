@@ -4,6 +4,7 @@ use Rattle.std.specs.Io.KnownBytes.{Appends, Consumes, IsAtEnd}
 use Rattle.task_text.specs.declared.task.Task.{Task}
 use Rattle.task_input.specs.Inputs.{IsInput}
 use Rattle.task_input.specs.declared.limits.Limits.{Limits}
+use Rattle.ann_outside.specs.declared.Source.{Ghosts as SourceGhosts}
 use Rattle.ann_outside.specs.Causes.{Rose}
 use Rattle.task_input.specs.declared.error.InputError.{InputError}
 use Rattle.task_input.specs.declared.error.InputError.TheVariants.{Refused, Failed, NoMemory}
@@ -12,6 +13,10 @@ use Rattle.task_input.specs.declared.error.InputError.TheVariants.{Refused, Fail
 pub record HasGiven (given given' left left' : Option (List ℕ)) (bytes : List ℕ) : Type 0 where
   pub given_on : Appends given given' bytes
   pub left_on : Consumes left left' bytes
+
+-- the same of a source, from the one to the other
+abbrev pub Gave : {S : Type 0} → SourceGhosts S → S → S → List ℕ → Type 0
+Gave g old new bytes = HasGiven (g.given old) (g.given new) (g.left old) (g.left new) bytes
 
 -- the input was read to its end, or to a byte past the limit
 abbrev pub IsRead : ℕ → List ℕ → Option (List ℕ) → Type 0

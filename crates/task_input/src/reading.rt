@@ -2,7 +2,7 @@
 ghost use Rattle.std.specs.Prelude.{◌≡◌, ℕ, List, IfSome, true};
 ghost use Rattle.ann_outside.specs.Causes.{StaysUntold};
 ghost use Rattle.task_input.specs.Inputs.{IsInput};
-ghost use Rattle.task_input.specs.Reads.{InputComesTo, HasGiven, IsCounted};
+ghost use Rattle.task_input.specs.Reads.{InputComesTo, Gave, IsCounted};
 ghost use Rattle.task_input.specs.Steps.{Holds, IsStep};
 
 use crate::error::InputError;
@@ -22,7 +22,7 @@ pub fn read_tasks<S: Source>(
     limits: &Limits,
 ) -> Result<Tasks, InputError>
     requires { S.is_open source.old ≡ true }
-    ensures input { (bytes : List ℕ) × HasGiven (S.given source.old) (S.given source.new) (S.left source.old) (S.left source.new) bytes × InputComesTo limits.now bytes (S.left source.new) result }
+    ensures input { (bytes : List ℕ) × Gave S.Source source.old source.new bytes × InputComesTo limits.now bytes (S.left source.new) result }
     ensures told { IfSome (S.left source.old) (λ all. IsInput limits.now all result) }
     ensures faults { IsCounted (S.faults source.old) (S.faults source.new) result }
     ensures silent { StaysUntold (S.given source.old) (S.given source.new) × StaysUntold (S.left source.old) (S.left source.new) }
@@ -36,7 +36,7 @@ pub fn read_tasks<S: Source>(
 // What the source gives up to its end, or past the limit.
 fn read_bytes<S: Source>(alloc: Global, source: &mut S, limit: usize) -> Result<Vec<u8>, InputError>
     requires { S.is_open source.old ≡ true }
-    ensures given { (bytes : List ℕ) × HasGiven (S.given source.old) (S.given source.new) (S.left source.old) (S.left source.new) bytes × Holds limit bytes (S.left source.new) result }
+    ensures given { (bytes : List ℕ) × Gave S.Source source.old source.new bytes × Holds limit bytes (S.left source.new) result }
     ensures faults { IsCounted (S.faults source.old) (S.faults source.new) result }
     ensures silent { StaysUntold (S.given source.old) (S.given source.new) × StaysUntold (S.left source.old) (S.left source.new) }
     ensures open { S.is_open source.new ≡ true }
@@ -54,7 +54,7 @@ fn read_bytes<S: Source>(alloc: Global, source: &mut S, limit: usize) -> Result<
 // Reads once, and says whether there was something to read.
 fn read_step<S: Source>(source: &mut S, bytes: &mut Vec<u8>) -> Result<bool, InputError>
     requires { S.is_open source.old ≡ true }
-    ensures given { (piece : List ℕ) × HasGiven (S.given source.old) (S.given source.new) (S.left source.old) (S.left source.new) piece × IsStep bytes.old.items bytes.new.items piece (S.left source.new) result }
+    ensures given { (piece : List ℕ) × Gave S.Source source.old source.new piece × IsStep bytes.old.items bytes.new.items piece (S.left source.new) result }
     ensures faults { IsCounted (S.faults source.old) (S.faults source.new) result }
     ensures silent { StaysUntold (S.given source.old) (S.given source.new) × StaysUntold (S.left source.old) (S.left source.new) }
     ensures open { S.is_open source.new ≡ true }

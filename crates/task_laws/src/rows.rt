@@ -6,7 +6,9 @@ ghost use Rattle.ann_outside.specs.declared.file_desk.DeskError.TheVariants.{Mis
 ghost use Rattle.journal_model.specs.declared.answer.Answer.TheVariants.{Got};
 ghost use Rattle.journal_model.specs.declared.verdict.Verdict.TheVariants.{Absent, Done, Failed, Unknown};
 ghost use Rattle.journal_model.specs.Rows.{greeting};
-ghost use Rattle.task_run.specs.Rows.{setup_of, first_turn, second_turn, store_a, stores_a, sized, get_abc, fetched_1, gets_abc, got_abc, renamed, part_gone, store_ten, stores_ten, stored_ten, cut_behind_filling, made_twice, lost_ten, stored_short, get_ten, gets_ten, resumed_ten, check_ten, checks_ten, finds_ten, asks, c1, fetched_2_1, got_hi};
+ghost use Rattle.task_run.specs.Rows.{setup_of, first_turn, second_turn, store_a, stores_a, sized, get_abc, fetched_1, gets_abc, got_abc, renamed, part_gone};
+ghost use Rattle.task_run.specs.Rows.{store_ten, stores_ten, stored_ten, cut_behind_filling, made_twice, lost_ten, stored_short};
+ghost use Rattle.task_run.specs.Rows.{get_ten, gets_ten, resumed_ten, check_ten, checks_ten, finds_ten, asks, c1, fetched_2_1, got_hi};
 ghost use Rattle.annex_model.specs.Messages.{Checkpresent, Transfer};
 ghost use Rattle.task_text.specs.declared.task.Work.TheVariants.{XCheck};
 ghost use Rattle.task_run.specs.ExportRows.{checks_docs, docs_task, get_docs, gets_docs, rename_docs, renames_docs, store_docs, stores_docs};
@@ -19,7 +21,9 @@ ghost use Rattle.task_laws.specs.FilesKept.{HasNoPart};
 ghost use Rattle.task_laws.specs.Kept.{is_afresh};
 ghost use Rattle.task_laws.specs.Retrieval.{GotStored};
 ghost use Rattle.task_laws.specs.WentWell.{WentWell};
-ghost use Rattle.task_laws.specs.Rows.{ten_parts, worm_parts, abc_parts, hi, hi_parts, store_then_get, storing, stored_then_got, the_store, the_retrieve, told_hi, told_ho, told_left, filled_early, one_store, first_chunk, told_calls, stored_again, removed, other_removed, not_stored, with_again, lost_then_got, told_again};
+ghost use Rattle.task_laws.specs.Rows.{ten_parts, worm_parts, abc_parts, hi, hi_parts, store_then_get, storing, stored_then_got, the_store, the_retrieve};
+ghost use Rattle.task_laws.specs.Rows.{told_hi, told_ho, told_left, filled_early, one_store, first_chunk, told_calls};
+ghost use Rattle.task_laws.specs.Rows.{stored_again, removed, other_removed, not_stored, with_again, lost_then_got, told_again};
 
 /// A store whose questions were answered in any way went well, and not one that failed, whose child was gone, or whose file shrank.
 pub fn stores_went_well()

@@ -1,7 +1,8 @@
 ghost use Rattle.std.specs.Prelude.{◌≡◌, ◌≤◌, ◌==◌, ◌+◌, ◌++◌, ◌∷◌, ◌&&◌, [], false, true, not, if◌then◌else◌, length, take, drop, IfErr, IfOk, OnOk, IsTrue, MatchResult, None, ◌↔◌};
 ghost use Rattle.std.specs.List.{after_first, before_first, list_any, position_or_len};
 ghost use Rattle.ann_key.specs.KeyRefs.{text_of};
-ghost use Rattle.task_text.specs.TaskLines.{behind_key, fault_of, file_in, is_file, is_name, is_space, is_tab, is_task_key, key_in, line_of, name_in, onto_in, IsKeyFault, IsReading, IsTask, SpellsTask};
+ghost use Rattle.task_text.specs.TaskLines.{behind_key, file_in, is_file, is_name, is_space, is_tab, is_task_key, key_in, name_in, onto_in};
+ghost use Rattle.task_text.specs.TaskLines.{fault_of, line_of, IsKeyFault, IsReading, IsTask, SpellsTask};
 ghost use Rattle.task_text.specs.declared.task.Task.{Task};
 
 use crate::error::TaskError;

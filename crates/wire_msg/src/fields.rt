@@ -3,7 +3,8 @@ ghost use Rattle.std.specs.Prelude.{◌≡◌, ◌≤◌, ◌==◌, length, Some
 ghost use Rattle.std.specs.List.{list_all, list_any};
 ghost use Rattle.ann_key.specs.KeyRefs.{text_of};
 ghost use Rattle.ann_key.specs.Numbers.{is_digit, value_of};
-ghost use Rattle.annex_model.specs.Messages.{word_of, field_of, is_space, number_field, key_field, rest_field, scope_field, direction_of, word_rest_field, words_rest_field, key_rest_field, transfer_field, transfer_rest_field};
+ghost use Rattle.annex_model.specs.Messages.{word_of, field_of, is_space, direction_of, number_field, key_field, rest_field, scope_field};
+ghost use Rattle.annex_model.specs.Messages.{word_rest_field, words_rest_field, key_rest_field, transfer_field, transfer_rest_field};
 
 use ann_key::KeyRef;
 

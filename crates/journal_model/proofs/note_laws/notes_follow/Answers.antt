@@ -8,7 +8,7 @@ pub returns-clause-order : goal.returns-clause-order
 returns-clause-order c = λ book notes order. with_notes-order book notes order
 
 pub returns-clause-current : goal.returns-clause-current
-returns-clause-current c = λ o past key layouts order current. current_of_book o past key layouts order current
+returns-clause-current c = λ o past key layouts gives. current_of_book o past key layouts gives.0 gives.1
 
 pub returns-clause-one : goal.returns-clause-one
 returns-clause-one c = λ a b p q alike. one_book a b p q alike

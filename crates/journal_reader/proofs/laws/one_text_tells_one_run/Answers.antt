@@ -5,4 +5,4 @@ pub returns-clause-told : goal.returns-clause-told
 returns-clause-told c = one_told
 
 pub returns-clause-run : goal.returns-clause-run
-returns-clause-run c = one_run
+returns-clause-run c = λ o p journal entries can also. one_run o p journal entries can.opening also.opening can.entries also.entries

@@ -1,7 +1,8 @@
 use Rattle.std.proofs.Common.{subst}
 use Rattle.std.specs.Prelude.{IfOk}
 use Rattle.kit_async_model.specs.Books.{CoreValue}
-use Rattle.kit_async_core.proofs.Steps.{Comes, book_apart, book_kept, step_comes}
+use Rattle.kit_async_core.specs.Steps.{Comes}
+use Rattle.kit_async_core.proofs.Steps.{book_apart, book_kept, step_comes}
 use Rattle.kit_async_core.proofs.machine.KitCore.step.Goals as goal
 
 pub step-requires-clause-apart : goal.step-requires-clause-apart

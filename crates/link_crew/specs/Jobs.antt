@@ -1,0 +1,13 @@
+-- One job, asked through a door that others have too.
+use Rattle.std.specs.Prelude.{ℕ, Bool, List}
+use Rattle.journal_model.specs.declared.entry.Entry.{Entry}
+use Rattle.journal_model.specs.declared.opening.Opening.{Opening}
+use Rattle.journal_model.specs.declared.verdict.Verdict.{Verdict}
+use Rattle.talk_serial.specs.declared.request.Request.{Request}
+use Rattle.talk_serial.specs.Requests.{message_of, name_of}
+use Rattle.link_roles.specs.Asks.{HasAsked, never}
+
+-- from the one value of the door to the other the request was asked of the child, and settled so; nothing else was made
+abbrev pub HasAskedJob : {D : Type 0} → (D → Opening) → (D → ℕ) → (D → Bool) → (D → List Entry) → D → D → ℕ → ℕ → Request → Verdict → Type 0
+HasAskedJob opening number alone seen old new child task request =
+    HasAsked (opening old) (number old) (alone old) never (seen old) (seen new) child task (name_of request) (message_of request) (λ job. Unit {0})
