@@ -215,8 +215,8 @@ impl<R: Files<File = File>> OsDesk<R> {
     // Counts a fault or a missing file where the outcome is one, and hands the outcome on.
     fn counted<T>(&mut self, outcome: Result<T, DeskError>) -> Result<T, DeskError>
         ensures same { result ≡ outcome }
-        ensures causes { HasCauses (⟦<OsDesk<R> as Desk>⟧.counts self.old) (⟦<OsDesk<R> as Desk>⟧.counts self.new) result }
-        ensures apart { LeavesOther (⟦<OsDesk<R> as Desk>⟧.counts self.old) (⟦<OsDesk<R> as Desk>⟧.counts self.new) result }
+        ensures causes { HasCauses (⟦<OsDesk<R> as Desk>⟧.told self.old).counts (⟦<OsDesk<R> as Desk>⟧.told self.new).counts result }
+        ensures apart { LeavesOther (⟦<OsDesk<R> as Desk>⟧.told self.old).counts (⟦<OsDesk<R> as Desk>⟧.told self.new).counts result }
     {
         match outcome {
             Err(DeskError::Failed) => self.faults = self.faults.saturating_add(1),
@@ -228,11 +228,7 @@ impl<R: Files<File = File>> OsDesk<R> {
 }
 
 impl<R: Files<File = File>> Desk for OsDesk<R> {
-    ghost counts = { λ d. record { faults = d.faults; missing = d.missing } };
-
-    ghost files = { λ d. None };
-
-    ghost log = { λ d. None };
+    ghost told = { λ d. record { counts = record { faults = d.faults; missing = d.missing }; files = None; log = None } };
 
     fn size(&mut self, name: &str) -> Result<u64, DeskError> {
         let size = size_of(&self.rt, name);

@@ -27,13 +27,13 @@ pub fn audit_input<S: Source>(
     source: &mut S,
     limits: &Limits,
 ) -> Result<Audit, AuditError>
-    requires { S.is_open source.old ≡ true }
-    ensures input { (bytes : List ℕ) × Gave S.Source source.old source.new bytes × IsRead limits.now bytes (S.left source.new) result }
-    ensures told { IfSome (S.left source.old) (λ all. AuditComesTo limits.now all result) }
-    ensures faults { IsCounted (S.faults source.old) (S.faults source.new) result }
-    ensures silent { StaysUntold (S.given source.old) (S.given source.new) × StaysUntold (S.left source.old) (S.left source.new) }
-    ensures open { S.is_open source.new ≡ true }
-    ensures number { S.number source.new ≡ S.number source.old }
+    requires { (S.told source.old).is_open ≡ true }
+    ensures input { (bytes : List ℕ) × Gave S.Source source.old source.new bytes × IsRead limits.now bytes (S.told source.new).left result }
+    ensures told { IfSome (S.told source.old).left (λ all. AuditComesTo limits.now all result) }
+    ensures faults { IsCounted (S.told source.old).faults (S.told source.new).faults result }
+    ensures silent { StaysUntold (S.told source.old).given (S.told source.new).given × StaysUntold (S.told source.old).left (S.told source.new).left }
+    ensures open { (S.told source.new).is_open ≡ true }
+    ensures number { (S.told source.new).number ≡ (S.told source.old).number }
 {
     let intake = take_all(alloc, source, limits)?;
     let (opening, journal) = intake.finish()?;
@@ -51,12 +51,12 @@ fn audit_all(alloc: Global, opening: Opening, journal: Journal) -> Result<Audit,
 
 // Takes what the source gives up to its end, or until a limit is passed.
 fn take_all<S: Source>(alloc: Global, source: &mut S, limits: &Limits) -> Result<Intake, AuditError>
-    requires { S.is_open source.old ≡ true }
-    ensures given { (bytes : List ℕ) × Gave S.Source source.old source.new bytes × Holds limits.now bytes (S.left source.new) result }
-    ensures faults { IsCounted (S.faults source.old) (S.faults source.new) result }
-    ensures silent { StaysUntold (S.given source.old) (S.given source.new) × StaysUntold (S.left source.old) (S.left source.new) }
-    ensures open { S.is_open source.new ≡ true }
-    ensures number { S.number source.new ≡ S.number source.old }
+    requires { (S.told source.old).is_open ≡ true }
+    ensures given { (bytes : List ℕ) × Gave S.Source source.old source.new bytes × Holds limits.now bytes (S.told source.new).left result }
+    ensures faults { IsCounted (S.told source.old).faults (S.told source.new).faults result }
+    ensures silent { StaysUntold (S.told source.old).given (S.told source.new).given × StaysUntold (S.told source.old).left (S.told source.new).left }
+    ensures open { (S.told source.new).is_open ≡ true }
+    ensures number { (S.told source.new).number ≡ (S.told source.old).number }
 {
     let mut intake = Intake::new(alloc);
     while !intake.past {
@@ -73,12 +73,12 @@ fn read_step<S: Source>(
     limits: &Limits,
     intake: &mut Intake,
 ) -> Result<bool, AuditError>
-    requires { S.is_open source.old ≡ true }
-    ensures given { (piece : List ℕ) × Gave S.Source source.old source.new piece × IsStep limits.now intake.old intake.new piece (S.left source.new) result }
-    ensures faults { IsCounted (S.faults source.old) (S.faults source.new) result }
-    ensures silent { StaysUntold (S.given source.old) (S.given source.new) × StaysUntold (S.left source.old) (S.left source.new) }
-    ensures open { S.is_open source.new ≡ true }
-    ensures number { S.number source.new ≡ S.number source.old }
+    requires { (S.told source.old).is_open ≡ true }
+    ensures given { (piece : List ℕ) × Gave S.Source source.old source.new piece × IsStep limits.now intake.old intake.new piece (S.told source.new).left result }
+    ensures faults { IsCounted (S.told source.old).faults (S.told source.new).faults result }
+    ensures silent { StaysUntold (S.told source.old).given (S.told source.new).given × StaysUntold (S.told source.old).left (S.told source.new).left }
+    ensures open { (S.told source.new).is_open ≡ true }
+    ensures number { (S.told source.new).number ≡ (S.told source.old).number }
 {
     let mut piece = [0; STEP];
     match source.read(&mut piece) {

@@ -1,4 +1,5 @@
 -- What programs tell of the starts that a run made, and what a run leaves of them and of its children's links.
+use Rattle.ann_outside.specs.Told.{ProgramsTold}
 use Rattle.std.specs.Prelude.{ℕ, ◌≡◌, ◌⊎◌, ◌+◌, ◌-◌, ◌^◌, ◌≤◌, min, Bool, true, false, List, [], ◌∷◌, ◌++◌, Option, Some, None}
 use Rattle.ann_outside.specs.Starts.{Starts}
 use Rattle.journal_model.specs.declared.entry.What.{What}
@@ -8,14 +9,6 @@ use Rattle.journal_model.specs.Journal.{each_of}
 use Rattle.journal_model.specs.Legality.{count}
 use Rattle.link_roles.specs.Wires.{WireValue}
 use Rattle.child_end.specs.Wires.{AreWires, came}
-
--- the starts that programs tell, and how often they failed
-pub record ProgramsValue : Type 0 where
-  pub starts : Option Starts
-  pub faults : ℕ
-
-abbrev pub programs_value : Option Starts → ℕ → ProgramsValue
-programs_value starts faults = record { starts = starts; faults = faults }
 
 -- what programs tell of the entry, where it is a start of this program
 abbrev pub told_in : List ℕ → What → Option (List ℕ × Bool)
@@ -51,7 +44,7 @@ RoseBy n before now = min (before + n) (2 ^ 64 - 1) ≤ now
 
 -- Of the objects of a run there are left the wires of its children, the starts that its journal has, and a fault for each that
 -- failed.
-pub record Leaves (wanted : Type 0) (program : List ℕ) (journal : List Entry) (before after : ProgramsValue) (wires : List WireValue) : Type 0 where
+pub record Leaves (wanted : Type 0) (program : List ℕ) (journal : List Entry) (before after : ProgramsTold) (wires : List WireValue) : Type 0 where
   pub wired : AreWires before.starts journal 0 (came journal) wires
   pub started : HaveStarted wanted program journal before.starts after.starts
   pub faults : RoseBy (count is_failed_start journal) before.faults after.faults

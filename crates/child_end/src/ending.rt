@@ -17,14 +17,14 @@ use link_roles::{Door, Lone, OwnDoor, Wire};
 
 // The same over any door of the main thread's.
 fn close_over<I: Sink, O: Source, D: Door>(link: &Lone<I, O>, door: &mut D)
-    requires alone { D.alone door.old ≡ true }
-    requires main { D.number door.old ≡ 0 }
-    requires started { is_started (D.seen door.old) link.now.ear.child ≡ true }
-    requires idle { may_stop (D.seen door.old) link.now.ear.child Closed ≡ true }
-    ensures closes { Closes 0 link.now.ear.child (D.seen door.old) (D.seen door.new) }
-    ensures wired { LoneWired (D.seen door.old) link.now.ear link.now.mouth → LoneWired (D.seen door.new) link.now.ear link.now.mouth }
-    ensures held { IsHeld (D.seen door.old) link.now.ear link.now.mouth → IsHeld (D.seen door.new) link.now.ear link.now.mouth }
-    ensures door { IsSameDoor D.opening D.number D.seen D.alone D.loans D.home door.old door.new }
+    requires alone { (D.view door.old).alone ≡ true }
+    requires main { (D.view door.old).number ≡ 0 }
+    requires started { is_started (D.view door.old).seen link.now.ear.child ≡ true }
+    requires idle { may_stop (D.view door.old).seen link.now.ear.child Closed ≡ true }
+    ensures closes { Closes 0 link.now.ear.child (D.view door.old).seen (D.view door.new).seen }
+    ensures wired { LoneWired (D.view door.old).seen link.now.ear link.now.mouth → LoneWired (D.view door.new).seen link.now.ear link.now.mouth }
+    ensures held { IsHeld (D.view door.old).seen link.now.ear link.now.mouth → IsHeld (D.view door.new).seen link.now.ear link.now.mouth }
+    ensures door { IsSameDoor (D.view door.old) (D.view door.new) }
 {
     link.close_alone(door);
 }
@@ -52,8 +52,8 @@ pub fn finish<P: Programs>(
     requires room { vec_len wires.old < vec_capacity wires.old }
     ensures laid { IsLaid link.ear link.mouth wires.old.items wires.new.items }
     ensures room { (vec_len wires.new ≡ vec_len wires.old + 1) × (vec_capacity wires.new ≡ vec_capacity wires.old) }
-    ensures starts { Stays (P.starts programs.old) (P.starts programs.new) }
-    ensures later { P.faults programs.old ≤ P.faults programs.new }
+    ensures starts { Stays (P.told programs.old).starts (P.told programs.new).starts }
+    ensures later { (P.told programs.old).faults ≤ (P.told programs.new).faults }
 {
     let wire = link.finish();
     let (inlet, outlet) = wire.halves();

@@ -21,7 +21,9 @@ use Rattle.journal_model.specs.Halves.{EarValue, MouthValue}
 use Rattle.child_start.specs.declared.greeting.Mode.{Mode}
 use Rattle.child_start.specs.declared.greeting.Mode.TheVariants.{Serve, Init}
 use Rattle.child_start.specs.declared.greeting.Greeting.{Greeting}
-use Rattle.child_start.specs.declared.greeting.Greeting.TheVariants.{Ready, Refused, Ended, Unsent, StartFault, NoMemory}
+use Rattle.child_start.specs.declared.greeting.Greeting.TheVariants.{Child, StartFault, NoMemory}
+use Rattle.child_start.specs.declared.greeting.Came.{Came}
+use Rattle.child_start.specs.declared.greeting.Came.TheVariants.{Ready, Refused, Ended, Unsent}
 
 -- it asks to be set up
 abbrev pub is_initremote : Option HostMessage → Bool
@@ -114,31 +116,30 @@ pub record IsUnsent (journal : List Entry) (c : ℕ) : Type 0 where
   pub live : is_ended journal c ≡ false
   pub mute : is_mute journal c ≡ true
 
+-- what the journal says of a child that was greeted
+abbrev pub CameTo : Mode → List Entry → ℕ → Came → Type 0
+CameTo mode journal c (Ready tagged) = IsReadyFor mode journal c × (tagged ≡ is_tagged journal c)
+CameTo mode journal c (Refused verdict) = IsRefused journal c verdict
+CameTo mode journal c (Ended why) = HasEnded journal c why
+CameTo mode journal c Unsent = IsUnsent journal c
+
 -- what the journal says of a greeting
 abbrev pub TellsFor : {I O S : Type 0} {sinks : SinkGhosts I} {sources : SourceGhosts O} → Mode → List Entry → List Entry → ℕ → Bool → Greeting I O S sinks sources → Type 0
-TellsFor mode old new slot offer (Ready link stub tagged) =
-    GreetedFor mode old new slot offer link.ear.child × IsReadyFor mode new link.ear.child × (tagged ≡ is_tagged new link.ear.child)
-TellsFor mode old new slot offer (Refused verdict link stub) = GreetedFor mode old new slot offer link.ear.child × IsRefused new link.ear.child verdict
-TellsFor mode old new slot offer (Ended why link stub) = GreetedFor mode old new slot offer link.ear.child × HasEnded new link.ear.child why
-TellsFor mode old new slot offer (Unsent link stub) = GreetedFor mode old new slot offer link.ear.child × IsUnsent new link.ear.child
+TellsFor mode old new slot offer (Child link stub came) = GreetedFor mode old new slot offer link.ear.child × CameTo mode new link.ear.child came
 TellsFor mode old new slot offer StartFault = new ≡ old ++ record { by = 0; what = NoStart slot } ∷ []
 TellsFor mode old new slot offer NoMemory = new ≡ old
 
 -- the halves of the link of a greeting that has one
 abbrev pub IfHasLink : {I O S : Type 0} {sinks : SinkGhosts I} {sources : SourceGhosts O} → (EarValue → MouthValue → Type 0) → Greeting I O S sinks sources → Type 0
-IfHasLink P (Ready link stub tagged) = P link.ear link.mouth
-IfHasLink P (Refused verdict link stub) = P link.ear link.mouth
-IfHasLink P (Ended why link stub) = P link.ear link.mouth
-IfHasLink P (Unsent link stub) = P link.ear link.mouth
-IfHasLink P StartFault = Unit {0}
-IfHasLink P NoMemory = Unit {0}
+IfHasLink P (Child link stub came) = P link.ear link.mouth
+IfHasLink P greeting = Unit {0}
 
 -- Where programs tell, they were asked for the program once, which gave a child or not. Without memory they may not have
 -- been asked, or it may have been for nothing.
 abbrev pub StartsOnce : {I O S : Type 0} {sinks : SinkGhosts I} {sources : SourceGhosts O} → Option Starts → Option Starts → List ℕ → Greeting I O S sinks sources → Type 0
+StartsOnce old new program (Child link stub came) = AddsOne old new (program, true)
 StartsOnce old new program StartFault = AddsOne old new (program, false)
 StartsOnce old new program NoMemory = Stays old new ⊎ ((b : Bool) × AddsOne old new (program, b))
-StartsOnce old new program greeting = AddsOne old new (program, true)
 
 -- both halves are those of the last start, where they tell it
 abbrev pub AreNumbered : Option Starts → EarValue → MouthValue → Type 0

@@ -54,13 +54,13 @@ fn ask_one<I: Sink, O: Source, D: Door>(
     door: &mut D,
     request: &Request,
 ) -> RequestOutcome
-    requires main { IsMain (D.number door.old) (D.alone door.old) }
-    requires legal { Legal (D.opening door.old) (D.seen door.old) }
-    requires may { MayGreet (D.seen door.old) (D.number door.old) link.old.ear.child (message_of request.now) }
-    ensures on { (mode : Mode) → is_asked_for (message_of request.now) mode ≡ true → GreetsOn mode (D.seen door.old) (D.seen door.new) link.old.ear.child }
-    ensures asks { AsksNext (D.seen door.old) (D.seen door.new) link.old.ear.child result }
-    ensures link { KeepsLink (D.seen door.old) (D.seen door.new) link.old.ear link.new.ear link.old.mouth link.new.mouth }
-    ensures door { IsSameDoor D.opening D.number D.seen D.alone D.loans D.home door.old door.new }
+    requires main { IsMain (D.view door.old).number (D.view door.old).alone }
+    requires legal { Legal (D.view door.old).opening (D.view door.old).seen }
+    requires may { MayGreet (D.view door.old).seen (D.view door.old).number link.old.ear.child (message_of request.now) }
+    ensures on { (mode : Mode) → is_asked_for (message_of request.now) mode ≡ true → GreetsOn mode (D.view door.old).seen (D.view door.new).seen link.old.ear.child }
+    ensures asks { AsksNext (D.view door.old).seen (D.view door.new).seen link.old.ear.child result }
+    ensures link { KeepsLink (D.view door.old).seen (D.view door.new).seen link.old.ear link.new.ear link.old.mouth link.new.mouth }
+    ensures door { IsSameDoor (D.view door.old) (D.view door.new) }
 {
     match link.ask_alone(door, 0, request) {
         Ok(verdict) => asked_as(verdict),
@@ -88,13 +88,13 @@ fn ask_both<I: Sink, O: Source, D: Door>(
     offer: bool,
     mode: Mode,
 ) -> RequestOutcome
-    requires main { IsMain (D.number door.old) (D.alone door.old) }
-    requires legal { Legal (D.opening door.old) (D.seen door.old) }
-    requires asks { MayAsk (D.seen door.old) link.old.ear.child offer }
-    ensures on { GreetsOn mode (D.seen door.old) (D.seen door.new) link.old.ear.child }
-    ensures prepares { Prepares mode (D.seen door.new) link.old.ear.child result }
-    ensures link { KeepsLink (D.seen door.old) (D.seen door.new) link.old.ear link.new.ear link.old.mouth link.new.mouth }
-    ensures door { IsSameDoor D.opening D.number D.seen D.alone D.loans D.home door.old door.new }
+    requires main { IsMain (D.view door.old).number (D.view door.old).alone }
+    requires legal { Legal (D.view door.old).opening (D.view door.old).seen }
+    requires asks { MayAsk (D.view door.old).seen link.old.ear.child offer }
+    ensures on { GreetsOn mode (D.view door.old).seen (D.view door.new).seen link.old.ear.child }
+    ensures prepares { Prepares mode (D.view door.new).seen link.old.ear.child result }
+    ensures link { KeepsLink (D.view door.old).seen (D.view door.new).seen link.old.ear link.new.ear link.old.mouth link.new.mouth }
+    ensures door { IsSameDoor (D.view door.old) (D.view door.new) }
 {
     let extensions = Request::Extensions { offer };
     if let RequestOutcome::Gone = ask_one(link, door, &extensions) {
@@ -110,13 +110,13 @@ fn hear_and_ask<I: Sink, O: Source, D: Door>(
     offer: bool,
     mode: Mode,
 ) -> Came
-    requires main { IsMain (D.number door.old) (D.alone door.old) }
-    requires legal { Legal (D.opening door.old) (D.seen door.old) }
-    requires begun { HasBegun (D.seen door.old) link.old.ear.child offer }
-    ensures on { GreetsOn mode (D.seen door.old) (D.seen door.new) link.old.ear.child }
-    ensures comes { GreetingComesTo mode (D.seen door.new) link.old.ear.child result }
-    ensures link { KeepsLink (D.seen door.old) (D.seen door.new) link.old.ear link.new.ear link.old.mouth link.new.mouth }
-    ensures door { IsSameDoor D.opening D.number D.seen D.alone D.loans D.home door.old door.new }
+    requires main { IsMain (D.view door.old).number (D.view door.old).alone }
+    requires legal { Legal (D.view door.old).opening (D.view door.old).seen }
+    requires begun { HasBegun (D.view door.old).seen link.old.ear.child offer }
+    ensures on { GreetsOn mode (D.view door.old).seen (D.view door.new).seen link.old.ear.child }
+    ensures comes { GreetingComesTo mode (D.view door.new).seen link.old.ear.child result }
+    ensures link { KeepsLink (D.view door.old).seen (D.view door.new).seen link.old.ear link.new.ear link.old.mouth link.new.mouth }
+    ensures door { IsSameDoor (D.view door.old) (D.view door.new) }
 {
     if let Some(why) = link.hear_version_alone(door) {
         return Came::Over(why);
@@ -221,10 +221,10 @@ fn discard<P: Programs>(programs: &mut P, inlet: P::Inlet, outlet: P::Outlet, st
 where
     P::Inlet: Drop,
     P::Outlet: Drop,
-    requires inlet { P.Inlet.is_open inlet ≡ true }
-    requires outlet { P.Outlet.is_open outlet ≡ true }
-    ensures starts { Stays (P.starts programs.old) (P.starts programs.new) }
-    ensures later { P.faults programs.old ≤ P.faults programs.new }
+    requires inlet { (P.Inlet.told inlet).is_open ≡ true }
+    requires outlet { (P.Outlet.told outlet).is_open ≡ true }
+    ensures starts { Stays (P.told programs.old).starts (P.told programs.new).starts }
+    ensures later { (P.told programs.old).faults ≤ (P.told programs.new).faults }
 {
     let mut inlet = inlet;
     let mut outlet = outlet;
@@ -235,10 +235,10 @@ where
 
 /// Waits for a child's program to end. Both halves are closed by then, so that a program that reads on finds its input at an end.
 pub fn wait_for<P: Programs>(programs: &mut P, inlet: &P::Inlet, outlet: &P::Outlet, stub: P::Stub)
-    requires inlet { P.Inlet.is_open inlet.now ≡ false }
-    requires outlet { P.Outlet.is_open outlet.now ≡ false }
-    ensures starts { Stays (P.starts programs.old) (P.starts programs.new) }
-    ensures later { P.faults programs.old ≤ P.faults programs.new }
+    requires inlet { (P.Inlet.told inlet.now).is_open ≡ false }
+    requires outlet { (P.Outlet.told outlet.now).is_open ≡ false }
+    ensures starts { Stays (P.told programs.old).starts (P.told programs.new).starts }
+    ensures later { (P.told programs.old).faults ≤ (P.told programs.new).faults }
 {
     let _status = programs.finish(stub);
 }
@@ -260,10 +260,10 @@ where
     requires few { count is_start core.old.journal < 4294967295 }
     ensures tells { TellsFor mode core.old.journal core.new.journal slot offer result }
     ensures wired { IfHasLink (LoneWired core.new.journal) result }
-    ensures numbers { IfHasLink (AreNumbered (P.starts programs.new)) result }
-    ensures starts { StartsOnce (P.starts programs.old) (P.starts programs.new) program.now result }
-    ensures fault { result ≡ Greeting.StartFault → Rose (P.faults programs.old) (P.faults programs.new) }
-    ensures later { P.faults programs.old ≤ P.faults programs.new }
+    ensures numbers { IfHasLink (AreNumbered (P.told programs.new).starts) result }
+    ensures starts { StartsOnce (P.told programs.old).starts (P.told programs.new).starts program.now result }
+    ensures fault { result ≡ Greeting.StartFault → Rose (P.told programs.old).faults (P.told programs.new).faults }
+    ensures later { (P.told programs.old).faults ≤ (P.told programs.new).faults }
     ensures core { IsSameCore core.old core.new }
 {
     match programs.start(program) {

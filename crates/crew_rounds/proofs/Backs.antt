@@ -1,4 +1,5 @@
 -- What came back of the roles of a round over a tagged child.
+use Rattle.ann_outside.specs.Told.{DeskTold}
 use Rattle.std.proofs.Common.{◌≡◌, ℕ, ◌+◌, ◌<◌, List, [], ◌∷◌, map, true, false, refl, sym, subst, zero, suc}
 use Rattle.std.specs.Prelude.{All}
 use Rattle.std.specs.List.{list_any}
@@ -12,7 +13,6 @@ use Rattle.gathering.specs.Posts.{Post, Ear, Mouth}
 use Rattle.gathering.specs.Rounds.{CorePass, EarEnds, MouthEnds}
 use Rattle.gathering.proofs.Ending.{stayed_ear, stayed_mouth}
 use Rattle.task_run.specs.declared.setup.Setup.{Setup}
-use Rattle.lone_work.specs.Works.{DeskTells}
 use Rattle.crew_round.specs.declared.back.Back.{Back}
 use Rattle.crew_round.specs.declared.back.Back.TheVariants.{Stayed, Ran}
 use Rattle.crew_round.specs.Back.{CameBack}
@@ -69,7 +69,7 @@ mouth_back pass_of mouth_of ran h crew a (Ran x) speaks fresh pos post wired r =
 
 -- ---- workers
 
-module _ {W : Type 0} (pass_of : W → CorePass) (desk_of : W → DeskTells) (ran : W → W → Type 0) (h : HallValue Entry Opening) (setup : Setup) (c : ℕ) (Placed : W → Type 0)
+module _ {W : Type 0} (pass_of : W → CorePass) (desk_of : W → DeskTold) (ran : W → W → Type 0) (h : HallValue Entry Opening) (setup : Setup) (c : ℕ) (Placed : W → Type 0)
     (works : (w v : W) → Placed w → ran w v → WorkerRan h setup (pass_of w) (pass_of v) false c (Unit {0}) (Unit {0}) (desk_of w) (desk_of v)) where
   abbrev pub tells_of : Back W → WorkerTells
   tells_of b = record { pass = pass_of (role_of b); desk = desk_of (role_of b) }
@@ -105,7 +105,7 @@ module _ {W : Type 0} (pass_of : W → CorePass) (desk_of : W → DeskTells) (ra
       record { place = zero; pass = pass_of v; there = refl; through = (works w v (All-head Placed w ws placed) all.0).through }
 
 -- the passes of workers are the hall's
-pub manned_own : (h : HallValue Entry Opening) (setup : Setup) (c first : ℕ) (ds : List DeskTells) (es : List WorkerTells) → AllManned h setup c first ds es
+pub manned_own : (h : HallValue Entry Opening) (setup : Setup) (c first : ℕ) (ds : List DeskTold) (es : List WorkerTells) → AllManned h setup c first ds es
     → All (IsPassOf h) (map (λ (e : WorkerTells). e.pass) es)
 manned_own h setup c first [] [] all = All-nil (IsPassOf h)
 manned_own h setup c first [] (e ∷ es) all = absurd all

@@ -1,4 +1,5 @@
 -- The hall of a round over a tagged child is closed.
+use Rattle.ann_outside.specs.Told.{DeskTold}
 use Rattle.std.proofs.Common.{◌≡◌, ℕ, suc, ◌+◌, List, [], ◌∷◌, ◌++◌, true, ◌==◌, refl, sym, ap, subst, ◌∙◌, Some, length, arith, append-nil, slice_get, eq-eqb}
 use Rattle.std.specs.Prelude.{All}
 use Rattle.std.specs.List.{range_with_len}
@@ -13,7 +14,6 @@ use Rattle.gathering.specs.Laws.{GoesOn, MayBeginTagged, Over, numbers_of}
 use Rattle.gathering.specs.Rounds.{CorePass, LinkValue}
 use Rattle.gathering.proofs.Halls.{AllHave, have}
 use Rattle.task_run.specs.declared.setup.Setup.{Setup}
-use Rattle.lone_work.specs.Works.{DeskTells}
 use Rattle.crew_rounds.specs.Crewing.{AllManned, WorkerTells}
 use Rattle.crew_rounds.specs.TaggedRounds.{TaggedLeaves, desks_of, passes_of}
 use Rattle.crew_rounds.proofs.TaggedRounds.{tagged_closes}
@@ -51,7 +51,7 @@ kept_opening h ps final fixed over = over.0.kept
 
 -- ---- a round that is over
 
-manned_numbers : (h : HallValue Entry Opening) (setup : Setup) (c first : ℕ) (ds : List DeskTells) (es : List WorkerTells) → AllManned h setup c first ds es
+manned_numbers : (h : HallValue Entry Opening) (setup : Setup) (c first : ℕ) (ds : List DeskTold) (es : List WorkerTells) → AllManned h setup c first ds es
     → numbers_of (passes_of es) ≡ range_with_len first (length ds)
 manned_numbers h setup c first [] [] all = refl
 manned_numbers h setup c first [] (e ∷ es) all = absurd all
@@ -69,11 +69,11 @@ crew_numbers main ear mouth ps n is more =
     let count : suc (suc (suc n)) ≡ 3 + n = omega arith in
     shape ∙ ap (range_with_len 1) count
 
-pub closes : (h : HallValue Entry Opening) (setup : Setup) (l l' : LinkValue) (passes : List CorePass) (final : List Entry) (fixed : Opening) (desks desks' : List DeskTells)
+pub closes : (h : HallValue Entry Opening) (setup : Setup) (l l' : LinkValue) (passes : List CorePass) (final : List Entry) (fixed : Opening) (desks desks' : List DeskTold)
     → Over h passes final fixed → TaggedCan h.fixed h.start l → CrewLeft h setup l.ear.child l' passes desks desks'
     → GoesOn h.start final (λ rest. TaggedLeaves h.fixed setup (range_with_len 1 (3 + length desks)) h.start rest l' desks desks')
 closes h setup l l' passes final fixed desks desks' over can before =
-    subst (λ (ds : List DeskTells). GoesOn h.start final (λ rest. TaggedLeaves h.fixed setup (range_with_len 1 (3 + length desks)) h.start rest l' desks ds)) (sym left.desks_are)
+    subst (λ (ds : List DeskTold). GoesOn h.start final (λ rest. TaggedLeaves h.fixed setup (range_with_len 1 (3 + length desks)) h.start rest l' desks ds)) (sym left.desks_are)
     (subst (λ (ns : List ℕ). GoesOn h.start final (λ rest. TaggedLeaves h.fixed setup ns h.start rest l' desks (desks_of left.workers))) numbers
     (tagged_closes h setup final fixed l' left.main left.ear left.mouth desks left.workers
     (subst (λ (ps : List CorePass). Over h ps final fixed) left.passes_are over)
@@ -110,7 +110,7 @@ if_kept (NoThreads refused) f h = f h
 
 module _ (h : HallValue Entry Opening) (opening : Opening) (start : List Entry) (start_is : h.start ≡ start) (fixed_is : h.fixed ≡ opening) (passes : List CorePass) (final : List Entry) (fixed : Opening)
     (over : Over h passes final fixed) (o : Outcome) where
-  pub closes_done : (setup : Setup) (l l' : LinkValue) (desks desks' : List DeskTells) (n : ℕ) → length desks ≡ n → TaggedCan opening start l
+  pub closes_done : (setup : Setup) (l l' : LinkValue) (desks desks' : List DeskTold) (n : ℕ) → length desks ≡ n → TaggedCan opening start l
       → IfDone o (CrewLeft h setup l.ear.child l' passes desks desks')
       → IfDone o (GoesOn start final (λ rest. TaggedLeaves opening setup (range_with_len 1 (3 + n)) start rest l' desks desks'))
   closes_done setup l l' desks desks' n count can left =

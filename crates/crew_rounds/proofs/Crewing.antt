@@ -1,4 +1,5 @@
 -- What the workers of a round promise, put together.
+use Rattle.ann_outside.specs.Told.{DeskTold}
 use Rattle.std.proofs.Common.{◌≡◌, ℕ, ◌+◌, ◌<◌, ◌≤◌, List, [], ◌∷◌, ◌++◌, refl, sym, ap, subst, ◌∙◌, Bool, true, false, ◌==◌, append_assoc, arith, drop, length}
 use Rattle.std.specs.Prelude.{All, map, nat_lt}
 use Rattle.std.proofs.lemmas.Bool.Decides.{nat_tests}
@@ -12,7 +13,7 @@ use Rattle.gathering.specs.Rounds.{CorePass, WorkerEnds, since}
 use Rattle.gathering.specs.Tasks.{turns_by}
 use Rattle.gathering.proofs.Halls.{Saw, drop_start}
 use Rattle.task_run.specs.declared.setup.Setup.{Setup}
-use Rattle.lone_work.specs.Works.{AllRan, DeskTells, TaskDone}
+use Rattle.lone_work.specs.Works.{AllRan, TaskDone}
 use Rattle.lone_work.proofs.Working.{runs_last}
 use Rattle.crew_work.specs.Crews.{Worked, calls_of}
 use Rattle.gathering.specs.JournalRuns.{HasJournalRun}
@@ -55,7 +56,7 @@ all_run o setup journal number c (r ∷ done) pos h = (
 )
 
 -- there the desk of a worker did what the worker leaves
-pub desk_did : (o : Opening) (setup : Setup) (owns : Bool) (c number : ℕ) (start rest : List Entry) (p : CorePass) (Before After : Type 0) (d e : DeskTells) → p.number ≡ number → 0 < c
+pub desk_did : (o : Opening) (setup : Setup) (owns : Bool) (c number : ℕ) (start rest : List Entry) (p : CorePass) (Before After : Type 0) (d e : DeskTold) → p.number ≡ number → 0 < c
     → (w : Worked o setup owns p.number false c p.start (seen_of p) Before After d e) → Own o start rest p → DeskDid o setup start rest number w.done d e
 desk_did o setup owns c number start rest p Before After d e number_is pos w own =
     subst (λ (n : ℕ). DeskDid o setup start rest n w.done d e) number_is (record {
@@ -76,20 +77,20 @@ desk_did o setup owns c number start rest p Before After d e number_is pos w own
 
 module _ (h : HallValue Entry Opening) (setup : Setup) (c : ℕ) where
   -- the tasks that each worker did
-  abbrev pub dones_of : (first : ℕ) (ds : List DeskTells) (es : List WorkerTells) → AllManned h setup c first ds es → List (List TaskDone)
+  abbrev pub dones_of : (first : ℕ) (ds : List DeskTold) (es : List WorkerTells) → AllManned h setup c first ds es → List (List TaskDone)
   dones_of first [] [] all = []
   dones_of first [] (e ∷ es) all = []
   dones_of first (d ∷ ds) [] all = []
   dones_of first (d ∷ ds) (e ∷ es) all = all.0.worked.done ∷ dones_of (first + 1) ds es all.1
 
-  ends_one : (calls : ℕ → ℕ → ℕ → List Call) (first : ℕ) (d : DeskTells) (e : WorkerTells) → (m : Manned h setup c first d e) → 3 < first → ((t k : ℕ) → calls first t k ≡ calls_of m.worked.done t k)
+  ends_one : (calls : ℕ → ℕ → ℕ → List Call) (first : ℕ) (d : DeskTold) (e : WorkerTells) → (m : Manned h setup c first d e) → 3 < first → ((t k : ℕ) → calls first t k ≡ calls_of m.worked.done t k)
       → WorkerEnds h.fixed (HasJournalRun h.fixed setup calls) (tagged_crew c) c e.pass
   ends_one calls first d e m far told =
       worker_ends h.fixed setup calls false c (tagged_crew c) e.pass (Unit {0}) (Unit {0}) d e.desk m.worked m.through (let is = m.number_is in omega (arith, is, far))
       (λ t k. ap (λ (n : ℕ). calls n t k) m.number_is ∙ told t k)
       (λ w k. subst (λ (q : Post). makes q w ≡ true) (sym (worker_post c e.pass.number (let is = m.number_is in omega (arith, is, far)))) k)
 
-  pub ends_all : (calls : ℕ → ℕ → ℕ → List Call) (first : ℕ) (ds : List DeskTells) (es : List WorkerTells) → (all : AllManned h setup c first ds es) → 3 < first
+  pub ends_all : (calls : ℕ → ℕ → ℕ → List Call) (first : ℕ) (ds : List DeskTold) (es : List WorkerTells) → (all : AllManned h setup c first ds es) → 3 < first
       → Agree calls first (dones_of first ds es all) → All (WorkerEnds h.fixed (HasJournalRun h.fixed setup calls) (tagged_crew c) c) (map (λ (e : WorkerTells). e.pass) es)
   ends_all calls first [] [] all far agree = All-nil (WorkerEnds h.fixed (HasJournalRun h.fixed setup calls) (tagged_crew c) c)
   ends_all calls first [] (e ∷ es) all far agree = absurd all
@@ -100,10 +101,10 @@ module _ (h : HallValue Entry Opening) (setup : Setup) (c : ℕ) where
       (ends_all calls (first + 1) ds es all.1 (omega (arith, far)) (agree_later calls first all.0.worked.done (dones_of (first + 1) ds es all.1) agree))
 
   module _ (start rest : List Entry) (pos : 0 < c) where
-    did_one : (first : ℕ) (d : DeskTells) (e : WorkerTells) → (m : Manned h setup c first d e) → Own h.fixed start rest e.pass → DeskDid h.fixed setup start rest first m.worked.done d e.desk
+    did_one : (first : ℕ) (d : DeskTold) (e : WorkerTells) → (m : Manned h setup c first d e) → Own h.fixed start rest e.pass → DeskDid h.fixed setup start rest first m.worked.done d e.desk
     did_one first d e m own = desk_did h.fixed setup false c first start rest e.pass (Unit {0}) (Unit {0}) d e.desk m.number_is pos m.worked own
 
-    pub did_all : (first : ℕ) (ds : List DeskTells) (es : List WorkerTells) → (all : AllManned h setup c first ds es) → All (λ (e : WorkerTells). Own h.fixed start rest e.pass) es
+    pub did_all : (first : ℕ) (ds : List DeskTold) (es : List WorkerTells) → (all : AllManned h setup c first ds es) → All (λ (e : WorkerTells). Own h.fixed start rest e.pass) es
         → DesksDid h.fixed setup start rest first (dones_of first ds es all) ds (map (λ (e : WorkerTells). e.desk) es)
     did_all first [] [] all own = tt
     did_all first [] (e ∷ es) all own = absurd all

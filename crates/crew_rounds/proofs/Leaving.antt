@@ -1,4 +1,5 @@
 -- What the roles of a round over a tagged child leave, put together.
+use Rattle.ann_outside.specs.Told.{DeskTold}
 use Rattle.std.proofs.Common.{◌≡◌, ℕ, ◌+◌, List, [], ◌∷◌, ◌++◌, map, Bool, true, false, refl, sym, ap, subst, ◌∙◌, zero, suc, Some, arith, slice_get, length, inl, inr, append-nil}
 use Rattle.std.specs.Prelude.{◌||◌, All, reverse}
 use Rattle.std.specs.List.{list_any}
@@ -19,7 +20,6 @@ use Rattle.gathering.proofs.Ending.{stayed_keeps}
 use Rattle.link_roles.specs.Doors.{Ends}
 use Rattle.link_roles.specs.Moves.{IsSameLink}
 use Rattle.task_run.specs.declared.setup.Setup.{Setup}
-use Rattle.lone_work.specs.Works.{DeskTells}
 use Rattle.crew_work.specs.Crews.{CanServe}
 use Rattle.crew_round.specs.declared.back.Back.{Back}
 use Rattle.crew_round.specs.declared.back.Back.TheVariants.{Stayed, Ran}
@@ -40,7 +40,7 @@ use Rattle.crew_rounds.proofs.Ending.{ender_keeps}
 use Rattle.crew_round.proofs.Dealing.{all_reverse, map_map, pairwise_length, pairwise_reverse}
 use Rattle.crew_rounds.proofs.Places.{any_reverse, roles_order, stayed_same}
 
-module _ {A B W K : Type 0} (ep : A → CorePass) (ee : A → EarValue) (mp : B → CorePass) (me : B → MouthValue) (wp : W → CorePass) (wd : W → K) (tells : K → DeskTells)
+module _ {A B W K : Type 0} (ep : A → CorePass) (ee : A → EarValue) (mp : B → CorePass) (me : B → MouthValue) (wp : W → CorePass) (wd : W → K) (tells : K → DeskTold)
     (eran : A → A → Type 0) (mran : B → B → Type 0) (wran : W → W → Type 0) (h : HallValue Entry Opening) (setup : Setup) (Placed : W → Type 0)
     (main : CorePass) (a : A) (b : B) (ws : List W) (passes : List CorePass) (desks : List K) where
   -- how a round begins
@@ -129,7 +129,7 @@ module _ {A B W K : Type 0} (ep : A → CorePass) (ee : A → EarValue) (mp : B 
       keeps = keeps;
       hears = ear_left.ends;
       speaks = mouth_left.ends;
-      manned = subst (λ (ds : List DeskTells). AllManned h setup (ee a).child 4 ds (map (tells_of wp (λ w. tells (wd w)) wran h setup (ee a).child Placed k.works) (reverse bs)))
+      manned = subst (λ (ds : List DeskTold). AllManned h setup (ee a).child 4 ds (map (tells_of wp (λ w. tells (wd w)) wran h setup (ee a).child Placed k.works) (reverse bs)))
           (sym (ap (map tells) k.desks_are ∙ map_map wd tells (reverse ws))) manned;
       through = through;
     }
@@ -263,7 +263,7 @@ ear_so h₀ h p q e f is r = subst (λ x. EarRan x p q e f) is r
 pub mouth_so : (h₀ h : HallValue Entry Opening) (p q : CorePass) (m w : MouthValue) → h₀ ≡ h → MouthRan h₀ p q m w → MouthRan h p q m w
 mouth_so h₀ h p q m w is r = subst (λ x. MouthRan x p q m w) is r
 
-pub worker_so : (h₀ h : HallValue Entry Opening) (setup₀ setup : Setup) (p q : CorePass) (c₀ c : ℕ) (d d' : DeskTells) → h₀ ≡ h → setup₀ ≡ setup → c₀ ≡ c
+pub worker_so : (h₀ h : HallValue Entry Opening) (setup₀ setup : Setup) (p q : CorePass) (c₀ c : ℕ) (d d' : DeskTold) → h₀ ≡ h → setup₀ ≡ setup → c₀ ≡ c
     → WorkerRan h₀ setup₀ p q false c₀ (Unit {0}) (Unit {0}) d d' → WorkerRan h setup p q false c (Unit {0}) (Unit {0}) d d'
 worker_so h₀ h setup₀ setup p q c₀ c d d' hall_is setup_is child_is r =
     subst (λ x. WorkerRan x setup p q false c (Unit {0}) (Unit {0}) d d') hall_is

@@ -1,4 +1,5 @@
 -- What came back of a role gives what is promised of it.
+use Rattle.ann_outside.specs.Told.{DeskTold}
 use Rattle.std.specs.Prelude.{ℕ, ◌≡◌, ◌<◌, false, []}
 use Rattle.hall.specs.Passes.{HallValue, IsPassOf}
 use Rattle.journal_model.specs.declared.entry.Entry.{Entry}
@@ -7,7 +8,6 @@ use Rattle.journal_model.specs.Halves.{EarValue, MouthValue, EarWired, MouthWire
 use Rattle.gathering.specs.Posts.{Post, Ear, Mouth}
 use Rattle.gathering.specs.Rounds.{CorePass, EarEnds, MouthEnds}
 use Rattle.task_run.specs.declared.setup.Setup.{Setup}
-use Rattle.lone_work.specs.Works.{DeskTells}
 use Rattle.crew_rounds.specs.Crewing.{Manned}
 use Rattle.crew_rounds.specs.Roles.{EarRan, MouthRan, WorkerRan}
 
@@ -28,9 +28,9 @@ MouthsCome =
 
 abbrev pub WorkersCome : Type 0
 WorkersCome =
-    (h : HallValue Entry Opening) (setup : Setup) (p q : CorePass) (c : ℕ) (desk desk' : DeskTells) → IsFresh h p
+    (h : HallValue Entry Opening) (setup : Setup) (p q : CorePass) (c : ℕ) (desk desk' : DeskTold) → IsFresh h p
     → WorkerRan h setup p q false c (Unit {0}) (Unit {0}) desk desk' → Manned h setup c p.number desk (record { pass = q; desk = desk' })
 
 -- and of one that stayed
 abbrev pub WorkersStay : Type 0
-WorkersStay = (h : HallValue Entry Opening) (setup : Setup) (p : CorePass) (c : ℕ) (desk : DeskTells) → IsFresh h p → Manned h setup c p.number desk (record { pass = p; desk = desk })
+WorkersStay = (h : HallValue Entry Opening) (setup : Setup) (p : CorePass) (c : ℕ) (desk : DeskTold) → IsFresh h p → Manned h setup c p.number desk (record { pass = p; desk = desk })

@@ -1,4 +1,5 @@
 -- The workers of a round beside what came of them.
+use Rattle.ann_outside.specs.Told.{DeskTold}
 use Rattle.std.specs.Prelude.{ℕ, ◌≡◌, ◌+◌, ◌<◌, ◌==◌, if◌then◌else◌, false, List, [], ◌∷◌, ◌++◌}
 use Rattle.ann_outside.specs.Calls.{Gained}
 use Rattle.ann_outside.specs.declared.file_desk.Call.{Call}
@@ -9,24 +10,24 @@ use Rattle.gathering.specs.JournalRuns.{JournalRun}
 use Rattle.gathering.specs.Rounds.{CorePass, since}
 use Rattle.gathering.specs.Tasks.{IsThroughAfterAgain, turns_by}
 use Rattle.task_run.specs.declared.setup.Setup.{Setup}
-use Rattle.lone_work.specs.Works.{CausedInTurn, DeskTells, TaskDone, all_calls, turns_of}
+use Rattle.lone_work.specs.Works.{CausedInTurn, TaskDone, all_calls, turns_of}
 use Rattle.crew_work.specs.Crews.{Worked, calls_of}
 
 -- a worker's pass, and what its desk tells
 pub record WorkerTells : Type 0 where
   pub pass : CorePass
-  pub desk : DeskTells
+  pub desk : DeskTold
 
 -- The pass of this number came back, and with it the desk, as a worker over the shared child c leaves them. Where it left a task to be
 -- run again, it takes up no more.
-pub record Manned (h : HallValue Entry Opening) (setup : Setup) (c number : ℕ) (desk : DeskTells) (end : WorkerTells) : Type 0 where
+pub record Manned (h : HallValue Entry Opening) (setup : Setup) (c number : ℕ) (desk : DeskTold) (end : WorkerTells) : Type 0 where
   pub number_is : end.pass.number ≡ number
   pub pass : IsPassOf h end.pass
   pub worked : Worked h.fixed setup false end.pass.number false c end.pass.start (seen_of end.pass) (Unit {0}) (Unit {0}) desk end.desk
   pub through : IsThroughAfterAgain h.fixed end.pass.number c (since end.pass) (seen_of end.pass)
 
 -- so did each, where they have the numbers from `first` on
-abbrev pub AllManned : HallValue Entry Opening → Setup → ℕ → ℕ → List DeskTells → List WorkerTells → Type 0
+abbrev pub AllManned : HallValue Entry Opening → Setup → ℕ → ℕ → List DeskTold → List WorkerTells → Type 0
 AllManned h setup c first [] [] = Unit {0}
 AllManned h setup c first [] (e ∷ es) = ⊥
 AllManned h setup c first (d ∷ ds) [] = ⊥
@@ -50,13 +51,13 @@ AllRun o setup journal number (r ∷ rs) = WorkerRun o setup journal number r ×
 
 -- The number claimed these turns of tasks in the round, in order; each was run; and its desk made the calls of these runs, in their
 -- order, and no others.
-pub record DeskDid (o : Opening) (setup : Setup) (start rest : List Entry) (number : ℕ) (done : List TaskDone) (desk desk' : DeskTells) : Type 0 where
+pub record DeskDid (o : Opening) (setup : Setup) (start rest : List Entry) (number : ℕ) (done : List TaskDone) (desk desk' : DeskTold) : Type 0 where
   pub claimed : turns_by number start rest ≡ turns_of done
   pub ran : AllRun o setup (start ++ rest) number done
   pub log_is : Gained desk.log desk'.log (all_calls done)
   pub caused : CausedInTurn desk.counts done desk'.counts
 
-abbrev pub DesksDid : Opening → Setup → List Entry → List Entry → ℕ → List (List TaskDone) → List DeskTells → List DeskTells → Type 0
+abbrev pub DesksDid : Opening → Setup → List Entry → List Entry → ℕ → List (List TaskDone) → List DeskTold → List DeskTold → Type 0
 DesksDid o setup start rest first [] [] [] = Unit {0}
 DesksDid o setup start rest first (done ∷ dones) (d ∷ ds) (e ∷ es) = DeskDid o setup start rest first done d e × DesksDid o setup start rest (first + 1) dones ds es
 DesksDid o setup start rest first dones ds es = ⊥

@@ -1,4 +1,5 @@
 -- Where a role of a round may begin, and what its run leaves.
+use Rattle.ann_outside.specs.Told.{DeskTold}
 use Rattle.std.specs.Prelude.{ℕ, ◌≡◌, Bool, true, false, List}
 use Rattle.annex_model.specs.Lines.{has_newline}
 use Rattle.task_text.specs.declared.task.Task.{Task}
@@ -14,7 +15,7 @@ use Rattle.host_core.specs.declared.event.Reply.TheVariants.{Over}
 use Rattle.link_roles.specs.Events.{Says}
 use Rattle.link_roles.specs.Moves.{EarMoved, MouthMoved}
 use Rattle.task_run.specs.declared.setup.Setup.{Setup}
-use Rattle.lone_work.specs.Works.{AreTasks, DeskTells}
+use Rattle.lone_work.specs.Works.{AreTasks}
 use Rattle.crew_work.specs.Crews.{CanServe, Worked}
 
 -- the pass is one of the hall, and has seen that the child was started
@@ -53,7 +54,7 @@ pub record CanWork (h : HallValue Entry Opening) (p : CorePass) (tasks : List Ta
   pub can : CanServe h.fixed c (seen_of p)
 
 -- it worked until there was nothing more to do
-pub record WorkerRan (h : HallValue Entry Opening) (setup : Setup) (p q : CorePass) (owns : Bool) (c : ℕ) (Before After : Type 0) (desk desk' : DeskTells) : Type 0 where
+pub record WorkerRan (h : HallValue Entry Opening) (setup : Setup) (p q : CorePass) (owns : Bool) (c : ℕ) (Before After : Type 0) (desk desk' : DeskTold) : Type 0 where
   pub pass : IsSamePass h p q
   pub worked : Worked h.fixed setup owns p.number false c (seen_of p) (seen_of q) Before After desk desk'
   pub through : IsThrough h.fixed (seen_of q) c

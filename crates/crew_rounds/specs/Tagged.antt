@@ -1,4 +1,5 @@
 -- A round over one tagged child: where it may begin, and what its roles leave.
+use Rattle.ann_outside.specs.Told.{DeskTold}
 use Rattle.std.specs.Prelude.{ℕ, ◌≡◌, ◌+◌, List, [], ◌∷◌, Some, slice_get}
 use Rattle.hall.specs.Passes.{HallValue, seen_of}
 use Rattle.journal_model.specs.declared.entry.Entry.{Entry}
@@ -9,7 +10,6 @@ use Rattle.gathering.specs.Tasks.{IsThrough}
 use Rattle.gathering.specs.Rounds.{CorePass, LinkValue, KeepsPost, EarEnds, MouthEnds, IsAtRest}
 use Rattle.gathering.specs.Laws.{MayBeginTagged}
 use Rattle.task_run.specs.declared.setup.Setup.{Setup}
-use Rattle.lone_work.specs.Works.{DeskTells}
 use Rattle.crew_work.specs.Crews.{CanServe}
 use Rattle.crew_rounds.specs.Coming.{IsFresh}
 use Rattle.crew_rounds.specs.Crewing.{AllManned, WorkerTells}
@@ -41,7 +41,7 @@ pub record HasThrough (h : HallValue Entry Opening) (c : ℕ) (passes : List Cor
 
 -- The passes of the main thread, of the ear, the mouth and the workers of c, as they end, and the desks of the workers; and the link,
 -- as the ear and the mouth left it.
-pub record CrewLeft (h : HallValue Entry Opening) (setup : Setup) (c : ℕ) (l : LinkValue) (passes : List CorePass) (desks desks' : List DeskTells) : Type 0 where
+pub record CrewLeft (h : HallValue Entry Opening) (setup : Setup) (c : ℕ) (l : LinkValue) (passes : List CorePass) (desks desks' : List DeskTold) : Type 0 where
   pub main : CorePass
   pub ear : CorePass
   pub mouth : CorePass

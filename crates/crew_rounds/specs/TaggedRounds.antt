@@ -1,4 +1,5 @@
 -- What a round over one tagged child leaves, with its desks.
+use Rattle.ann_outside.specs.Told.{DeskTold}
 use Rattle.std.specs.Prelude.{ℕ, ◌≡◌, List, [], ◌∷◌, Some, map, slice_get}
 use Rattle.hall.specs.Passes.{HallValue, seen_of}
 use Rattle.journal_model.specs.declared.entry.Entry.{Entry}
@@ -9,20 +10,20 @@ use Rattle.gathering.specs.Tasks.{IsThrough}
 use Rattle.gathering.specs.Rounds.{CorePass, LinkValue, KeepsPost, EarEnds, MouthEnds, IsAtRest, Round}
 use Rattle.gathering.specs.Laws.{GoesOn, MayBeginTagged, Over, numbers_of}
 use Rattle.task_run.specs.declared.setup.Setup.{Setup}
-use Rattle.lone_work.specs.Works.{DeskTells, TaskDone}
+use Rattle.lone_work.specs.Works.{TaskDone}
 use Rattle.gathering.specs.JournalRuns.{HasJournalRun}
 use Rattle.crew_rounds.specs.Crewing.{AllManned, DesksDid, WorkerTells, calls_from}
 
 abbrev pub passes_of : List WorkerTells → List CorePass
 passes_of es = map (λ (e : WorkerTells). e.pass) es
 
-abbrev pub desks_of : List WorkerTells → List DeskTells
+abbrev pub desks_of : List WorkerTells → List DeskTold
 desks_of es = map (λ (e : WorkerTells). e.desk) es
 
 -- What Round says of a tagged crew over this link, where each turn that was taken has its run in the journal, with the calls that
 -- its worker's desk made for it; and each desk made the calls of its worker's runs, in their order, and no others. The workers have
 -- the numbers from 4 on.
-pub record TaggedLeaves (o : Opening) (setup : Setup) (numbers : List ℕ) (start rest : List Entry) (l : LinkValue) (desks desks' : List DeskTells) : Type 0 where
+pub record TaggedLeaves (o : Opening) (setup : Setup) (numbers : List ℕ) (start rest : List Entry) (l : LinkValue) (desks desks' : List DeskTold) : Type 0 where
   pub dones : List (List TaskDone)
   pub round : Round o (HasJournalRun o setup (calls_from 4 dones)) (tagged_crew l.ear.child) numbers start rest (l ∷ [])
   pub desks_did : DesksDid o setup start rest 4 dones desks desks'
@@ -30,7 +31,7 @@ pub record TaggedLeaves (o : Opening) (setup : Setup) (numbers : List ℕ) (star
 -- What the roles of a round over a tagged child leave gives that, when the hall is closed. One of the passes is through.
 abbrev pub TaggedCloses : Type 0
 TaggedCloses =
-    (h : HallValue Entry Opening) (setup : Setup) (final : List Entry) (fixed : Opening) (l : LinkValue) (main ear mouth : CorePass) (desks : List DeskTells) (workers : List WorkerTells)
+    (h : HallValue Entry Opening) (setup : Setup) (final : List Entry) (fixed : Opening) (l : LinkValue) (main ear mouth : CorePass) (desks : List DeskTold) (workers : List WorkerTells)
     → Over h (main ∷ ear ∷ mouth ∷ passes_of workers) final fixed
     → Legal h.fixed h.start → IsAtRest h.start → MayBeginTagged h.start l.ear.child → l.mouth.child ≡ l.ear.child
     → main.number ≡ 1 → ear.number ≡ 2 → mouth.number ≡ 3

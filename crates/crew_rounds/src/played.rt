@@ -12,7 +12,7 @@ ghost use Rattle.journal_model.specs.declared.verdict.Why.TheVariants.{Memory};
 ghost use Rattle.journal_model.specs.Journal.{is_ended, is_started};
 ghost use Rattle.link_roles.specs.Doors.{Ends};
 ghost use Rattle.link_roles.specs.Moves.{IsSameLink};
-ghost use Rattle.lone_work.specs.Works.{AreTasks, desk_tells};
+ghost use Rattle.lone_work.specs.Works.{AreTasks};
 
 use crate::dealt::{SharedWorker, Site, deal, take_back};
 use crate::outcome::Outcome;
@@ -213,7 +213,7 @@ pub(crate) fn play<
     requires tasks { (site.now.hall.now.fixed.tasks ≡ site.now.tasks.now) × AreTasks site.now.tasks.now }
     requires folder { has_newline site.now.setup.now.work ≡ false }
     ensures own { All (IsPassOf site.now.hall.now) result.0.passes.items × (length result.0.passes.items ≡ length kit.passes.items) }
-    ensures left { IfDone result.1 (CrewLeft site.now.hall.now site.now.setup.now kit.link.ear.child (link_of result.0.link.ear result.0.link.mouth) result.0.passes.items (map (λ k. desk_tells (K.log k) (K.counts k)) kit.desks.items) (map (λ k. desk_tells (K.log k) (K.counts k)) result.0.desks.items)) }
+    ensures left { IfDone result.1 (CrewLeft site.now.hall.now site.now.setup.now kit.link.ear.child (link_of result.0.link.ear result.0.link.mouth) result.0.passes.items (map K.told kit.desks.items) (map K.told result.0.desks.items)) }
     ensures kept { IfKept result.1 ((result.0.passes.items ≡ kit.passes.items) × LinkStays kit.link.ear result.0.link.ear kit.link.mouth result.0.link.mouth kit.desks.items result.0.desks.items) }
     ensures same { IsSameLink kit.link.ear result.0.link.ear kit.link.mouth result.0.link.mouth }
 {

@@ -25,12 +25,11 @@ pub struct Worker<'a, W: Way, K: Desk, R: Wait> {
 impl<'a, W: Way, K: Desk, R: Wait> Role for Worker<'a, W, K, R> {
     ghost use Rattle.std.specs.Prelude.{◌≡◌};
     ghost use Rattle.hall.specs.Passes.{seen_of};
-    ghost use Rattle.lone_work.specs.Works.{desk_tells};
     ghost use Rattle.crew_rounds.specs.Roles.{CanWork, WorkerRan};
 
     ghost can_run = { λ s. CanWork s.hall.now s.pass s.tasks.now s.setup.now (W.serves s.way) };
 
-    ghost ran = { λ a b. WorkerRan a.hall.now a.setup.now a.pass b.pass (W.owns a.way) (W.serves a.way) (W.wired a.way (seen_of a.pass)) (W.wired b.way (seen_of b.pass)) (desk_tells (K.log a.desk) (K.counts a.desk)) (desk_tells (K.log b.desk) (K.counts b.desk)) × (W.serves b.way ≡ W.serves a.way) × (W.owns b.way ≡ W.owns a.way) × W.same a.way b.way };
+    ghost ran = { λ a b. WorkerRan a.hall.now a.setup.now a.pass b.pass (W.owns a.way) (W.serves a.way) (W.wired a.way (seen_of a.pass)) (W.wired b.way (seen_of b.pass)) (K.told a.desk) (K.told b.desk) × (W.serves b.way ≡ W.serves a.way) × (W.owns b.way ≡ W.owns a.way) × W.same a.way b.way };
 
     fn run(self) -> Self {
         let Worker {

@@ -1,4 +1,5 @@
 -- What a worker did gives what it promises at its end.
+use Rattle.ann_outside.specs.Told.{DeskTold}
 use Rattle.std.proofs.Common.{◌≡◌, ℕ, ◌<◌, List, [], ◌∷◌, refl, sym, ap, subst, ◌∙◌, Bool, true, false, ◌==◌, cond}
 use Rattle.std.specs.Prelude.{◌&&◌, ◌||◌}
 use Rattle.std.specs.List.{list_any}
@@ -16,7 +17,7 @@ use Rattle.link_roles.specs.Moves.{IsSameLink}
 use Rattle.link_roles.specs.Writings.{LoneWired, is_written_first}
 use Rattle.task_run.specs.declared.setup.Setup.{Setup}
 use Rattle.gathering.specs.JournalRuns.{HasJournalRun, JournalRun}
-use Rattle.lone_work.specs.Works.{AllRan, DeskTells, TaskDone, turns_of}
+use Rattle.lone_work.specs.Works.{AllRan, TaskDone, turns_of}
 use Rattle.gathering.specs.Tasks.{IsThroughAfterAgain, takes_turn, turns_by}
 use Rattle.crew_work.specs.Crews.{Worked, calls_of, post_of}
 use Rattle.crew_work.specs.Runs.{LonesEnd, WorkersEnd}
@@ -39,7 +40,7 @@ run_of o setup n c t k journal (r ∷ done) all h = go (r.task == t && r.turn ==
         (subst (λ (x : ℕ). JournalRun o setup r.calls n x r.turn journal) (same_number r.task t same.0) all.0.run)
     go false e j rest = rest j
 
-pub worker_ends : (o : Opening) (setup : Setup) (calls : ℕ → ℕ → ℕ → List Call) (owns : Bool) (c : ℕ) (crew : ℕ → Post) (p : CorePass) (Before After : Type 0) (desk desk' : DeskTells)
+pub worker_ends : (o : Opening) (setup : Setup) (calls : ℕ → ℕ → ℕ → List Call) (owns : Bool) (c : ℕ) (crew : ℕ → Post) (p : CorePass) (Before After : Type 0) (desk desk' : DeskTold)
     → (w : Worked o setup owns p.number false c p.start (seen_of p) Before After desk desk') → IsThroughAfterAgain o p.number c (since p) (seen_of p) → 0 < p.number → ((t k : ℕ) → calls p.number t k ≡ calls_of w.done t k)
     → ((w : What) → makes (post_of owns c) w ≡ true → makes (crew p.number) w ≡ true) → WorkerEnds o (HasJournalRun o setup calls) crew c p
 worker_ends o setup calls owns c crew p Before After desk desk' w through pos told post = record {
@@ -68,7 +69,7 @@ pub workers_end : WorkersEnd
 workers_end o setup calls c crew p desk desk' w through pos told post = worker_ends o setup calls false c crew p (Unit {0}) (Unit {0}) desk desk' w (λ made. through) pos told post
 
 -- a worker that has its child for itself: where it left a task to be run again, it takes up no more
-pub lone_ends : (o : Opening) (setup : Setup) (calls : ℕ → ℕ → ℕ → List Call) (crew : ℕ → Post) (p : CorePass) (old new : LinkValue) (desk desk' : DeskTells)
+pub lone_ends : (o : Opening) (setup : Setup) (calls : ℕ → ℕ → ℕ → List Call) (crew : ℕ → Post) (p : CorePass) (old new : LinkValue) (desk desk' : DeskTold)
     → (w : Worked o setup true p.number false old.ear.child p.start (seen_of p) (LoneWired p.start old.ear old.mouth) (LoneWired (seen_of p) new.ear new.mouth) desk desk')
     → IsSameLink old.ear new.ear old.mouth new.mouth → IsWired p.start old → is_written_first p.start old.ear.child ≡ true
     → IsThroughAfterAgain o p.number old.ear.child (since p) (seen_of p) → 0 < p.number → ((t k : ℕ) → calls p.number t k ≡ calls_of w.done t k)

@@ -1,4 +1,5 @@
 -- What a worker did, task by task.
+use Rattle.ann_outside.specs.Told.{DeskTold}
 use Rattle.std.proofs.Common.{◌≡◌, ℕ, List, [], ◌∷◌, ◌++◌, refl, sym, ap, subst, ◌∙◌, Bool, true, false, not, ◌==◌, append_assoc, append-nil, length, ◌<◌, ◌≤◌, arith}
 use Rattle.std.specs.Prelude.{◌||◌, map, Result, Ok, Err, Some}
 use Rattle.std.specs.List.{list_any}
@@ -36,7 +37,7 @@ use Rattle.task_run.specs.Askings.{askings, bounds_run, closing}
 use Rattle.task_run.specs.declared.turn.TaskTurn.{TaskTurn}
 use Rattle.task_run.specs.Runs.{TaskRun}
 use Rattle.task_run.specs.Ran.{Ran, HasTaskCauses, answered, behind_more}
-use Rattle.lone_work.specs.Works.{AllRan, DeskTells, RanFor, TaskDone, all_calls, turns_of}
+use Rattle.lone_work.specs.Works.{AllRan, RanFor, TaskDone, all_calls, turns_of}
 use Rattle.lone_work.proofs.Working.{calls_both, caused_both, fewer_left, ran_both, runs_last, turns_both, turns_untaken, closing_claims}
 use Rattle.gathering.specs.Tasks.{IsThrough}
 use Rattle.crew_work.specs.Crews.{CrewBegun, CanServe, Did, CrewDoes, Given, MayHaveMore, Worked, by_task}
@@ -68,7 +69,7 @@ closing_apart : (c : ℕ) (again : Bool) (t : ℕ) (answer : Answer) → is_of_c
 closing_apart c true t answer = refl
 closing_apart c false t answer = refl
 
-module _ (o : Opening) (setup : Setup) (owns : Bool) (n : ℕ) (a : Bool) (c : ℕ) (u : TaskTurn) (task : Task) (begun ran new : List Entry) (desk desk' : DeskTells)
+module _ (o : Opening) (setup : Setup) (owns : Bool) (n : ℕ) (a : Bool) (c : ℕ) (u : TaskTurn) (task : Task) (begun ran new : List Entry) (desk desk' : DeskTold)
     (result : Result Answer NoMemory) (answer : Answer) (P : Type 0) (X : List Entry → Type 0)
     (stays : (past more : List Entry) → any (is_of_child c) more ≡ false → X past → X (past ++ more)) where
   pub does : (b : CrewBegun o n c u begun) → task_of o u.task ≡ Some task → answer ≡ answered result → AtTask o n u.task ran
@@ -159,10 +160,10 @@ module _ (o : Opening) (setup : Setup) (owns : Bool) (n : ℕ) (a : Bool) (c : �
 
 module _ (o : Opening) (setup : Setup) (owns : Bool) (n : ℕ) (a : Bool) (c : ℕ) where
   module _ (X : List Entry → Type 0) (stays : (past more : List Entry) → any (is_of_child c) more ≡ false → X past → X (past ++ more)) where
-    pub worked_still : (old new : List Entry) (desk : DeskTells) → Passed n a old new → Worked o setup owns n a c old new (X old) (X new) desk desk
+    pub worked_still : (old new : List Entry) (desk : DeskTold) → Passed n a old new → Worked o setup owns n a c old new (X old) (X new) desk desk
     worked_still old new desk s = record { done = []; did = did_pass X stays s; rests = λ v h. subst (λ (x : List Entry). is_claimed_by x n v ≡ false) (sym s.is) (others_unheld old s.others n v s.apart h); ran = tt; log_is = gained_nothing desk.log; caused = refl }
 
-    pub worked_one : (u : TaskTurn) (old begun new : List Entry) (Q : Type 0) (desk desk' : DeskTells) → (b : CrewBegun o n c u begun) → Passed n a old b.past
+    pub worked_one : (u : TaskTurn) (old begun new : List Entry) (Q : Type 0) (desk desk' : DeskTold) → (b : CrewBegun o n c u begun) → Passed n a old b.past
         → CrewDoes o setup owns n a c u begun new (X begun) Q desk desk' → Worked o setup owns n a c old new (X old) Q desk desk'
     worked_one u old begun new Q desk desk' b s d = record {
       done = record { task = u.task; turn = u.turn; calls = d.calls; answer = d.answer; counts = desk'.counts } ∷ [];
@@ -178,7 +179,7 @@ module _ (o : Opening) (setup : Setup) (owns : Bool) (n : ℕ) (a : Bool) (c : �
         whole : Did owns n a c old new (X old) Q ((u.task, u.turn) ∷ [])
         whole = subst (λ (k : ℕ). Did owns n a c old new (X old) Q ((u.task, k) ∷ [])) b.turn (did_both (did_make X stays (Claim u.task c) s b.is (same c) refl) d.did)
 
-  pub worked_both : (x y z : List Entry) (P Q R : Type 0) (d e f : DeskTells) → Worked o setup owns n a c x y P Q d e → Worked o setup owns n a c y z Q R e f
+  pub worked_both : (x y z : List Entry) (P Q R : Type 0) (d e f : DeskTold) → Worked o setup owns n a c x y P Q d e → Worked o setup owns n a c y z Q R e f
       → Worked o setup owns n a c x z P R d f
   worked_both x y z P Q R d e f s k = record {
     done = s.done ++ k.done;
@@ -193,7 +194,7 @@ module _ (o : Opening) (setup : Setup) (owns : Bool) (n : ℕ) (a : Bool) (c : �
 -- ---- turn by turn
 
 module _ {o p : Opening} {n k : ℕ} {a b : Bool} {c d : ℕ} {w v : Bool} (eo : p ≡ o) (en : k ≡ n) (ea : b ≡ a) (ec : d ≡ c) (ew : v ≡ w) where
-  pub worked_then : (setup : Setup) (x y z : List Entry) (P Q R : Type 0) (f g h : DeskTells) → Worked o setup w n a c x y P Q f g → Worked p setup v k b d y z Q R g h
+  pub worked_then : (setup : Setup) (x y z : List Entry) (P Q R : Type 0) (f g h : DeskTold) → Worked o setup w n a c x y P Q f g → Worked p setup v k b d y z Q R g h
       → Worked o setup w n a c x z P R f h
   worked_then setup x y z P Q R f g h s t =
       worked_both o setup w n a c x y z P Q R f g h s
@@ -227,7 +228,7 @@ pub passed_none : (n : ℕ) (a : Bool) (x : List Entry) → Passed n a x x
 passed_none n a x = record { others = []; is = sym (append-nil x); apart = refl; none = λ h. refl }
 
 -- the journal is seen by another name
-pub worked_seen : (o : Opening) (setup : Setup) (owns : Bool) (n : ℕ) (a : Bool) (c : ℕ) (x y z : List Entry) (P : Type 0) (X : List Entry → Type 0) (d e : DeskTells) → z ≡ y
+pub worked_seen : (o : Opening) (setup : Setup) (owns : Bool) (n : ℕ) (a : Bool) (c : ℕ) (x y z : List Entry) (P : Type 0) (X : List Entry → Type 0) (d e : DeskTold) → z ≡ y
     → Worked o setup owns n a c x y P (X y) d e → Worked o setup owns n a c x z P (X z) d e
 worked_seen o setup owns n a c x y z P X d e is s = subst (λ (j : List Entry). Worked o setup owns n a c x j P (X j) d e) (sym is) s
 

@@ -1,4 +1,5 @@
 -- How a worker stands over a core that others step too, and what it leaves.
+use Rattle.ann_outside.specs.Told.{DeskTold}
 use Rattle.std.specs.Prelude.{ℕ, ◌≡◌, ◌<◌, ◌==◌, ◌&&◌, Bool, true, false, if◌then◌else◌, List, [], ◌∷◌, ◌++◌, Some, Ok}
 use Rattle.ann_outside.specs.Calls.{Gained}
 use Rattle.ann_outside.specs.declared.file_desk.Call.{Call}
@@ -26,7 +27,7 @@ use Rattle.task_run.specs.declared.setup.Setup.{Setup}
 use Rattle.task_run.specs.declared.turn.TaskTurn.{TaskTurn}
 use Rattle.task_run.specs.Askings.{closing}
 use Rattle.task_run.specs.Ran.{HasTaskCauses}
-use Rattle.lone_work.specs.Works.{AllRan, CausedInTurn, DeskTells, RanFor, TaskDone, all_calls, turns_of}
+use Rattle.lone_work.specs.Works.{AllRan, CausedInTurn, RanFor, TaskDone, all_calls, turns_of}
 use Rattle.crew_work.specs.declared.claims.Claimed.{Claimed}
 use Rattle.crew_work.specs.declared.claims.Claimed.TheVariants.{Task, Wait, Over}
 use Rattle.crew_work.specs.Jobs.{by_jobs}
@@ -94,7 +95,7 @@ pub record Did (owns : Bool) (number : ℕ) (alone : Bool) (c : ℕ) (old new : 
 
 -- What a worker of c left, by this number: it claimed these turns of tasks and no others, ran each, one after the other, and holds no
 -- task more; and its desk made the calls of these runs, in their order, and no others.
-pub record Worked (o : Opening) (setup : Setup) (owns : Bool) (number : ℕ) (alone : Bool) (c : ℕ) (old new : List Entry) (Before After : Type 0) (desk desk' : DeskTells) : Type 0 where
+pub record Worked (o : Opening) (setup : Setup) (owns : Bool) (number : ℕ) (alone : Bool) (c : ℕ) (old new : List Entry) (Before After : Type 0) (desk desk' : DeskTold) : Type 0 where
   pub done : List TaskDone
   pub did : Did owns number alone c old new Before After (turns_of done)
   pub rests : HoldsNoMore number old new
@@ -109,7 +110,7 @@ pub record Given (o : Opening) (number : ℕ) (alone : Bool) (t : ℕ) (answer :
   pub where_may : is_run_again o is.past t answer ≡ again
 
 -- one turn of a task: it was asked and noted for, and answered as it ran, or is to be run again
-pub record CrewDoes (o : Opening) (setup : Setup) (owns : Bool) (number : ℕ) (alone : Bool) (c : ℕ) (u : TaskTurn) (old new : List Entry) (Before After : Type 0) (desk desk' : DeskTells) : Type 0 where
+pub record CrewDoes (o : Opening) (setup : Setup) (owns : Bool) (number : ℕ) (alone : Bool) (c : ℕ) (u : TaskTurn) (old new : List Entry) (Before After : Type 0) (desk desk' : DeskTold) : Type 0 where
   pub answer : Answer
   pub calls : List Call
   pub did : Did owns number alone c old new Before After []

@@ -5,7 +5,7 @@ use Rattle.journal_model.specs.declared.entry.What.TheVariants.{Lead, Ask, Lost,
 use Rattle.journal_model.specs.declared.entry.Entry.{Entry}
 use Rattle.journal_model.specs.declared.opening.Opening.{Opening}
 use Rattle.link_roles.specs.Asks.{Grows}
-use Rattle.link_roles.specs.Doors.{IsSameDoor}
+use Rattle.link_roles.specs.Doors.{DoorView, IsSameDoor}
 use Rattle.lone_work.specs.AtTasks.{AtTask}
 use Rattle.lone_work.specs.KnownLayouts.{IsBook}
 
@@ -28,9 +28,8 @@ pub record JobsOn (o : Opening) (number : ℕ) (alone : Bool) (c t : ℕ) (old n
   pub grows : Grows number alone (by_jobs c t) old new
 
 -- what an asker over a door made of it: it is the same door, and the asker holds the same task still, over the same child
-pub record JobsGo {D H : Type 0} (opening_of : D → Opening) (number_of : D → ℕ) (seen_of : D → List Entry) (alone_of : D → Bool) (loans_of : D → List ℕ) (home_of : D → H)
-    (old new : D) (c d t u : ℕ) : Type 0 where
-  pub door : IsSameDoor opening_of number_of seen_of alone_of loans_of home_of old new
+pub record JobsGo {H : Type 0} (old new : DoorView H) (c d t u : ℕ) : Type 0 where
+  pub door : IsSameDoor old new
   pub child : d ≡ c
   pub task : u ≡ t
-  pub on : JobsOn (opening_of old) (number_of old) (alone_of old) c t (seen_of old) (seen_of new)
+  pub on : JobsOn old.opening old.number old.alone c t old.seen new.seen

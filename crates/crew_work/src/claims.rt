@@ -31,9 +31,9 @@ fn claimed_of(reply: Reply) -> Claimed
 
 /// Claims the next task for the child, for the turn of it that comes next.
 pub(crate) fn claim<D: Door>(door: &mut D, child: u32) -> Claimed
-    requires { CanServe (D.opening door.old) child (D.seen door.old) }
-    ensures claims { HasClaimed (D.opening door.old) (D.number door.old) (D.alone door.old) child (D.seen door.old) (D.seen door.new) result }
-    ensures door { IsSameDoor D.opening D.number D.seen D.alone D.loans D.home door.old door.new }
+    requires { CanServe (D.view door.old).opening child (D.view door.old).seen }
+    ensures claims { HasClaimed (D.view door.old).opening (D.view door.old).number (D.view door.old).alone child (D.view door.old).seen (D.view door.new).seen result }
+    ensures door { IsSameDoor (D.view door.old) (D.view door.new) }
 {
     match door.step(Event::Claim { child }) {
         Ok(reply) => claimed_of(reply),
@@ -43,9 +43,9 @@ pub(crate) fn claim<D: Door>(door: &mut D, child: u32) -> Claimed
 
 /// Gives the answer of a task that the door's number holds, which may be run again in its place.
 pub(crate) fn give<D: Door>(door: &mut D, task: u32, answer: Answer)
-    requires { AtTask (D.opening door.old) (D.number door.old) task (D.seen door.old) }
-    ensures given { Given (D.opening door.old) (D.number door.old) (D.alone door.old) task answer (D.seen door.old) (D.seen door.new) }
-    ensures door { IsSameDoor D.opening D.number D.seen D.alone D.loans D.home door.old door.new }
+    requires { AtTask (D.view door.old).opening (D.view door.old).number task (D.view door.old).seen }
+    ensures given { Given (D.view door.old).opening (D.view door.old).number (D.view door.old).alone task answer (D.view door.old).seen (D.view door.new).seen }
+    ensures door { IsSameDoor (D.view door.old) (D.view door.new) }
 {
     let _done = door.step(Event::Answer { task, answer });
 }

@@ -27,11 +27,11 @@ fn ask_for<D: Door, R: Wait>(
     task: u32,
     request: &Request,
 ) -> Result<Verdict, NoMemory>
-    requires { AtTask (D.opening door.old) (D.number door.old) task (D.seen door.old) }
-    ensures asked { AskedFor (D.opening door.old) (D.number door.old) task (D.seen door.old) (D.seen door.new) (name_of request.now) (message_of request.now) result }
+    requires { AtTask (D.view door.old).opening (D.view door.old).number task (D.view door.old).seen }
+    ensures asked { AskedFor (D.view door.old).opening (D.view door.old).number task (D.view door.old).seen (D.view door.new).seen (name_of request.now) (message_of request.now) result }
     ensures named { IfOk result (IsNamed (message_of request.now)) }
-    ensures grows { Grows (D.number door.old) (D.alone door.old) (by_jobs child task) (D.seen door.old) (D.seen door.new) }
-    ensures door { IsSameDoor D.opening D.number D.seen D.alone D.loans D.home door.old door.new }
+    ensures grows { Grows (D.view door.old).number (D.view door.old).alone (by_jobs child task) (D.view door.old).seen (D.view door.new).seen }
+    ensures door { IsSameDoor (D.view door.old) (D.view door.new) }
 {
     match ask_job(rt, alloc, door, child, task, request) {
         Ok(verdict) => Ok(verdict),
@@ -56,27 +56,24 @@ impl<'r, 'd, R: Wait, D: Door> Asker for JobAsker<'r, 'd, R, D> {
     ghost use Rattle.crew_work.specs.Jobs.{JobsGo, MayAsk};
     ghost use Rattle.crew_work.specs.JobLaws.{jobs_still, jobs_ready, jobs_behind};
 
-    ghost pairs = { λ s. askings (D.seen s.door.now) s.task };
+    ghost told = { λ s. record {
+      pairs = askings (D.view s.door.now).seen s.task;
+      notes = notings (D.view s.door.now).seen s.task;
+      task = s.task;
+      may_note = can_note (task_of (D.view s.door.now).opening s.task);
+      current = known_layouts (D.view s.door.now).opening (D.view s.door.now).seen s.task;
+      loans = s.door.ghost_name ∷ (D.view s.door.now).loans;
+    } };
 
-    ghost notes = { λ s. notings (D.seen s.door.now) s.task };
+    ghost ready = { λ s. MayAsk (D.view s.door.now).opening (D.view s.door.now).number s.task (D.view s.door.now).seen };
 
-    ghost task = { λ s. s.task };
+    ghost goes_on = { λ a b. JobsGo (D.view a.door.now) (D.view b.door.now) a.child b.child a.task b.task };
 
-    ghost may_note = { λ s. can_note (task_of (D.opening s.door.now) s.task) };
+    ghost stays = { λ a h. jobs_still (D.view a.door.now) a.child a.task h };
 
-    ghost current = { λ s. known_layouts (D.opening s.door.now) (D.seen s.door.now) s.task };
+    ghost is_ready = { λ a b s. jobs_ready (D.view a.door.now) (D.view b.door.now) a.child b.child a.task b.task s };
 
-    ghost loans = { λ s. s.door.ghost_name ∷ D.loans s.door.now };
-
-    ghost ready = { λ s. MayAsk (D.opening s.door.now) (D.number s.door.now) s.task (D.seen s.door.now) };
-
-    ghost goes_on = { λ a b. JobsGo D.opening D.number D.seen D.alone D.loans D.home a.door.now b.door.now a.child b.child a.task b.task };
-
-    ghost stays = { λ a h. jobs_still D.opening D.number D.seen D.alone D.loans D.home a.door.now a.child a.task h };
-
-    ghost is_ready = { λ a b s. jobs_ready D.opening D.number D.seen D.alone D.loans D.home a.door.now b.door.now a.child b.child a.task b.task s };
-
-    ghost goes_both = { λ a b d s r. jobs_behind D.opening D.number D.seen D.alone D.loans D.home a.door.now b.door.now a.child b.child a.task b.task d.door.now d.child d.task s r };
+    ghost goes_both = { λ a b d s r. jobs_behind (D.view a.door.now) (D.view b.door.now) a.child b.child a.task b.task (D.view d.door.now) d.child d.task s r };
 
     fn ask(&mut self, alloc: Global, number: u32, request: &Request) -> Result<Verdict, NoMemory> {
         ask_for(self.rt, alloc, self.door, self.child, number, request)

@@ -3,7 +3,7 @@ ghost use Rattle.std.specs.Prelude.{◌≡◌, false};
 ghost use Rattle.annex_model.specs.Lines.{has_newline};
 ghost use Rattle.gathering.specs.Tasks.{IsThrough};
 ghost use Rattle.hall.specs.Passes.{IsPassOf, seen_of};
-ghost use Rattle.lone_work.specs.Works.{AreTasks, desk_tells};
+ghost use Rattle.lone_work.specs.Works.{AreTasks};
 ghost use Rattle.crew_work.specs.Crews.{CanServe, Worked};
 
 use crate::turns::work;
@@ -33,7 +33,7 @@ pub fn run_worker<W: Way, K: Desk, R: Wait>(
     requires folder { has_newline setup.now.work ≡ false }
     requires can { CanServe hall.now.fixed (W.serves way.old) (seen_of pass.old) }
     ensures pass { IsPassOf hall.now pass.new × (pass.new.number ≡ pass.old.number) }
-    ensures worked { Worked hall.now.fixed setup.now (W.owns way.old) pass.old.number false (W.serves way.old) (seen_of pass.old) (seen_of pass.new) (W.wired way.old (seen_of pass.old)) (W.wired way.new (seen_of pass.new)) (desk_tells (K.log desk.old) (K.counts desk.old)) (desk_tells (K.log desk.new) (K.counts desk.new)) }
+    ensures worked { Worked hall.now.fixed setup.now (W.owns way.old) pass.old.number false (W.serves way.old) (seen_of pass.old) (seen_of pass.new) (W.wired way.old (seen_of pass.old)) (W.wired way.new (seen_of pass.new)) (K.told desk.old) (K.told desk.new) }
     ensures through { IsThrough hall.now.fixed (seen_of pass.new) (W.serves way.old) }
     ensures way { (W.serves way.new ≡ W.serves way.old) × (W.owns way.new ≡ W.owns way.old) × W.same way.old way.new }
 {

@@ -3,7 +3,7 @@ ghost use Rattle.std.specs.Prelude.{◌≡◌, ◌≤◌, ◌<◌, ◌-◌, Some
 ghost use Rattle.annex_model.specs.Lines.{has_newline};
 ghost use Rattle.task_run.specs.Ran.{answered};
 ghost use Rattle.link_roles.specs.Doors.{IsSameDoor};
-ghost use Rattle.lone_work.specs.Works.{AreTasks, desk_tells};
+ghost use Rattle.lone_work.specs.Works.{AreTasks};
 ghost use Rattle.crew_work.specs.Crews.{CrewBegun, CanServe, CrewDoes};
 
 use crate::claims::give;
@@ -44,14 +44,14 @@ pub(crate) fn do_task<W: Way, D: Door, K: Desk>(
     door: &mut D,
     desk: &mut K,
 )
-    requires shared { D.alone door.old ≡ false }
-    requires tasks { ((D.opening door.old).tasks ≡ tasks.now) × AreTasks tasks.now }
+    requires shared { (D.view door.old).alone ≡ false }
+    requires tasks { ((D.view door.old).opening.tasks ≡ tasks.now) × AreTasks tasks.now }
     requires folder { has_newline setup.now.work ≡ false }
-    requires begun { CrewBegun (D.opening door.old) (D.number door.old) (W.serves way.old) turn (D.seen door.old) }
-    ensures does { CrewDoes (D.opening door.old) setup.now (W.owns way.old) (D.number door.old) (D.alone door.old) (W.serves way.old) turn (D.seen door.old) (D.seen door.new) (W.wired way.old (D.seen door.old)) (W.wired way.new (D.seen door.new)) (desk_tells (K.log desk.old) (K.counts desk.old)) (desk_tells (K.log desk.new) (K.counts desk.new)) }
-    ensures can { CanServe (D.opening door.new) (W.serves way.new) (D.seen door.new) }
+    requires begun { CrewBegun (D.view door.old).opening (D.view door.old).number (W.serves way.old) turn (D.view door.old).seen }
+    ensures does { CrewDoes (D.view door.old).opening setup.now (W.owns way.old) (D.view door.old).number (D.view door.old).alone (W.serves way.old) turn (D.view door.old).seen (D.view door.new).seen (W.wired way.old (D.view door.old).seen) (W.wired way.new (D.view door.new).seen) (K.told desk.old) (K.told desk.new) }
+    ensures can { CanServe (D.view door.new).opening (W.serves way.new) (D.view door.new).seen }
     ensures way { (W.serves way.new ≡ W.serves way.old) × (W.owns way.new ≡ W.owns way.old) × W.same way.old way.new }
-    ensures door { IsSameDoor D.opening D.number D.seen D.alone D.loans D.home door.old door.new }
+    ensures door { IsSameDoor (D.view door.old) (D.view door.new) }
 {
     let task = task_at(tasks, turn.task);
     let outcome = way.run(alloc, task, turn, setup, door, desk);

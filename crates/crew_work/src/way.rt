@@ -55,20 +55,20 @@ pub trait Way {
         door: &mut D,
         desk: &mut K,
     ) -> Result<Answer, NoMemory>
-        requires shared { D.alone door.old ≡ false }
+        requires shared { (D.view door.old).alone ≡ false }
         requires task { IsTask task.now }
         requires folder { has_newline setup.now.work ≡ false }
-        requires named { task_of (D.opening door.old) turn.task ≡ Some task.now }
-        requires at { AtTask (D.opening door.old) (D.number door.old) turn.task (D.seen door.old) }
-        requires book { IsBook (D.opening door.old).notes }
-        requires started { is_started (D.seen door.old) (serves self.old) ≡ true }
-        ensures ran { Ran task.now turn setup.now (known_layouts (D.opening door.old) (D.seen door.old) turn.task) (askings (D.seen door.old) turn.task) (askings (D.seen door.new) turn.task) (notings (D.seen door.old) turn.task) (notings (D.seen door.new) turn.task) (K.log desk.old) (K.log desk.new) result }
-        ensures causes { HasTaskCauses (K.counts desk.old) (K.counts desk.new) result }
-        ensures at { AtTask (D.opening door.old) (D.number door.old) turn.task (D.seen door.new) }
-        ensures moved { Moved (D.number door.old) (D.alone door.old) (by_task (owns self.old) (serves self.old) turn.task) (is_of_child (serves self.old)) (D.seen door.old) (D.seen door.new) (wired self.old (D.seen door.old)) (wired self.new (D.seen door.new)) }
+        requires named { task_of (D.view door.old).opening turn.task ≡ Some task.now }
+        requires at { AtTask (D.view door.old).opening (D.view door.old).number turn.task (D.view door.old).seen }
+        requires book { IsBook (D.view door.old).opening.notes }
+        requires started { is_started (D.view door.old).seen (serves self.old) ≡ true }
+        ensures ran { Ran task.now turn setup.now (known_layouts (D.view door.old).opening (D.view door.old).seen turn.task) (askings (D.view door.old).seen turn.task) (askings (D.view door.new).seen turn.task) (notings (D.view door.old).seen turn.task) (notings (D.view door.new).seen turn.task) (K.told desk.old).log (K.told desk.new).log result }
+        ensures causes { HasTaskCauses (K.told desk.old).counts (K.told desk.new).counts result }
+        ensures at { AtTask (D.view door.old).opening (D.view door.old).number turn.task (D.view door.new).seen }
+        ensures moved { Moved (D.view door.old).number (D.view door.old).alone (by_task (owns self.old) (serves self.old) turn.task) (is_of_child (serves self.old)) (D.view door.old).seen (D.view door.new).seen (wired self.old (D.view door.old).seen) (wired self.new (D.view door.new).seen) }
         ensures child { (serves self.new ≡ serves self.old) × (owns self.new ≡ owns self.old) }
         ensures same { same self.old self.new }
-        ensures door { IsSameDoor D.opening D.number D.seen D.alone D.loans D.home door.old door.new };
+        ensures door { IsSameDoor (D.view door.old) (D.view door.new) };
 
     // entries that aren't the child's leave it wired
     ghost apart: { (s : Self) (past more : List Entry) → any (is_of_child (serves s)) more ≡ false → wired s past → wired s (past ++ more) };
@@ -98,12 +98,12 @@ fn run_jobs<D: Door, K: Desk, R: Wait>(
 ) -> Result<Answer, NoMemory>
     requires task { IsTask task.now }
     requires folder { has_newline setup.now.work ≡ false }
-    requires named { task_of (D.opening door.old) turn.task ≡ Some task.now }
-    requires may { MayAsk (D.opening door.old) (D.number door.old) turn.task (D.seen door.old) }
-    ensures ran { Ran task.now turn setup.now (known_layouts (D.opening door.old) (D.seen door.old) turn.task) (askings (D.seen door.old) turn.task) (askings (D.seen door.new) turn.task) (notings (D.seen door.old) turn.task) (notings (D.seen door.new) turn.task) (K.log desk.old) (K.log desk.new) result }
-    ensures causes { HasTaskCauses (K.counts desk.old) (K.counts desk.new) result }
-    ensures on { JobsOn (D.opening door.old) (D.number door.old) (D.alone door.old) child turn.task (D.seen door.old) (D.seen door.new) }
-    ensures door { IsSameDoor D.opening D.number D.seen D.alone D.loans D.home door.old door.new }
+    requires named { task_of (D.view door.old).opening turn.task ≡ Some task.now }
+    requires may { MayAsk (D.view door.old).opening (D.view door.old).number turn.task (D.view door.old).seen }
+    ensures ran { Ran task.now turn setup.now (known_layouts (D.view door.old).opening (D.view door.old).seen turn.task) (askings (D.view door.old).seen turn.task) (askings (D.view door.new).seen turn.task) (notings (D.view door.old).seen turn.task) (notings (D.view door.new).seen turn.task) (K.told desk.old).log (K.told desk.new).log result }
+    ensures causes { HasTaskCauses (K.told desk.old).counts (K.told desk.new).counts result }
+    ensures on { JobsOn (D.view door.old).opening (D.view door.old).number (D.view door.old).alone child turn.task (D.view door.old).seen (D.view door.new).seen }
+    ensures door { IsSameDoor (D.view door.old) (D.view door.new) }
 {
     let mut asker = JobAsker {
         rt,

@@ -28,10 +28,10 @@ pub fn read_file<D: Desk>(
     name: &str,
     limit: usize,
 ) -> Result<FileRead, NoMemory>
-    ensures read { IsReadBy (D.log desk.old) (D.log desk.new) name.now limit result }
-    ensures told { IfSome (D.files desk.old) (λ files. IsReadOf name.now limit files result) }
-    ensures files { D.files desk.new ≡ D.files desk.old }
-    ensures causes { HasReadCauses (D.counts desk.old) (D.counts desk.new) result }
+    ensures read { IsReadBy (D.told desk.old).log (D.told desk.new).log name.now limit result }
+    ensures told { IfSome (D.told desk.old).files (λ files. IsReadOf name.now limit files result) }
+    ensures files { (D.told desk.new).files ≡ (D.told desk.old).files }
+    ensures causes { HasReadCauses (D.told desk.old).counts (D.told desk.new).counts result }
 {
     let Ok(mut buffer) = step_buffer(alloc) else {
         return Err(NoMemory);
@@ -72,10 +72,10 @@ fn read_step<D: Desk>(
     buffer: &mut [u8],
 ) -> Result<bool, DeskError>
     requires { 0 < length buffer.old }
-    ensures step { IsStep (D.log desk.old) (D.log desk.new) name.now bytes.old.items bytes.new.items result }
-    ensures told { IfSome (D.files desk.old) (λ files. IsStepOf name.now bytes.old.items bytes.new.items files result) }
-    ensures files { D.files desk.new ≡ D.files desk.old }
-    ensures causes { HasCauses (D.counts desk.old) (D.counts desk.new) result }
+    ensures step { IsStep (D.told desk.old).log (D.told desk.new).log name.now bytes.old.items bytes.new.items result }
+    ensures told { IfSome (D.told desk.old).files (λ files. IsStepOf name.now bytes.old.items bytes.new.items files result) }
+    ensures files { (D.told desk.new).files ≡ (D.told desk.old).files }
+    ensures causes { HasCauses (D.told desk.old).counts (D.told desk.new).counts result }
 {
     match desk.read_at(name, bytes.len() as u64, buffer) {
         Ok(0) => Ok(false),

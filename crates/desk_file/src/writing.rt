@@ -20,9 +20,9 @@ fn new_name(alloc: Global, name: &str) -> Result<Text, NoMemory>
 
 // Adds the text at the end of the file.
 fn append_all<D: Desk>(desk: &mut D, name: &str, text: &[u8]) -> Result<(), DeskError>
-    ensures calls { AppendsAll (D.log desk.old) (D.log desk.new) name.now text.now result }
-    ensures files { WhereTold (D.files desk.old) (D.files desk.new) (GrowsBy name.now text.now result) }
-    ensures causes { HasCauses (D.counts desk.old) (D.counts desk.new) result }
+    ensures calls { AppendsAll (D.told desk.old).log (D.told desk.new).log name.now text.now result }
+    ensures files { WhereTold (D.told desk.old).files (D.told desk.new).files (GrowsBy name.now text.now result) }
+    ensures causes { HasCauses (D.told desk.old).counts (D.told desk.new).counts result }
 {
     let mut at = 0;
     while at < text.len() {
@@ -38,10 +38,10 @@ fn append_all<D: Desk>(desk: &mut D, name: &str, text: &[u8]) -> Result<(), Desk
 // Puts the text in the place of the file, by way of a file of that other name.
 fn replace_by<D: Desk>(desk: &mut D, name: &str, fresh: &str, text: &[u8]) -> Result<(), DeskError>
     requires { fresh.now ≡ new_name name.now }
-    ensures calls { Replaces (D.log desk.old) (D.log desk.new) name.now text.now result }
-    ensures files { WhereTold (D.files desk.old) (D.files desk.new) (IsReplacedBy name.now text.now result) }
-    ensures causes { HasCauses (D.counts desk.old) (D.counts desk.new) result }
-    ensures found { result ≡ Err DeskError.Missing → D.files desk.old ≡ None }
+    ensures calls { Replaces (D.told desk.old).log (D.told desk.new).log name.now text.now result }
+    ensures files { WhereTold (D.told desk.old).files (D.told desk.new).files (IsReplacedBy name.now text.now result) }
+    ensures causes { HasCauses (D.told desk.old).counts (D.told desk.new).counts result }
+    ensures found { result ≡ Err DeskError.Missing → (D.told desk.old).files ≡ None }
 {
     if let Err(error) = desk.create(fresh) {
         return Err(error);
@@ -60,10 +60,10 @@ pub fn replace_file<D: Desk>(
     name: &str,
     text: &[u8],
 ) -> Result<(), DeskError>
-    ensures calls { Replaces (D.log desk.old) (D.log desk.new) name.now text.now result }
-    ensures files { WhereTold (D.files desk.old) (D.files desk.new) (IsReplacedBy name.now text.now result) }
-    ensures causes { HasCauses (D.counts desk.old) (D.counts desk.new) result }
-    ensures found { result ≡ Err DeskError.Missing → D.files desk.old ≡ None }
+    ensures calls { Replaces (D.told desk.old).log (D.told desk.new).log name.now text.now result }
+    ensures files { WhereTold (D.told desk.old).files (D.told desk.new).files (IsReplacedBy name.now text.now result) }
+    ensures causes { HasCauses (D.told desk.old).counts (D.told desk.new).counts result }
+    ensures found { result ≡ Err DeskError.Missing → (D.told desk.old).files ≡ None }
 {
     match new_name(alloc, name) {
         Ok(fresh) => replace_by(desk, name, fresh.view(), text),

@@ -22,11 +22,11 @@ fn copy_piece<D: Desk>(
 ) -> Result<u64, DeskError>
     requires { 0 < length buffer.old }
     ensures place { IfOk result (λ n. at + n < 2 ^ 64) }
-    ensures causes { HasCauses (D.counts desk.old) (D.counts desk.new) result }
-    ensures apart { LeavesOther (D.counts desk.old) (D.counts desk.new) result }
-    ensures traced { Traced (PieceTraces from.now to.now at result) (D.log desk.old) (D.log desk.new) }
-    ensures others { WhereTold (D.files desk.old) (D.files desk.new) (OthersStay (λ other. other ≡ to.now)) }
-    ensures piece { WhereTold (D.files desk.old) (D.files desk.new) (PieceDoes from.now to.now at result) }
+    ensures causes { HasCauses (D.told desk.old).counts (D.told desk.new).counts result }
+    ensures apart { LeavesOther (D.told desk.old).counts (D.told desk.new).counts result }
+    ensures traced { Traced (PieceTraces from.now to.now at result) (D.told desk.old).log (D.told desk.new).log }
+    ensures others { WhereTold (D.told desk.old).files (D.told desk.new).files (OthersStay (λ other. other ≡ to.now)) }
+    ensures piece { WhereTold (D.told desk.old).files (D.told desk.new).files (PieceDoes from.now to.now at result) }
 {
     match desk.read_at(from, at, buffer) {
         Ok(0) => Ok(0),
@@ -40,11 +40,11 @@ fn copy_piece<D: Desk>(
 
 // Makes the file, anew or only where there is none of its name.
 fn make<D: Desk>(desk: &mut D, name: &str, alone: bool) -> Result<(), DeskError>
-    ensures causes { HasCauses (D.counts desk.old) (D.counts desk.new) result }
-    ensures apart { LeavesOther (D.counts desk.old) (D.counts desk.new) result }
-    ensures files { WhereTold (D.files desk.old) (D.files desk.new) (CreateDoes name.now result) }
-    ensures alone { IsTrue alone → WhereTold (D.files desk.old) (D.files desk.new) (CreateNewDoes name.now result) }
-    ensures log { D.log desk.new ≡ logged (D.log desk.old) (Create name.now result) }
+    ensures causes { HasCauses (D.told desk.old).counts (D.told desk.new).counts result }
+    ensures apart { LeavesOther (D.told desk.old).counts (D.told desk.new).counts result }
+    ensures files { WhereTold (D.told desk.old).files (D.told desk.new).files (CreateDoes name.now result) }
+    ensures alone { IsTrue alone → WhereTold (D.told desk.old).files (D.told desk.new).files (CreateNewDoes name.now result) }
+    ensures log { (D.told desk.new).log ≡ logged (D.told desk.old).log (Create name.now result) }
 {
     if alone {
         desk.create_new(name)
@@ -61,11 +61,11 @@ pub fn give_up<D: Desk>(
     error: DeskError,
 ) -> Result<(), DeskError>
     ensures same { result ≡ Err error }
-    ensures later { (D.counts desk.old).faults ≤ (D.counts desk.new).faults }
-    ensures missing { (D.counts desk.old).missing ≤ (D.counts desk.new).missing }
-    ensures calm { clears ≡ false → D.counts desk.new ≡ D.counts desk.old }
-    ensures others { WhereTold (D.files desk.old) (D.files desk.new) (OthersStay (λ other. other ≡ name.now)) }
-    ensures traced { Traced (Each (IsClearing clears name.now)) (D.log desk.old) (D.log desk.new) }
+    ensures later { (D.told desk.old).counts.faults ≤ (D.told desk.new).counts.faults }
+    ensures missing { (D.told desk.old).counts.missing ≤ (D.told desk.new).counts.missing }
+    ensures calm { clears ≡ false → (D.told desk.new).counts ≡ (D.told desk.old).counts }
+    ensures others { WhereTold (D.told desk.old).files (D.told desk.new).files (OthersStay (λ other. other ≡ name.now)) }
+    ensures traced { Traced (Each (IsClearing clears name.now)) (D.told desk.old).log (D.told desk.new).log }
 {
     if clears {
         let _ = desk.remove(name);
@@ -82,10 +82,10 @@ pub fn copy<D: Desk>(
     to: &str,
     alone: bool,
 ) -> Result<(), DeskError>
-    ensures causes { HasCopyCauses alone (D.counts desk.old) (D.counts desk.new) result }
-    ensures others { WhereTold (D.files desk.old) (D.files desk.new) (OthersStay (λ other. other ≡ to.now)) }
-    ensures copied { WhereTold (D.files desk.old) (D.files desk.new) (λ old new. from.now ≢ to.now → CopyDoes from.now to.now result old new) }
-    ensures traced { Traced (CopyTraces alone from.now to.now result) (D.log desk.old) (D.log desk.new) }
+    ensures causes { HasCopyCauses alone (D.told desk.old).counts (D.told desk.new).counts result }
+    ensures others { WhereTold (D.told desk.old).files (D.told desk.new).files (OthersStay (λ other. other ≡ to.now)) }
+    ensures copied { WhereTold (D.told desk.old).files (D.told desk.new).files (λ old new. from.now ≢ to.now → CopyDoes from.now to.now result old new) }
+    ensures traced { Traced (CopyTraces alone from.now to.now result) (D.told desk.old).log (D.told desk.new).log }
 {
     let Ok(mut buffer) = vec![in alloc; 0; STEP] else {
         return Err(DeskError::NoMemory);

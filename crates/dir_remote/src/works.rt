@@ -24,8 +24,8 @@ pub fn store<D: Desk>(
 ) -> Outcome
     requires { IfSome mark.now IsMark }
     ensures works { WorksOn is_of_transfer (StoreDoes directory.now (text_of key.entry) file.now) (text_of key.entry) (desk_at D.Desk desk.old) (desk_at D.Desk desk.new) result }
-    ensures traced { Traced (StoreTraces mark.now directory.now (text_of key.entry) file.now result) (D.log desk.old) (D.log desk.new) }
-    ensures calm { IsCalm (is_some mark.now) (D.counts desk.old) (D.counts desk.new) result }
+    ensures traced { Traced (StoreTraces mark.now directory.now (text_of key.entry) file.now result) (D.told desk.old).log (D.told desk.new).log }
+    ensures calm { IsCalm (is_some mark.now) (D.told desk.old).counts (D.told desk.new).counts result }
 {
     let content = match content_place(alloc, directory, key) {
         Ok(content) => content,
@@ -59,8 +59,8 @@ pub fn retrieve<D: Desk>(
     file: &str,
 ) -> Outcome
     ensures works { WorksOn is_of_transfer (RetrieveDoes directory.now (text_of key.entry) file.now) (text_of key.entry) (desk_at D.Desk desk.old) (desk_at D.Desk desk.new) result }
-    ensures traced { Traced (Each (IsRetrieveCall directory.now (text_of key.entry) file.now)) (D.log desk.old) (D.log desk.new) }
-    ensures calm { IsCalm false (D.counts desk.old) (D.counts desk.new) result }
+    ensures traced { Traced (Each (IsRetrieveCall directory.now (text_of key.entry) file.now)) (D.told desk.old).log (D.told desk.new).log }
+    ensures calm { IsCalm false (D.told desk.old).counts (D.told desk.new).counts result }
 {
     let content = match content_place(alloc, directory, key) {
         Ok(content) => content,
@@ -79,8 +79,8 @@ pub fn retrieve<D: Desk>(
 // Whether there is a content.
 pub fn check<D: Desk>(alloc: Global, desk: &mut D, directory: &str, key: KeyRef<'_>) -> Outcome
     ensures works { WorksOn is_of_check (CheckDoes directory.now (text_of key.entry)) (text_of key.entry) (desk_at D.Desk desk.old) (desk_at D.Desk desk.new) result }
-    ensures traced { Traced (Each (IsCheckCall directory.now (text_of key.entry))) (D.log desk.old) (D.log desk.new) }
-    ensures calm { IsCalm false (D.counts desk.old) (D.counts desk.new) result }
+    ensures traced { Traced (Each (IsCheckCall directory.now (text_of key.entry))) (D.told desk.old).log (D.told desk.new).log }
+    ensures calm { IsCalm false (D.told desk.old).counts (D.told desk.new).counts result }
 {
     let content = match content_place(alloc, directory, key) {
         Ok(content) => content,
@@ -98,8 +98,8 @@ pub fn check<D: Desk>(alloc: Global, desk: &mut D, directory: &str, key: KeyRef<
 // Takes the content away, where there is one.
 pub fn remove<D: Desk>(alloc: Global, desk: &mut D, directory: &str, key: KeyRef<'_>) -> Outcome
     ensures works { WorksOn is_of_removal (RemoveDoes directory.now (text_of key.entry)) (text_of key.entry) (desk_at D.Desk desk.old) (desk_at D.Desk desk.new) result }
-    ensures traced { Traced (Each (IsRemoveCall directory.now (text_of key.entry))) (D.log desk.old) (D.log desk.new) }
-    ensures calm { IsCalm false (D.counts desk.old) (D.counts desk.new) result }
+    ensures traced { Traced (Each (IsRemoveCall directory.now (text_of key.entry))) (D.told desk.old).log (D.told desk.new).log }
+    ensures calm { IsCalm false (D.told desk.old).counts (D.told desk.new).counts result }
 {
     let content = match content_place(alloc, directory, key) {
         Ok(content) => content,

@@ -22,9 +22,9 @@ fn check_piece<D: Desk>(
 ) -> Result<u64, DeskError>
     requires some { 0 < length buffer.old }
     requires room { taken_of checker.old + length buffer.old < 2 ^ 64 }
-    ensures read { ReadDoes (D.log desk.old) (D.log desk.new) file.now at checker.old checker.new result }
+    ensures read { ReadDoes (D.told desk.old).log (D.told desk.new).log file.now at checker.old checker.new result }
     ensures most { IfOk result (λ n. n ≤ length buffer.old) }
-    ensures causes { HasCauses (D.counts desk.old) (D.counts desk.new) result }
+    ensures causes { HasCauses (D.told desk.old).counts (D.told desk.new).counts result }
 {
     match desk.read_at(file, at, buffer) {
         Ok(0) => Ok(0),
@@ -46,8 +46,8 @@ fn check_first<D: Desk>(
 ) -> Result<Copied, NoMemory>
     requires step { length buffer.old ≡ 65536 }
     requires room { taken_of checker.old + n < 2 ^ 64 }
-    ensures read { ReadsOn [] (D.log desk.old) (D.log desk.new) file.now n checker.old checker.new result }
-    ensures causes { CopyCauses (D.counts desk.old) (D.counts desk.new) result }
+    ensures read { ReadsOn [] (D.told desk.old).log (D.told desk.new).log file.now n checker.old checker.new result }
+    ensures causes { CopyCauses (D.told desk.old).counts (D.told desk.new).counts result }
 {
     let mut at = 0;
     while at < n {
@@ -69,10 +69,10 @@ pub fn resume<D: Desk>(
     keep: u64,
     checker: &mut Checker<'_>,
 ) -> Result<Copied, NoMemory>
-    requires held { IfSome (D.files desk.old) (λ files. CanCut part.now keep files) }
+    requires held { IfSome (D.told desk.old).files (λ files. CanCut part.now keep files) }
     requires room { taken_of checker.old + keep < 2 ^ 64 }
-    ensures resumed { Resumes (D.log desk.old) (D.log desk.new) part.now keep checker.old checker.new result }
-    ensures causes { CopyCauses (D.counts desk.old) (D.counts desk.new) result }
+    ensures resumed { Resumes (D.told desk.old).log (D.told desk.new).log part.now keep checker.old checker.new result }
+    ensures causes { CopyCauses (D.told desk.old).counts (D.told desk.new).counts result }
 {
     let Ok(mut buffer) = vec![in alloc; 0; STEP] else {
         return Err(NoMemory);

@@ -22,10 +22,10 @@ pub fn carry_piece<D: Desk>(
     buffer: &mut [u8],
 ) -> Result<usize, DeskError>
     requires { 0 < length buffer.old }
-    ensures carried { CarryDoes (D.log desk.old) (D.log desk.new) from.now to.now at buffer.new result }
+    ensures carried { CarryDoes (D.told desk.old).log (D.told desk.new).log from.now to.now at buffer.new result }
     ensures most { IfOk result (λ n. n ≤ length buffer.new) }
-    ensures filled { WhereTold (D.files desk.old) (D.files desk.new) (PieceGrows from.now to.now at (length buffer.old) result) }
-    ensures causes { HasCauses (D.counts desk.old) (D.counts desk.new) result }
+    ensures filled { WhereTold (D.told desk.old).files (D.told desk.new).files (PieceGrows from.now to.now at (length buffer.old) result) }
+    ensures causes { HasCauses (D.told desk.old).counts (D.told desk.new).counts result }
 {
     match desk.read_at(from, at, buffer) {
         Ok(0) => Ok(0),
@@ -48,10 +48,10 @@ fn move_piece<D: Desk>(
 ) -> Result<u64, DeskError>
     requires some { 0 < length buffer.old }
     requires room { taken_of checker.old + length buffer.old < 2 ^ 64 }
-    ensures moved { StepDoes (D.log desk.old) (D.log desk.new) from.now part.now at checker.old checker.new result }
+    ensures moved { StepDoes (D.told desk.old).log (D.told desk.new).log from.now part.now at checker.old checker.new result }
     ensures most { IfOk result (λ n. n ≤ length buffer.old) }
-    ensures filled { WhereTold (D.files desk.old) (D.files desk.new) (PieceGrows from.now part.now at (length buffer.old) result) }
-    ensures causes { HasCauses (D.counts desk.old) (D.counts desk.new) result }
+    ensures filled { WhereTold (D.told desk.old).files (D.told desk.new).files (PieceGrows from.now part.now at (length buffer.old) result) }
+    ensures causes { HasCauses (D.told desk.old).counts (D.told desk.new).counts result }
 {
     match carry_piece(desk, from, part, at, buffer) {
         Ok(0) => Ok(0),
@@ -84,9 +84,9 @@ pub fn copy_in<D: Desk>(
 ) -> Result<Copied, NoMemory>
     requires names { from.now ≢ part.now }
     requires room { taken_of checker.old + n < 2 ^ 64 }
-    ensures moved { Copies (D.log desk.old) (D.log desk.new) from.now part.now n checker.old checker.new result }
-    ensures filled { WhereTold (D.files desk.old) (D.files desk.new) (LeavesFront from.now part.now 0 n result) }
-    ensures causes { CopyCauses (D.counts desk.old) (D.counts desk.new) result }
+    ensures moved { Copies (D.told desk.old).log (D.told desk.new).log from.now part.now n checker.old checker.new result }
+    ensures filled { WhereTold (D.told desk.old).files (D.told desk.new).files (LeavesFront from.now part.now 0 n result) }
+    ensures causes { CopyCauses (D.told desk.old).counts (D.told desk.new).counts result }
 {
     let Ok(mut buffer) = vec![in alloc; 0; STEP] else {
         return Err(NoMemory);

@@ -21,9 +21,9 @@ fn copy_range<D: Desk>(
 ) -> Result<Copied, NoMemory>
     requires some { 0 < length buffer.old }
     requires apart { file.now ≢ name.now }
-    ensures moved { CopiesRange [] (D.log desk.old) (D.log desk.new) file.now from to name.now result }
-    ensures filled { WhereTold (D.files desk.old) (D.files desk.new) (LeavesFront file.now name.now from (to - from) result) }
-    ensures causes { CopyCauses (D.counts desk.old) (D.counts desk.new) result }
+    ensures moved { CopiesRange [] (D.told desk.old).log (D.told desk.new).log file.now from to name.now result }
+    ensures filled { WhereTold (D.told desk.old).files (D.told desk.new).files (LeavesFront file.now name.now from (to - from) result) }
+    ensures causes { CopyCauses (D.told desk.old).counts (D.told desk.new).counts result }
 {
     let mut at = from;
     while at < to {
@@ -49,10 +49,10 @@ fn copy_nothing<D: Desk>(
 ) -> Result<Copied, NoMemory>
     requires some { 0 < length buffer.old }
     requires same { file.now ≡ name.now }
-    ensures moved { CopiesRange [] (D.log desk.old) (D.log desk.new) file.now from to name.now result }
+    ensures moved { CopiesRange [] (D.told desk.old).log (D.told desk.new).log file.now from to name.now result }
     ensures nothing { CopiesNothing result }
-    ensures files { D.files desk.new ≡ D.files desk.old }
-    ensures causes { CopyCauses (D.counts desk.old) (D.counts desk.new) result }
+    ensures files { (D.told desk.new).files ≡ (D.told desk.old).files }
+    ensures causes { CopyCauses (D.told desk.old).counts (D.told desk.new).counts result }
 {
     if to <= from {
         return Ok(Copied::Done(0));
@@ -74,10 +74,10 @@ fn copy_made<D: Desk>(
     buffer: &mut [u8],
 ) -> Result<Copied, NoMemory>
     requires { 0 < length buffer.old }
-    ensures moved { CopiesRange [] (D.log desk.old) (D.log desk.new) file.now from to name.now result }
-    ensures filled { WhereTold (D.files desk.old) (D.files desk.new) (LeavesMade file.now name.now from to result) }
+    ensures moved { CopiesRange [] (D.told desk.old).log (D.told desk.new).log file.now from to name.now result }
+    ensures filled { WhereTold (D.told desk.old).files (D.told desk.new).files (LeavesMade file.now name.now from to result) }
     ensures itself { file.now ≡ name.now → CopiesNothing result }
-    ensures causes { CopyCauses (D.counts desk.old) (D.counts desk.new) result }
+    ensures causes { CopyCauses (D.told desk.old).counts (D.told desk.new).counts result }
 {
     if file == name {
         copy_nothing(desk, file, from, to, name, buffer)
@@ -96,9 +96,9 @@ pub fn copy_out<D: Desk>(
     to: u64,
     name: &str,
 ) -> Result<Copied, NoMemory>
-    ensures copied { CopiesOut (D.log desk.old) (D.log desk.new) (D.files desk.old) (D.files desk.new) file.now from to name.now result }
+    ensures copied { CopiesOut (D.told desk.old).log (D.told desk.new).log (D.told desk.old).files (D.told desk.new).files file.now from to name.now result }
     ensures itself { file.now ≡ name.now → CopiesNothing result }
-    ensures causes { CopyCauses (D.counts desk.old) (D.counts desk.new) result }
+    ensures causes { CopyCauses (D.told desk.old).counts (D.told desk.new).counts result }
 {
     let Ok(mut buffer) = vec![in alloc; 0; STEP] else {
         return Err(NoMemory);

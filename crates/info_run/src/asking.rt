@@ -43,14 +43,14 @@ fn ask_each<I: Sink, O: Source, D: Door>(
     door: &mut D,
     requests: &[Request],
 ) -> Result<(), NoMemory>
-    requires main { IsMain (D.number door.old) (D.alone door.old) }
-    requires legal { Legal (D.opening door.old) (D.seen door.old) }
+    requires main { IsMain (D.view door.old).number (D.view door.old).alone }
+    requires legal { Legal (D.view door.old).opening (D.view door.old).seen }
     requires questions { list_all is_question (map message_of requests.now) ≡ true }
-    requires begins { MayGoOn [] (D.seen door.old) (D.seen door.old) link.old.ear.child }
-    ensures asks { AsksFront (map message_of requests.now) (D.seen door.old) (D.seen door.new) link.old.ear.child }
-    ensures comes { IfOk result (λ _. IsAnswered (map message_of requests.now) (D.seen door.old) (D.seen door.new) link.old.ear.child ⊎ HasFailed (D.seen door.new) link.old.ear.child) }
-    ensures link { KeepsLink (D.seen door.old) (D.seen door.new) link.old.ear link.new.ear link.old.mouth link.new.mouth }
-    ensures door { IsSameDoor D.opening D.number D.seen D.alone D.loans D.home door.old door.new }
+    requires begins { MayGoOn [] (D.view door.old).seen (D.view door.old).seen link.old.ear.child }
+    ensures asks { AsksFront (map message_of requests.now) (D.view door.old).seen (D.view door.new).seen link.old.ear.child }
+    ensures comes { IfOk result (λ _. IsAnswered (map message_of requests.now) (D.view door.old).seen (D.view door.new).seen link.old.ear.child ⊎ HasFailed (D.view door.new).seen link.old.ear.child) }
+    ensures link { KeepsLink (D.view door.old).seen (D.view door.new).seen link.old.ear link.new.ear link.old.mouth link.new.mouth }
+    ensures door { IsSameDoor (D.view door.old) (D.view door.new) }
 {
     for request in requests {
         let verdict = link.ask_alone(door, 0, request)?;

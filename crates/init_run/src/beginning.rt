@@ -51,11 +51,11 @@ fn init_opening(
 /// Reads the kept file that the words name, and puts together what the setup begins with. A file that isn't there hands on nothing.
 pub fn begin<D: Desk>(alloc: Global, words: &InitWords, desk: &mut D) -> Result<Begun, NoMemory>
     requires { IsTrue (list_all is_setting words.now.settings) }
-    ensures begins { Begins words.now (D.files desk.old) result }
-    ensures files { D.files desk.new ≡ D.files desk.old }
-    ensures fault { result ≡ Ok Begun.Fault → Rose (D.counts desk.old).faults (D.counts desk.new).faults }
-    ensures later { (D.counts desk.old).faults ≤ (D.counts desk.new).faults }
-    ensures calls { NamesOnly (λ other. other ≡ words.now.keep) (D.log desk.old) (D.log desk.new) }
+    ensures begins { Begins words.now (D.told desk.old).files result }
+    ensures files { (D.told desk.new).files ≡ (D.told desk.old).files }
+    ensures fault { result ≡ Ok Begun.Fault → Rose (D.told desk.old).counts.faults (D.told desk.new).counts.faults }
+    ensures later { (D.told desk.old).counts.faults ≤ (D.told desk.new).counts.faults }
+    ensures calls { NamesOnly (λ other. other ≡ words.now.keep) (D.told desk.old).log (D.told desk.new).log }
 {
     match read_kept(alloc, desk, words.keep.view())? {
         KeptRead::Kept { registers, notes } => {

@@ -1,4 +1,5 @@
 -- A run between two starts of slot 0, and what one start more makes of it.
+use Rattle.ann_outside.specs.Told.{DeskTold}
 use Rattle.std.proofs.Common.{◌≡◌, ◌⊎◌, ℕ, suc, ◌+◌, ◌≤◌, List, [], ◌∷◌, ◌++◌, refl, sym, ap, subst, ◌∙◌, append_assoc, length, Bool, true, false, not, ◌==◌, cond, arith, inl, inr, Ok, Err, Result}
 use Rattle.std.specs.Prelude.{◌&&◌, ◌||◌, MatchResult, filter, nat_lt}
 use Rattle.std.specs.List.{cons_option, list_all, list_any}
@@ -18,7 +19,6 @@ use Rattle.link_roles.proofs.Linked.{any_narrower}
 use Rattle.child_start.proofs.Begun.{later_unstarted}
 use Rattle.child_end.specs.Wires.{came, came_in}
 use Rattle.task_run.specs.declared.setup.Setup.{Setup}
-use Rattle.lone_work.specs.Works.{DeskTells}
 use Rattle.lone_rounds.specs.Starting.{AllOffer, children, is_offered, is_ready_untagged, started_in}
 use Rattle.lone_rounds.specs.Rounds.{AllLostWell, AllStandNext, is_of_run}
 use Rattle.lone_rounds.specs.Stints.{AreUpTo, IsOver, IsStart, main_entry, next_child}
@@ -71,7 +71,7 @@ few_of o journal legal = go [] journal refl
 
 -- ---- the begin
 
-pub jobs_begin : (o : Opening) (setup : Setup) (may : Bool) (limit : ℕ) (journal : List Entry) (desks : List DeskTells) (whole : Bool) → journal ≡ [] → JobsBetween o setup may limit 0 may journal desks desks whole
+pub jobs_begin : (o : Opening) (setup : Setup) (may : Bool) (limit : ℕ) (journal : List Entry) (desks : List DeskTold) (whole : Bool) → journal ≡ [] → JobsBetween o setup may limit 0 may journal desks desks whole
 jobs_begin o setup may limit journal desks whole none = subst (λ (j : List Entry). JobsBetween o setup may limit 0 may j desks desks whole) (sym none) record {
   legal = record { stands = tt; nothing_due = refl };
   turn = tt;
@@ -103,7 +103,7 @@ first_stands : (o : Opening) (jobs : ℕ) (past old : List Entry) (offer : Bool)
 first_stands o jobs past old offer first (inl e) = subst (StandsInTurn o jobs past) (sym e) tt
 first_stands o jobs past old offer first (inr e) = subst (StandsInTurn o jobs past) (sym e) tt
 
-module _ {o : Opening} {setup : Setup} {limit : ℕ} {offer next : Bool} {first : What} {old new : List Entry} {desks desks' : List DeskTells} {whole : Bool}
+module _ {o : Opening} {setup : Setup} {limit : ℕ} {offer next : Bool} {first : What} {old new : List Entry} {desks desks' : List DeskTold} {whole : Bool}
     (s : JobStretch o setup limit offer next first old new desks desks' whole) where
   abbrev pub tail : List Entry
   tail = main_entry first ∷ s.later
@@ -135,7 +135,7 @@ module _ {o : Opening} {setup : Setup} {limit : ℕ} {offer next : Bool} {first 
 
   -- ---- between two starts
 
-  module _ {may : Bool} {made : ℕ} {desks0 : List DeskTells} (b : JobsBetween o setup may limit made offer old desks0 desks true) (legal : Legal o new) where
+  module _ {may : Bool} {made : ℕ} {desks0 : List DeskTold} (b : JobsBetween o setup may limit made offer old desks0 desks true) (legal : Legal o new) where
     as_many : length desks0 ≡ length desks
     as_many = desks_as_many o setup limit old [] old 1 desks0 desks b.did
 
@@ -205,7 +205,7 @@ module _ {o : Opening} {setup : Setup} {limit : ℕ} {offer next : Bool} {first 
 
 -- ---- the end
 
-pub ran_jobs : {o : Opening} {setup : Setup} {may : Bool} {limit made : ℕ} {offer : Bool} {journal : List Entry} {desks desks' : List DeskTells} {whole : Bool} → made ≤ limit → JobsBetween o setup may limit made offer journal desks desks' whole
+pub ran_jobs : {o : Opening} {setup : Setup} {may : Bool} {limit made : ℕ} {offer : Bool} {journal : List Entry} {desks desks' : List DeskTold} {whole : Bool} → made ≤ limit → JobsBetween o setup may limit made offer journal desks desks' whole
     → RanJobs o setup may limit journal desks desks'
 ran_jobs {o} {setup} {may} {limit} {made} {offer} {journal} le b = record {
   legal = b.legal;
@@ -220,15 +220,15 @@ ran_jobs {o} {setup} {may} {limit} {made} {offer} {journal} le b = record {
   alone = b.alone;
 }
 
-pub at_rest : {o : Opening} {setup : Setup} {may : Bool} {limit made : ℕ} {offer : Bool} {journal : List Entry} {desks desks' : List DeskTells} {whole : Bool} → JobsBetween o setup may limit made offer journal desks desks' whole → IsAtRest journal
+pub at_rest : {o : Opening} {setup : Setup} {may : Bool} {limit made : ℕ} {offer : Bool} {journal : List Entry} {desks desks' : List DeskTold} {whole : Bool} → JobsBetween o setup may limit made offer journal desks desks' whole → IsAtRest journal
 at_rest {o} {setup} {may} {limit} {made} {offer} {journal} b = record { idle = b.rest; shut = shut_open journal b.shut }
 
-pub whole_of : {o : Opening} {setup : Setup} {may : Bool} {limit made : ℕ} {offer : Bool} {journal : List Entry} {desks desks' : List DeskTells} (whole : Bool) → JobsBetween o setup may limit made offer journal desks desks' whole → whole ≡ true
+pub whole_of : {o : Opening} {setup : Setup} {may : Bool} {limit made : ℕ} {offer : Bool} {journal : List Entry} {desks desks' : List DeskTold} (whole : Bool) → JobsBetween o setup may limit made offer journal desks desks' whole → whole ≡ true
     → JobsBetween o setup may limit made offer journal desks desks' true
 whole_of {o} {setup} {may} {limit} {made} {offer} {journal} {desks} {desks'} whole b e = subst (λ (w : Bool). JobsBetween o setup may limit made offer journal desks desks' w) e b
 
 -- where tasks are left after all starts, each of them is spent
-pub all_over : {o : Opening} {setup : Setup} {may : Bool} {limit made : ℕ} {offer : Bool} {journal : List Entry} {desks desks' : List DeskTells} → JobsBetween o setup may limit made offer journal desks desks' true → IsOver o limit made journal
+pub all_over : {o : Opening} {setup : Setup} {may : Bool} {limit made : ℕ} {offer : Bool} {journal : List Entry} {desks desks' : List DeskTold} → JobsBetween o setup may limit made offer journal desks desks' true → IsOver o limit made journal
     → are_all_claimed o journal ≡ false → (made ≡ limit) × AreSpent journal
 all_over {o} {setup} {may} {limit} {made} {offer} {journal} b over left = (first over, second (b.spent refl))
   where
@@ -249,7 +249,7 @@ pub at_err : {A B : Type 0} (P : A → Type 0) (Q : B → Type 0) (r : Result A 
 at_err P Q r b e h = subst (λ x. MatchResult x P Q) e h
 
 -- no child was started: nothing has changed
-pub between_kept : {o : Opening} {setup : Setup} {may : Bool} {limit made : ℕ} {offer : Bool} {old : List Entry} {desks0 desks : List DeskTells} {whole : Bool} (new : List Entry) (desks' : List DeskTells) → new ≡ old → desks' ≡ desks
+pub between_kept : {o : Opening} {setup : Setup} {may : Bool} {limit made : ℕ} {offer : Bool} {old : List Entry} {desks0 desks : List DeskTold} {whole : Bool} (new : List Entry) (desks' : List DeskTold) → new ≡ old → desks' ≡ desks
     → JobsBetween o setup may limit made offer old desks0 desks whole → JobsBetween o setup may limit made offer new desks0 desks' whole
 between_kept {o} {setup} {may} {limit} {made} {offer} {old} {desks0} {desks} {whole} new desks' ej ed b =
-    subst (λ (j : List Entry). JobsBetween o setup may limit made offer j desks0 desks' whole) (sym ej) (subst (λ (ds : List DeskTells). JobsBetween o setup may limit made offer old desks0 ds whole) (sym ed) b)
+    subst (λ (j : List Entry). JobsBetween o setup may limit made offer j desks0 desks' whole) (sym ej) (subst (λ (ds : List DeskTold). JobsBetween o setup may limit made offer old desks0 ds whole) (sym ed) b)

@@ -1,4 +1,5 @@
 -- Where no desk counted a fault and each task found what it should, each answer in the journal is a success, or says that no memory was found.
+use Rattle.ann_outside.specs.Told.{DeskTold}
 use Rattle.std.proofs.Common.{◌≡◌, ◌∙◌, ◌⊎◌, inl, inr, ℕ, ◌+◌, ◌-◌, ◌^◌, ◌≤◌, ◌<◌, ◌==◌, Bool, true, false, cond, List, [], ◌∷◌, ◌++◌, length, refl, sym, ap, subst, arith, Some, None, Option, Ok}
 use Rattle.std.specs.Prelude.{◌||◌, All, is_some, map, min}
 use Rattle.std.specs.List.{list_all, list_any, cons_option}
@@ -25,7 +26,7 @@ use Rattle.task_text.specs.declared.task.Work.TheVariants as W
 use Rattle.task_run.specs.declared.setup.Setup.{Setup}
 use Rattle.task_run.specs.Askings.{TaskStretch, closing, run_askings, run_notings, run_turn}
 use Rattle.task_run.specs.Ran.{HasTaskCauses, is_of_content}
-use Rattle.lone_work.specs.Works.{CausedInTurn, DeskTells, TaskDone, turns_of}
+use Rattle.lone_work.specs.Works.{CausedInTurn, TaskDone, turns_of}
 use Rattle.task_laws.specs.LoneWell.{AreKeysRead, ChildrenWell, IsDoneWell}
 use Rattle.task_laws.specs.RunWell.{AreAskedWell}
 use Rattle.task_laws.specs.WentWell.{IsFoundWell, IsSuccess, is_asked_well, is_called_well, success_of}
@@ -188,7 +189,7 @@ module _ (o : Opening) (setup : Setup) (limit : ℕ) (journal : List Entry) (sta
   beyond : (a b : ℕ) → a ≤ b → (a == b) ≡ false → a + 1 ≤ b
   beyond a b l f = grind (arith, nat_tests)
 
-  desks_among : (past entries : List Entry) (k : ℕ) (ds es : List DeskTells) (did : DesksDid o setup limit journal past entries k ds es) → DesksFound o setup limit journal past entries k ds es did
+  desks_among : (past entries : List Entry) (k : ℕ) (ds es : List DeskTold) (did : DesksDid o setup limit journal past entries k ds es) → DesksFound o setup limit journal past entries k ds es did
       → (t m : ℕ) → k ≤ m → m < k + length ds → list_any (is_of t) (claims_for m past entries) ≡ true → Did t
   desks_among past entries k [] es did found t m low high h = absurd (let bad : ⊥ = omega (arith, low, high) in bad)
   desks_among past entries k (d ∷ ds) [] did found t m low high h = absurd did

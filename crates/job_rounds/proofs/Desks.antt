@@ -1,4 +1,5 @@
 -- What the desks did, as the journal grows.
+use Rattle.ann_outside.specs.Told.{DeskTold}
 use Rattle.std.proofs.Common.{◌≡◌, ℕ, ◌+◌, ◌<◌, List, [], ◌∷◌, ◌++◌, refl, sym, ap, subst, ◌∙◌, append_assoc, append-nil, true, false, ◌==◌, None, Option, arith, inl, inr, length, suc}
 use Rattle.std.specs.List.{cons_option}
 use Rattle.ann_outside.specs.Calls.{Gained}
@@ -11,7 +12,7 @@ use Rattle.journal_model.specs.Legality.{count}
 use Rattle.journal_model.specs.Shares.{are_by}
 use Rattle.journal_model.proofs.Holding.{claimed}
 use Rattle.task_run.specs.declared.setup.Setup.{Setup}
-use Rattle.lone_work.specs.Works.{DeskTells, RanFor, TaskDone, all_calls, turns_of}
+use Rattle.lone_work.specs.Works.{RanFor, TaskDone, all_calls, turns_of}
 use Rattle.lone_work.proofs.Working.{calls_both, caused_both, run_lasts, turns_both}
 use Rattle.gathering.specs.Tasks.{claimed_turn, turns_by}
 use Rattle.task_run.specs.declared.turn.TaskTurn.{TaskTurn}
@@ -131,10 +132,10 @@ module _ (o : Opening) (setup : Setup) (limit : ℕ) where
 
   -- ---- one desk
 
-  pub did_nothing : (journal past xs : List Entry) (k : ℕ) (desk : DeskTells) → claims_for k past xs ≡ [] → DeskDid o setup limit journal past xs k desk desk
+  pub did_nothing : (journal past xs : List Entry) (k : ℕ) (desk : DeskTold) → claims_for k past xs ≡ [] → DeskDid o setup limit journal past xs k desk desk
   did_nothing journal past xs k desk none = record { done = []; claimed = sym none; ran = tt; log_is = gained_nothing desk.log; caused = refl }
 
-  pub did_join : (journal past xs ys : List Entry) (k : ℕ) (a b d : DeskTells) → DeskDid o setup limit journal past xs k a b → DeskDid o setup limit journal (past ++ xs) ys k b d
+  pub did_join : (journal past xs ys : List Entry) (k : ℕ) (a b d : DeskTold) → DeskDid o setup limit journal past xs k a b → DeskDid o setup limit journal (past ++ xs) ys k b d
       → DeskDid o setup limit journal past (xs ++ ys) k a d
   did_join journal past xs ys k a b d s t = record {
     done = s.done ++ t.done;
@@ -145,7 +146,7 @@ module _ (o : Opening) (setup : Setup) (limit : ℕ) where
     caused = caused_both a.counts b.counts d.counts s.done t.done s.caused t.caused;
   }
 
-  did_on : (journal more past xs : List Entry) (k : ℕ) (a b : DeskTells) → DeskDid o setup limit journal past xs k a b
+  did_on : (journal more past xs : List Entry) (k : ℕ) (a b : DeskTold) → DeskDid o setup limit journal past xs k a b
       → DeskDid o setup limit (journal ++ more) past xs k a b
   did_on journal more past xs k a b s = record {
     done = s.done;
@@ -157,11 +158,11 @@ module _ (o : Opening) (setup : Setup) (limit : ℕ) where
 
   -- ---- all desks
 
-  pub desks_nothing : (journal past xs : List Entry) (k : ℕ) (desks : List DeskTells) → each_of claimed xs ≡ [] → DesksDid o setup limit journal past xs k desks desks
+  pub desks_nothing : (journal past xs : List Entry) (k : ℕ) (desks : List DeskTold) → each_of claimed xs ≡ [] → DesksDid o setup limit journal past xs k desks desks
   desks_nothing journal past xs k [] none = tt
   desks_nothing journal past xs k (d ∷ ds) none = (did_nothing journal past xs k d (claims_none k past xs none), desks_nothing journal past xs (k + 1) ds none)
 
-  pub desks_join : (journal past xs ys : List Entry) (k : ℕ) (cs bs ds : List DeskTells) → DesksDid o setup limit journal past xs k cs bs → DesksDid o setup limit journal (past ++ xs) ys k bs ds
+  pub desks_join : (journal past xs ys : List Entry) (k : ℕ) (cs bs ds : List DeskTold) → DesksDid o setup limit journal past xs k cs bs → DesksDid o setup limit journal (past ++ xs) ys k bs ds
       → DesksDid o setup limit journal past (xs ++ ys) k cs ds
   desks_join journal past xs ys k [] [] [] s t = tt
   desks_join journal past xs ys k [] [] (d ∷ ds) s t = absurd t
@@ -170,7 +171,7 @@ module _ (o : Opening) (setup : Setup) (limit : ℕ) where
   desks_join journal past xs ys k (a ∷ cs) (b ∷ bs) [] s t = absurd t
   desks_join journal past xs ys k (a ∷ cs) (b ∷ bs) (d ∷ ds) s t = (did_join journal past xs ys k a b d s.0 t.0, desks_join journal past xs ys (k + 1) cs bs ds s.1 t.1)
 
-  pub desks_on : (journal more past xs : List Entry) (k : ℕ) (cs bs : List DeskTells) → DesksDid o setup limit journal past xs k cs bs
+  pub desks_on : (journal more past xs : List Entry) (k : ℕ) (cs bs : List DeskTold) → DesksDid o setup limit journal past xs k cs bs
       → DesksDid o setup limit (journal ++ more) past xs k cs bs
   desks_on journal more past xs k [] [] s = tt
   desks_on journal more past xs k [] (b ∷ bs) s = absurd s
@@ -178,15 +179,15 @@ module _ (o : Opening) (setup : Setup) (limit : ℕ) where
   desks_on journal more past xs k (a ∷ cs) (b ∷ bs) s = (did_on journal more past xs k a b s.0, desks_on journal more past xs (k + 1) cs bs s.1)
 
   -- the desks from the second on are not the main thread's
-  others_nothing : (journal past xs : List Entry) (k : ℕ) (desks : List DeskTells) → 1 < k → are_by 0 xs ≡ true → DesksDid o setup limit journal past xs k desks desks
+  others_nothing : (journal past xs : List Entry) (k : ℕ) (desks : List DeskTold) → 1 < k → are_by 0 xs ≡ true → DesksDid o setup limit journal past xs k desks desks
   others_nothing journal past xs k [] far main = tt
   others_nothing journal past xs k (d ∷ ds) far main = (did_nothing journal past xs k d (main_claims_no_other k past xs far main), others_nothing journal past xs (k + 1) ds (omega (arith, far)) main)
 
-  pub desks_first : (journal past xs : List Entry) (desk desk' : DeskTells) (others : List DeskTells) → are_by 0 xs ≡ true → DeskDid o setup limit journal past xs 1 desk desk'
+  pub desks_first : (journal past xs : List Entry) (desk desk' : DeskTold) (others : List DeskTold) → are_by 0 xs ≡ true → DeskDid o setup limit journal past xs 1 desk desk'
       → DesksDid o setup limit journal past xs 1 (desk ∷ others) (desk' ∷ others)
   desks_first journal past xs desk desk' others main did = (did, others_nothing journal past xs 2 others (omega arith) main)
 
-  pub desks_main : (more : ℕ) (journal past xs : List Entry) (desk desk' : DeskTells) (others : List DeskTells) → count is_any_start journal < more → are_by 0 xs ≡ true → TasksDone o setup more journal past xs desk desk'
+  pub desks_main : (more : ℕ) (journal past xs : List Entry) (desk desk' : DeskTold) (others : List DeskTold) → count is_any_start journal < more → are_by 0 xs ≡ true → TasksDone o setup more journal past xs desk desk'
       → DesksDid o setup limit journal past xs 1 (desk ∷ others) (desk' ∷ others)
   desks_main more journal past xs desk desk' others fewer main t = desks_first journal past xs desk desk' others main record {
     done = t.done;
@@ -197,7 +198,7 @@ module _ (o : Opening) (setup : Setup) (limit : ℕ) where
   }
 
 -- as many desks before as after
-pub desks_as_many : (o : Opening) (setup : Setup) (limit : ℕ) (journal past xs : List Entry) (k : ℕ) (cs bs : List DeskTells) → DesksDid o setup limit journal past xs k cs bs → length cs ≡ length bs
+pub desks_as_many : (o : Opening) (setup : Setup) (limit : ℕ) (journal past xs : List Entry) (k : ℕ) (cs bs : List DeskTold) → DesksDid o setup limit journal past xs k cs bs → length cs ≡ length bs
 desks_as_many o setup limit journal past xs k [] [] s = refl
 desks_as_many o setup limit journal past xs k [] (b ∷ bs) s = absurd s
 desks_as_many o setup limit journal past xs k (a ∷ cs) [] s = absurd s

@@ -1,4 +1,5 @@
 -- What a round leaves of its child: all is at rest, so it may be closed, and its link is held.
+use Rattle.ann_outside.specs.Told.{DeskTold}
 use Rattle.std.proofs.Common.{◌≡◌, ℕ, ◌+◌, List, [], ◌∷◌, ◌++◌, refl, sym, ap, subst, ◌∙◌, length, suc, map, Bool, true, false, not, ◌==◌, arith, ◌⊎◌, inl, inr}
 use Rattle.std.specs.Prelude.{◌||◌}
 use Rattle.std.specs.List.{list_all, list_any, range_with_len}
@@ -22,7 +23,7 @@ use Rattle.crew_rounds.specs.TaggedRounds.{TaggedLeaves}
 use Rattle.child_end.specs.Wires.{IsHeld, is_mains}
 use Rattle.child_end.proofs.Held.{lone_held}
 use Rattle.task_run.specs.declared.setup.Setup.{Setup}
-use Rattle.lone_work.specs.Works.{DeskTells, TaskDone}
+use Rattle.lone_work.specs.Works.{TaskDone}
 use Rattle.lone_rounds.proofs.Stinting.{may_close}
 use Rattle.crew_round.specs.declared.slot.Refused.{Refused}
 use Rattle.crew_rounds.specs.declared.outcome.Outcome.{Outcome}
@@ -56,7 +57,7 @@ served_by_mains : (t m : Bool) → t ≡ true → (not t || m) ≡ true → m �
 served_by_mains true m e h = h
 served_by_mains false m e h = absurd cc
 
-module _ (o : Opening) (setup : Setup) (m : ℕ) (start final : List Entry) (l : LinkValue) (desks desks' : List DeskTells) (goes : GoesOn start final (λ rest. TaggedLeaves o setup (range_with_len 1 m) start rest l desks desks')) where
+module _ (o : Opening) (setup : Setup) (m : ℕ) (start final : List Entry) (l : LinkValue) (desks desks' : List DeskTold) (goes : GoesOn start final (λ rest. TaggedLeaves o setup (range_with_len 1 m) start rest l desks desks')) where
   abbrev rest : List Entry
   rest = goes.0
 
@@ -105,7 +106,7 @@ by_kept {P} x (inl e) h = subst (λ (y : Outcome). IfKept y P) e h
 by_kept {P} x (inr e) h = subst (λ (y : Outcome). IfKept y P) e.1 h
 
 -- where it didn't begin, what was done then was done from before it
-pub alone_kept : {K : Type 0} (tells : K → DeskTells) (o p : Opening) (setup : Setup) (c d : ℕ) (old mid new : List Entry) (ks is : List K) (desks' : List DeskTells) → p ≡ o → d ≡ c → mid ≡ old → is ≡ ks
+pub alone_kept : {K : Type 0} (tells : K → DeskTold) (o p : Opening) (setup : Setup) (c d : ℕ) (old mid new : List Entry) (ks is : List K) (desks' : List DeskTold) → p ≡ o → d ≡ c → mid ≡ old → is ≡ ks
     → ServesAlone p setup d mid new (map tells is) desks' → ServesAlone o setup c old new (map tells ks) desks'
 alone_kept {K} tells o p setup c d old mid new ks is desks' eo ec ej ek s =
     subst (λ (q : Opening). ServesAlone q setup c old new (map tells ks) desks') eo
@@ -115,7 +116,7 @@ alone_kept {K} tells o p setup c d old mid new ks is desks' eo ec ej ek s =
 pub legal_kept : (o p : Opening) (old mid : List Entry) → p ≡ o → mid ≡ old → Legal o old → Legal p mid
 legal_kept o p old mid eo ej h = subst (λ (q : Opening). Legal q mid) (sym eo) (subst (Legal o) (sym ej) h)
 
-crew_as_many : (o : Opening) (setup : Setup) (start rest : List Entry) (first : ℕ) (dones : List (List TaskDone)) (ds es : List DeskTells) → CrewDesks o setup start rest first dones ds es → length ds ≡ length es
+crew_as_many : (o : Opening) (setup : Setup) (start rest : List Entry) (first : ℕ) (dones : List (List TaskDone)) (ds es : List DeskTold) → CrewDesks o setup start rest first dones ds es → length ds ≡ length es
 crew_as_many o setup start rest first [] [] [] h = refl
 crew_as_many o setup start rest first [] [] (e ∷ es) h = absurd h
 crew_as_many o setup start rest first [] (d ∷ ds) es h = absurd h
@@ -123,7 +124,7 @@ crew_as_many o setup start rest first (done ∷ dones) [] es h = absurd h
 crew_as_many o setup start rest first (done ∷ dones) (d ∷ ds) [] h = absurd h
 crew_as_many o setup start rest first (done ∷ dones) (d ∷ ds) (e ∷ es) h = ap (λ (n : ℕ). suc n) (crew_as_many o setup start rest (first + 1) dones ds es h.1)
 
-pub round_as_many : (o : Opening) (setup : Setup) (m : ℕ) (start final : List Entry) (l : LinkValue) (desks desks' : List DeskTells)
+pub round_as_many : (o : Opening) (setup : Setup) (m : ℕ) (start final : List Entry) (l : LinkValue) (desks desks' : List DeskTold)
     → GoesOn start final (λ rest. TaggedLeaves o setup (range_with_len 1 m) start rest l desks desks') → length desks ≡ length desks'
 round_as_many o setup m start final l desks desks' goes = crew_as_many o setup start goes.0 4 goes.2.dones desks desks' goes.2.desks_did
 

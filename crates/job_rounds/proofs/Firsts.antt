@@ -1,4 +1,5 @@
 -- What came of a child of slot 0 that is ready, in the journal and of the objects.
+use Rattle.ann_outside.specs.Told.{DeskTold, ProgramsTold}
 use Rattle.std.proofs.Common.{◌≡◌, ◌⊎◌, ℕ, ◌≤◌, List, [], ◌∷◌, refl, sym, ap, subst, ◌∙◌, append-nil, length, Bool, true, false, arith, inl, inr, Ok, Err, Result}
 use Rattle.std.specs.Prelude.{◌&&◌, IsErr, MatchResult, Option, Some, None, is_ok}
 use Rattle.std.proofs.lemmas.List.Elements.{All-cons, All-nil}
@@ -14,12 +15,11 @@ use Rattle.link_roles.specs.Alone.{Closes}
 use Rattle.host_core.specs.Steps.{are_all_claimed}
 use Rattle.crew_round.specs.declared.slot.Refused.{Refused}
 use Rattle.child_start.specs.Greetings.{AreNumbered, Greeted, IsReady}
-use Rattle.child_end.specs.Programs.{AddsAll, ProgramsValue, told}
+use Rattle.child_end.specs.Programs.{AddsAll, told}
 use Rattle.link_roles.specs.Wires.{IsLeft, WireValue}
 use Rattle.child_end.specs.Wires.{IsHeld, IsLaid}
 use Rattle.gathering.specs.Rounds.{LinkValue}
 use Rattle.task_run.specs.declared.setup.Setup.{Setup}
-use Rattle.lone_work.specs.Works.{DeskTells}
 use Rattle.lone_rounds.specs.Starting.{is_any_start}
 use Rattle.lone_rounds.specs.Stints.{ear_of, main_entry, mouth_of}
 use Rattle.lone_rounds.proofs.Leaving.{rose_still, stays_none}
@@ -50,7 +50,7 @@ module _ (journal : List Entry) (e ear : EarValue) (m mouth : MouthValue) (wire 
   }
 
 -- one child was served and finished
-pub lone_leaves : (W : Type 0) (program : List ℕ) (journal : List Entry) (before after : ProgramsValue) (e ear : EarValue) (m mouth : MouthValue) (wires wires' : List WireValue) → Stays before.starts after.starts → before.faults ≤ after.faults
+pub lone_leaves : (W : Type 0) (program : List ℕ) (journal : List Entry) (before after : ProgramsTold) (e ear : EarValue) (m mouth : MouthValue) (wires wires' : List WireValue) → Stays before.starts after.starts → before.faults ≤ after.faults
     → IsSameEar e ear → IsSameMouth m mouth → mouth.child ≡ ear.child → IsHeld journal ear mouth → IsLaid ear mouth wires wires' → LeavesPool W program journal [] e m before after wires wires'
 lone_leaves W program journal before after e ear m mouth wires wires' stays le se sm one held (wire, laid, is) = record {
   own = wire;
@@ -64,7 +64,7 @@ lone_leaves W program journal before after e ear m mouth wires wires' stays le s
 }
 
 -- a round over it, or one worker, did tasks, or found no memory
-pub first_by : {o : Opening} {setup : Setup} {limit : ℕ} {program : List ℕ} {old new : List Entry} {desks desks' : List DeskTells} {ear ear' : EarValue} {mouth mouth' : MouthValue} {before after : ProgramsValue} {wires wires' : List WireValue} {tagged : Bool}
+pub first_by : {o : Opening} {setup : Setup} {limit : ℕ} {program : List ℕ} {old new : List Entry} {desks desks' : List DeskTold} {ear ear' : EarValue} {mouth mouth' : MouthValue} {before after : ProgramsTold} {wires wires' : List WireValue} {tagged : Bool}
     → (r : Result (Unit {0}) NoMemory) → MatchResult r (λ _. Serves o setup ear.child old new desks desks') (λ _. Starved old new ear ear' mouth mouth' desks desks')
     → (length desks ≡ 1) ⊎ (is_tagged old ear.child ≡ true) → CanBeServed o old ear mouth tagged → Legal o new → ear.child ≡ count is_start old → ((W : Type 0) → LeavesPool W program new [] ear mouth before after wires wires')
     → mouth'.child ≡ ear'.child → IsLaid ear' mouth' wires wires' → Stays before.starts after.starts → before.faults ≤ after.faults
@@ -78,7 +78,7 @@ first_by {o} {setup} {limit} {program} {old} {new} {desks} {desks'} {ear} {ear'}
     inr (
       s.many,
       inr refl,
-      subst (λ (ds : List DeskTells). PoolServed (true ≡ true) o setup limit program old new desks ds false ear mouth before after wires wires') (sym s.desks_are)
+      subst (λ (ds : List DeskTold). PoolServed (true ≡ true) o setup limit program old new desks ds false ear mouth before after wires wires') (sym s.desks_are)
           (starved_ends o setup limit (length desks) program old old new first before before after (Seat ∷ []) (link ∷ []) desks wires wires' refl (λ w. absurd w)
           (roomless_pool o (length desks) program old old first link before before can alone) can its
           (closes_alone link old new (subst (λ (x : EarValue). Closes 0 x.child old new) (sym s.link.0) s.closes)) legal
@@ -87,10 +87,10 @@ first_by {o} {setup} {limit} {program} {old} {new} {desks} {desks'} {ear} {ear'}
 
 -- ---- what came of it
 
-module _ (o : Opening) (setup : Setup) (limit : ℕ) (offer tagged : Bool) (old g new : List Entry) (desks desks' : List DeskTells) (W : Type 0) (program : List ℕ) (ear : EarValue) (mouth : MouthValue) (before mid last : ProgramsValue) (wires wires' : List WireValue)
+module _ (o : Opening) (setup : Setup) (limit : ℕ) (offer tagged : Bool) (old g new : List Entry) (desks desks' : List DeskTold) (W : Type 0) (program : List ℕ) (ear : EarValue) (mouth : MouthValue) (before mid last : ProgramsTold) (wires wires' : List WireValue)
     (legal : Legal o old) (left : are_all_claimed o old ≡ false) (greeted : Greeted old g 0 offer ear.child) (legal' : Legal o g) (ready : IsReady g ear.child) (tag : tagged ≡ is_tagged g ear.child)
     (adds : AddsOne before.starts mid.starts (program, true)) (le : before.faults ≤ mid.faults) (numbered : AreNumbered mid.starts ear mouth) where
-  lone_objects : (after : ProgramsValue) → LeavesPool W program new [] ear mouth mid last wires wires' → AddsAll mid.starts after.starts (told program []) → after.faults ≡ last.faults
+  lone_objects : (after : ProgramsTold) → LeavesPool W program new [] ear mouth mid last wires wires' → AddsAll mid.starts after.starts (told program []) → after.faults ≡ last.faults
       → (xs : List Entry) → any is_any_start xs ≡ false → StartsAll program new (main_entry (Start ear.child 0 offer) ∷ xs) before after wires wires'
   lone_objects after l all same xs none = subst (λ (ys : List Entry). StartsAll program new (main_entry (Start ear.child 0 offer) ∷ ys) before after wires wires') (append-nil xs)
       (its_objects program new xs [] ear.child offer before mid ear mouth adds le numbered refl none W last after wires wires' l all same)
@@ -141,7 +141,7 @@ module _ (o : Opening) (setup : Setup) (limit : ℕ) (offer tagged : Bool) (old 
 
 -- ---- whoever did the tasks
 
-pub served_plainly : (S : Type 0) (o : Opening) (setup : Setup) (c : ℕ) (old new : List Entry) (desks desks' : List DeskTells) (x : Result (Option Refused) NoMemory) (r : Result (Unit {0}) NoMemory)
+pub served_plainly : (S : Type 0) (o : Opening) (setup : Setup) (c : ℕ) (old new : List Entry) (desks desks' : List DeskTold) (x : Result (Option Refused) NoMemory) (r : Result (Unit {0}) NoMemory)
     → r ≡ plainly x → MatchResult x (λ alone. ServesUnless alone o setup c old new desks desks') (λ _. S) → MatchResult r (λ _. Serves o setup c old new desks desks') (λ _. S)
 served_plainly S o setup c old new desks desks' x r is s = subst (λ (y : Result (Unit {0}) NoMemory). MatchResult y (λ _. Serves o setup c old new desks desks') (λ _. S)) (sym is) (go x s)
   where

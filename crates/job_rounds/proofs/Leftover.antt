@@ -1,4 +1,5 @@
 -- The tasks that are left when no child can be started any more.
+use Rattle.ann_outside.specs.Told.{DeskTold, ProgramsTold}
 use Rattle.std.proofs.Common.{◌≡◌, ℕ, ◌<◌, List, [], ◌∷◌, ◌++◌, refl, sym, ap, subst, ◌∙◌, append_assoc, append-nil, length, Bool, true, false, not, ◌==◌, None, Option, arith, inl, inr}
 use Rattle.std.specs.Prelude.{◌&&◌, Ok}
 use Rattle.std.specs.List.{list_all, list_any}
@@ -13,12 +14,10 @@ use Rattle.journal_model.specs.Shares.{are_by, is_of_child}
 use Rattle.journal_model.proofs.Looks.{any-append, each_of-append}
 use Rattle.journal_model.proofs.Testing.{all-each, all-join}
 use Rattle.child_start.proofs.Jobs.{idle_on}
-use Rattle.child_end.specs.Programs.{ProgramsValue}
 use Rattle.link_roles.specs.Wires.{WireValue}
 use Rattle.task_run.specs.declared.setup.Setup.{Setup}
 use Rattle.task_run.specs.TaskRuns.{failed_start}
 use Rattle.task_run.proofs.Causes.{from_nothing}
-use Rattle.lone_work.specs.Works.{DeskTells}
 use Rattle.lone_rounds.specs.Starting.{AllOffer, children, is_any_start, is_offered, is_ready_untagged, started_in}
 use Rattle.lone_rounds.specs.Rounds.{AllLostWell, AllStandNext, is_of_run, left_answer, start_untaken}
 use Rattle.lone_rounds.specs.Stints.{AnswersLeft, Kept, answered_so, main_entry}
@@ -93,7 +92,7 @@ module _ (answer : ℕ → Answer) where
 
   -- ---- they are done
 
-  module _ (o : Opening) (setup : Setup) (limit : ℕ) (journal : List Entry) (desk : DeskTells) (quiet : (t : ℕ) → IsOfNoCall (answer t)) where
+  module _ (o : Opening) (setup : Setup) (limit : ℕ) (journal : List Entry) (desk : DeskTold) (quiet : (t : ℕ) → IsOfNoCall (answer t)) where
     one_did : (past rest : List Entry) (t : ℕ) → journal ≡ past ++ main_entry (Claim t 0) ∷ main_entry (Answered t (answer t)) ∷ rest → UnservedAnswers limit past (failed_start past (start_untaken past)) t (answer t)
         → DeskDid o setup limit journal past (one t) 1 desk desk
     one_did past rest t is answers = record {
@@ -114,7 +113,7 @@ module _ (answer : ℕ → Answer) where
 
 -- ---- what the run is then
 
-module _ {o : Opening} {setup : Setup} {may : Bool} {limit made : ℕ} {offer : Bool} {old new : List Entry} {desks0 desks : List DeskTells} (b : JobsBetween o setup may limit made offer old desks0 desks true)
+module _ {o : Opening} {setup : Setup} {may : Bool} {limit made : ℕ} {offer : Bool} {old new : List Entry} {desks0 desks : List DeskTold} (b : JobsBetween o setup may limit made offer old desks0 desks true)
     (some : 0 < length desks0) (all : made ≡ limit) (spent : AreSpent old) (a : AnswersLeft o old new (left_answer old)) (legal : Legal o new) where
   abbrev more : List Entry
   more = answered_so (left_answer old) a.tasks
@@ -147,7 +146,7 @@ module _ {o : Opening} {setup : Setup} {may : Bool} {limit made : ℕ} {offer : 
       front_none : (p : What → Bool) → any p more ≡ false → any p front ≡ false
       front_none p h = either_left (any p front) (any p rest) (sym (any-append p front rest) ∙ ap (any p) (sym split) ∙ h)
 
-  did_more : (ds : List DeskTells) → DesksDid o setup limit (old ++ more) old more 1 ds ds
+  did_more : (ds : List DeskTold) → DesksDid o setup limit (old ++ more) old more 1 ds ds
   did_more [] = tt
   did_more (d ∷ ds) = desks_first o setup limit (old ++ more) old more d d ds main (left_did (left_answer old) o setup limit (old ++ more) d (left_quiet o old b.legal) old a.tasks refl (b.starts ∙ all) spent (λ t. refl) b.untaken)
 
@@ -175,5 +174,5 @@ module _ {o : Opening} {setup : Setup} {may : Bool} {limit made : ℕ} {offer : 
     shut = λ d. ap (λ (j : List Entry). open_jobs j d) a.is ∙ idle_on old more d (unasked d more (apart d)) (b.shut d);
   }
 
-  pub kept_left : {program : List ℕ} {start after : ProgramsValue} {wires : List WireValue} → Kept program old start after wires → Kept program new start after wires
+  pub kept_left : {program : List ℕ} {start after : ProgramsTold} {wires : List WireValue} → Kept program old start after wires → Kept program new start after wires
   kept_left k = kept_still k (few_of o old b.legal) new more a.is none apart

@@ -1,4 +1,5 @@
 -- The wires and the programs of a run, as its journal grows by a start of slot 0 and those of its pool.
+use Rattle.ann_outside.specs.Told.{ProgramsTold}
 use Rattle.std.proofs.Common.{◌≡◌, ℕ, suc, ◌+◌, ◌≤◌, List, [], ◌∷◌, ◌++◌, refl, sym, ap, subst, ◌∙◌, length, false, Some, None, Option, arith}
 use Rattle.std.specs.Prelude.{◌-◌, ◌^◌, filter, min}
 use Rattle.std.specs.List.{cons_option}
@@ -11,7 +12,7 @@ use Rattle.journal_model.specs.Legality.{count, is_start}
 use Rattle.journal_model.specs.Shares.{is_of_child}
 use Rattle.journal_model.proofs.Looks.{each_of-append}
 use Rattle.link_roles.proofs.Linked.{any_narrower}
-use Rattle.child_end.specs.Programs.{AddsAll, ProgramsValue, RoseBy, is_failed_start, told, told_in}
+use Rattle.child_end.specs.Programs.{AddsAll, RoseBy, is_failed_start, told, told_in}
 use Rattle.link_roles.specs.Wires.{WireValue}
 use Rattle.child_end.specs.Wires.{came, came_in}
 use Rattle.lone_rounds.specs.Starting.{is_any_start}
@@ -55,7 +56,7 @@ linked_shifted old mid told_so journal k a e at (Some c ∷ cs) (w ∷ ws) h =
 -- ---- one start alone
 
 -- the same, where nothing was started after it
-pub one_all : {program : List ℕ} {journal : List Entry} {first : What} {before after : ProgramsValue} {wires wires' : List WireValue} (later : List Entry) → any is_any_start later ≡ false
+pub one_all : {program : List ℕ} {journal : List Entry} {first : What} {before after : ProgramsTold} {wires wires' : List WireValue} (later : List Entry) → any is_any_start later ≡ false
     → StartsOne program journal first before after wires wires' → StartsAll program journal (main_entry first ∷ later) before after wires wires'
 one_all {program} {journal} {first} {before} {after} {wires} {wires'} later none s = record {
   adds = subst (AddsAll before.starts after.starts) (ap (λ (ts : Starts). cons_option (told_in program first) ts) (sym (none_told program later none))) s.adds;
@@ -73,7 +74,7 @@ one_all {program} {journal} {first} {before} {after} {wires} {wires'} later none
 -- ---- all that is kept
 
 -- after one start of slot 0 more, and those of its pool
-pub kept_more : {program : List ℕ} {old : List Entry} {start before : ProgramsValue} {wires : List WireValue} (k : Kept program old start before wires) → AreUpTo (count is_start old) (came old) → (new tail : List Entry) (after : ProgramsValue)
+pub kept_more : {program : List ℕ} {old : List Entry} {start before : ProgramsTold} {wires : List WireValue} (k : Kept program old start before wires) → AreUpTo (count is_start old) (came old) → (new tail : List Entry) (after : ProgramsTold)
     (wires' : List WireValue) → new ≡ old ++ tail → ((d : ℕ) → d ≤ count is_start old → any (is_of_child d) tail ≡ false) → StartsAll program new tail before after wires wires' → Kept program new start after wires'
 kept_more {program} {old} {start} {before} {wires} k up_to new tail after wires' is apart s = record {
   linked = subst (AreLinked start.starts new 0 (came new)) (sym s.laid) (subst (λ (cs : List (Option ℕ)). AreLinked start.starts new 0 cs (wires ++ s.new)) (sym came_new)
@@ -107,10 +108,10 @@ many_linked starts journal n (e ∷ xs) ws h = go e.what ws h (λ m vs k. many_l
     go (NoStart slot) vs k r = r (n + 1) vs k
     go w vs k r = r n vs k
 
-pub wires_many : {program : List ℕ} {journal : List Entry} {before after : ProgramsValue} {wires : List WireValue} → Kept program journal before after wires → count is_start journal ≡ length wires
+pub wires_many : {program : List ℕ} {journal : List Entry} {before after : ProgramsTold} {wires : List WireValue} → Kept program journal before after wires → count is_start journal ≡ length wires
 wires_many {program} {journal} {before} {after} {wires} k = many_linked before.starts journal 0 journal wires k.linked
 
-pub kept_kept : {program : List ℕ} {old : List Entry} {before after : ProgramsValue} {wires : List WireValue} (new : List Entry) (wires' : List WireValue) → new ≡ old → wires' ≡ wires → Kept program old before after wires
+pub kept_kept : {program : List ℕ} {old : List Entry} {before after : ProgramsTold} {wires : List WireValue} (new : List Entry) (wires' : List WireValue) → new ≡ old → wires' ≡ wires → Kept program old before after wires
     → Kept program new before after wires'
 kept_kept {program} {old} {before} {after} {wires} new wires' ej ew k =
     subst (λ (j : List Entry). Kept program j before after wires') (sym ej) (subst (λ (ws : List WireValue). Kept program old before after ws) (sym ew) k)

@@ -1,4 +1,5 @@
 -- What a pool comes to, by what came of gathering it.
+use Rattle.ann_outside.specs.Told.{DeskTold, ProgramsTold}
 use Rattle.std.proofs.Common.{◌≡◌, ◌⊎◌, ℕ, ◌+◌, ◌≤◌, List, [], ◌∷◌, refl, sym, ap, subst, ◌∙◌, append-nil, length, Bool, true, false, arith, inl, inr, Ok, Err, Result}
 use Rattle.std.specs.Prelude.{All, IfOk, IsErr, MatchResult, is_ok}
 use Rattle.ann_key.specs.declared.bytes.NoMemory.{NoMemory}
@@ -11,14 +12,12 @@ use Rattle.journal_model.specs.Journal.{any, is_started, is_tagged}
 use Rattle.journal_model.specs.Legality.{Legal, count, is_start, may_stop}
 use Rattle.journal_model.specs.Shares.{are_by, is_of_child}
 use Rattle.link_roles.specs.Alone.{Closes}
-use Rattle.child_end.specs.Programs.{ProgramsValue}
 use Rattle.link_roles.specs.Wires.{WireValue}
 use Rattle.child_end.specs.Wires.{IsHeld, IsLaid, came}
 use Rattle.child_end.proofs.Held.{lone_held}
 use Rattle.gathering.specs.Laws.{children_of}
 use Rattle.gathering.specs.Rounds.{LinkValue}
 use Rattle.task_run.specs.declared.setup.Setup.{Setup}
-use Rattle.lone_work.specs.Works.{DeskTells}
 use Rattle.lone_rounds.proofs.Leaving.{rose_still, stays_none}
 use Rattle.lone_rounds.proofs.Stinting.{may_close}
 use Rattle.crew_rounds.specs.PoolChildren.{MayServe}
@@ -36,13 +35,13 @@ use Rattle.job_rounds.proofs.PoolWires.{Settled, leaves_pool, wire_stays}
 use Rattle.pool_rounds.proofs.Backs.{links_still as link_same}
 
 -- a link for each seat that serves
-pub pool_serving : {wanted : Type 0} {whole : Bool} {o : Opening} {jobs : ℕ} {program : List ℕ} {old g : List Entry} {first : LinkValue} {before after : ProgramsValue} {seats : List SeatValue} {links : List LinkValue}
+pub pool_serving : {wanted : Type 0} {whole : Bool} {o : Opening} {jobs : ℕ} {program : List ℕ} {old g : List Entry} {first : LinkValue} {before after : ProgramsTold} {seats : List SeatValue} {links : List LinkValue}
     → IsPool wanted whole o jobs program old g first before after seats links → serving seats ≡ length links
 pool_serving {wanted} {whole} {o} {jobs} {program} {old} {g} {first} {before} p =
     ap serving p.seats_are ∙ (let so = seated_serving before.starts g 0 (came p.gathered.later) p.others p.more p.by.seated in let e : serving p.others + 1 ≡ length (first ∷ p.more) = omega (arith, so) in e)
     ∙ sym (ap (λ (ls : List LinkValue). length ls) p.links_are)
 
-module _ {wanted : Type 0} (o : Opening) (setup : Setup) (limit : ℕ) (program : List ℕ) (old g new : List Entry) (first : LinkValue) (before told after : ProgramsValue) (seats : List SeatValue) (links links' : List LinkValue) (desks desks' : List DeskTells) (whole : Bool)
+module _ {wanted : Type 0} (o : Opening) (setup : Setup) (limit : ℕ) (program : List ℕ) (old g new : List Entry) (first : LinkValue) (before told after : ProgramsTold) (seats : List SeatValue) (links links' : List LinkValue) (desks desks' : List DeskTold) (whole : Bool)
     (wires wires' : List WireValue) (p : IsPool wanted whole o (length desks) program old g first before told seats links) (legal : Legal o old) (its : first.ear.child ≡ count is_start old) where
   abbrev c : ℕ
   c = first.ear.child
@@ -71,7 +70,7 @@ module _ {wanted : Type 0} (o : Opening) (setup : Setup) (limit : ℕ) (program 
 
 -- ---- the pool is whole: it did tasks
 
-pub whole_ends : {wanted wanted' : Type 0} (o : Opening) (setup : Setup) (limit jobs : ℕ) (program : List ℕ) (old g new : List Entry) (first : LinkValue) (before told after : ProgramsValue) (seats : List SeatValue) (links links' : List LinkValue) (desks desks' : List DeskTells)
+pub whole_ends : {wanted wanted' : Type 0} (o : Opening) (setup : Setup) (limit jobs : ℕ) (program : List ℕ) (old g new : List Entry) (first : LinkValue) (before told after : ProgramsTold) (seats : List SeatValue) (links links' : List LinkValue) (desks desks' : List DeskTold)
     (wires wires' : List WireValue) → jobs ≡ length desks → (wanted → wanted') → IsPool wanted true o jobs program old g first before told seats links → CanBeServed o old first.ear first.mouth false → first.ear.child ≡ count is_start old
     → ServesLinks o setup g new links links' desks desks' → Legal o new → AreSameLinks links links' → All (λ (l : LinkValue). IsHeld new l.ear l.mouth) links' → All (λ (l : LinkValue). l.mouth.child ≡ l.ear.child) links'
     → AreLaid seats links' wires wires' → Stays told.starts after.starts → told.faults ≤ after.faults → PoolServed wanted' o setup limit program old new desks desks' true first.ear first.mouth before after wires wires'
@@ -105,7 +104,7 @@ whole_ends {wanted} {wanted'} o setup limit jobs program old g new first before 
 
 -- ---- no memory was found to start a child: all are closed
 
-pub starved_ends : {wanted wanted' : Type 0} {tagged : Bool} (o : Opening) (setup : Setup) (limit jobs : ℕ) (program : List ℕ) (old g new : List Entry) (first : LinkValue) (before told after : ProgramsValue) (seats : List SeatValue) (links : List LinkValue) (desks : List DeskTells)
+pub starved_ends : {wanted wanted' : Type 0} {tagged : Bool} (o : Opening) (setup : Setup) (limit jobs : ℕ) (program : List ℕ) (old g new : List Entry) (first : LinkValue) (before told after : ProgramsTold) (seats : List SeatValue) (links : List LinkValue) (desks : List DeskTold)
     (wires wires' : List WireValue) → jobs ≡ length desks → (wanted → wanted') → IsPool wanted false o jobs program old g first before told seats links → CanBeServed o old first.ear first.mouth tagged → first.ear.child ≡ count is_start old
     → ClosesAll (children_of links) g new → Legal o new → All (λ (l : LinkValue). l.mouth.child ≡ l.ear.child) links
     → AreLaid seats links wires wires' → Stays told.starts after.starts → told.faults ≤ after.faults → PoolServed wanted' o setup limit program old new desks desks false first.ear first.mouth before after wires wires'
@@ -130,7 +129,7 @@ starved_ends {wanted} {wanted'} {tagged} o setup limit jobs program old g new fi
     held = go links each one
 
 -- it may be one that wasn't whole
-pub some_pool : {wanted : Type 0} {o : Opening} {jobs : ℕ} {program : List ℕ} {old g : List Entry} {first : LinkValue} {before after : ProgramsValue} {seats : List SeatValue} {links : List LinkValue}
+pub some_pool : {wanted : Type 0} {o : Opening} {jobs : ℕ} {program : List ℕ} {old g : List Entry} {first : LinkValue} {before after : ProgramsTold} {seats : List SeatValue} {links : List LinkValue}
     → IsPool wanted true o jobs program old g first before after seats links → IsPool wanted false o jobs program old g first before after seats links
 some_pool p = record {
   more = p.more;
@@ -160,7 +159,7 @@ if_ok (Ok a) f h = f h
 if_ok (Err e) f h = tt
 
 -- of a whole pool, which did tasks, or found no memory for its round
-pub links_end : (o : Opening) (setup : Setup) (limit jobs : ℕ) (program : List ℕ) (old g new : List Entry) (first : LinkValue) (before told after : ProgramsValue) (seats : List SeatValue) (links links' : List LinkValue) (desks desks' : List DeskTells)
+pub links_end : (o : Opening) (setup : Setup) (limit jobs : ℕ) (program : List ℕ) (old g new : List Entry) (first : LinkValue) (before told after : ProgramsTold) (seats : List SeatValue) (links links' : List LinkValue) (desks desks' : List DeskTold)
     (wires wires' : List WireValue) → jobs ≡ length desks → (r : Result (Unit {0}) NoMemory) → IsPool ⊥ true o jobs program old g first before told seats links → CanBeServed o old first.ear first.mouth false → first.ear.child ≡ count is_start old
     → MatchResult r (λ _. ServesLinks o setup g new links links' desks desks') (λ _. StarvedLinks g new links links' desks desks') → Legal o new → AreSameLinks links links' → IfOk r (λ _. All (λ (l : LinkValue). IsHeld new l.ear l.mouth) links')
     → All (λ (l : LinkValue). l.mouth.child ≡ l.ear.child) links' → AreLaid seats links' wires wires' → Stays told.starts after.starts → told.faults ≤ after.faults
@@ -168,13 +167,13 @@ pub links_end : (o : Opening) (setup : Setup) (limit jobs : ℕ) (program : List
 links_end o setup limit jobs program old g new first before told after seats links links' desks desks' wires wires' many (Ok u) given can its s legal' same held one laid stays later =
     whole_ends o setup limit jobs program old g new first before told after seats links links' desks desks' wires wires' many (λ w. absurd w) given can its s legal' same held one laid stays later
 links_end o setup limit jobs program old g new first before told after seats links links' desks desks' wires wires' many (Err e) given can its s legal' same held one laid stays later =
-    subst (λ (ds : List DeskTells). PoolServed (true ≡ true) o setup limit program old new desks ds false first.ear first.mouth before after wires wires') (sym s.desks_are)
+    subst (λ (ds : List DeskTold). PoolServed (true ≡ true) o setup limit program old new desks ds false first.ear first.mouth before after wires wires') (sym s.desks_are)
     (starved_ends o setup limit jobs program old g new first before told after seats links desks wires wires' many (λ w. absurd w) (some_pool given) can its
     (subst (λ (ls : List LinkValue). ClosesAll (children_of ls) g new) s.links_are s.closes) legal' (subst (λ (ls : List LinkValue). All (λ (l : LinkValue). l.mouth.child ≡ l.ear.child) ls) s.links_are one)
     (subst (λ (ls : List LinkValue). AreLaid seats ls wires wires') s.links_are laid) stays later)
 
 -- where there was none for a pool, it is as if it had the child of slot 0 alone
-pub roomless_pool : {tagged : Bool} (o : Opening) (jobs : ℕ) (program : List ℕ) (old g : List Entry) (first link : LinkValue) (before after : ProgramsValue) → CanBeServed o old first.ear first.mouth tagged → IsUngathered old g first link before after
+pub roomless_pool : {tagged : Bool} (o : Opening) (jobs : ℕ) (program : List ℕ) (old g : List Entry) (first link : LinkValue) (before after : ProgramsTold) → CanBeServed o old first.ear first.mouth tagged → IsUngathered old g first link before after
     → IsPool ⊥ false o jobs program old g first before after (Serves ∷ []) (link ∷ [])
 roomless_pool {tagged} o jobs program old g first link before after can u = subst (λ (j : List Entry). IsPool ⊥ false o jobs program old j first before after (Serves ∷ []) (link ∷ [])) (sym u.journal) record {
   more = [];
@@ -212,7 +211,7 @@ closes_alone link g new h = (new, h, refl)
 
 -- ---- what the calls ask for
 
-pub pool_started : {wanted : Type 0} {whole : Bool} {o : Opening} {jobs : ℕ} {program : List ℕ} {old g : List Entry} {first : LinkValue} {before after : ProgramsValue} {seats : List SeatValue} {links : List LinkValue}
+pub pool_started : {wanted : Type 0} {whole : Bool} {o : Opening} {jobs : ℕ} {program : List ℕ} {old g : List Entry} {first : LinkValue} {before after : ProgramsTold} {seats : List SeatValue} {links : List LinkValue}
     → IsPool wanted whole o jobs program old g first before after seats links → All (λ (l : LinkValue). is_started g l.ear.child ≡ true) links
 pool_started {wanted} {whole} {o} {jobs} {program} {old} {g} {first} p = subst (λ (ls : List LinkValue). All (λ (l : LinkValue). is_started g l.ear.child ≡ true) ls) (sym p.links_are)
     (All-weaker (MayServe o g) (λ (l : LinkValue). is_started g l.ear.child ≡ true) (λ l h. h.serves.started) (first ∷ p.more) p.gathered.can.each)
@@ -224,12 +223,12 @@ same_length (l ∷ ls) [] s = absurd s
 same_length (l ∷ ls) (m ∷ ms) s = (let rest = same_length ls ms s.1 in omega (arith, rest))
 
 -- so many links come back
-pub serving_back : {wanted : Type 0} {whole : Bool} {o : Opening} {jobs : ℕ} {program : List ℕ} {old g : List Entry} {first : LinkValue} {before after : ProgramsValue} {seats : List SeatValue} {links : List LinkValue} (links' : List LinkValue)
+pub serving_back : {wanted : Type 0} {whole : Bool} {o : Opening} {jobs : ℕ} {program : List ℕ} {old g : List Entry} {first : LinkValue} {before after : ProgramsTold} {seats : List SeatValue} {links : List LinkValue} (links' : List LinkValue)
     → IsPool wanted whole o jobs program old g first before after seats links → AreSameLinks links links' → serving seats ≡ length links'
 serving_back {wanted} {whole} {o} {jobs} {program} {old} {g} {first} {before} {after} {seats} {links} links' p same = pool_serving p ∙ same_length links links' same
 
 -- the child of slot 0 may be closed, where nothing was done
-pub roomless_may : {tagged : Bool} (o : Opening) (old g : List Entry) (first link : LinkValue) (before after : ProgramsValue) → CanBeServed o old first.ear first.mouth tagged → IsUngathered old g first link before after
+pub roomless_may : {tagged : Bool} (o : Opening) (old g : List Entry) (first link : LinkValue) (before after : ProgramsTold) → CanBeServed o old first.ear first.mouth tagged → IsUngathered old g first link before after
     → (is_started g link.ear.child ≡ true) × (may_stop g link.ear.child Closed ≡ true)
 roomless_may o old g first link before after can u =
     subst (λ (j : List Entry). (is_started j link.ear.child ≡ true) × (may_stop j link.ear.child Closed ≡ true)) (sym u.journal)

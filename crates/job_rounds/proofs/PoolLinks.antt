@@ -1,4 +1,5 @@
 -- The links, seats and desks of a pool, as vectors: the first link, the wires that are laid in order, and desks that are taken and put back.
+use Rattle.ann_outside.specs.Told.{DeskTold}
 use Rattle.std.proofs.Common.{◌≡◌, ℕ, ◌+◌, ◌<◌, List, [], ◌∷◌, ◌++◌, refl, sym, ap, subst, ◌∙◌, append_assoc, append-nil, length, length-append, map, true, false, ◌==◌, arith, slice_index_or, take, zero, suc, None, Option, Some}
 use Rattle.std.specs.Prelude.{All, reverse, slice_get}
 use Rattle.std.proofs.lemmas.List.{length-reverse, reverse-append, reverse-reverse}
@@ -18,7 +19,7 @@ use Rattle.link_roles.specs.Wires.{WireValue}
 use Rattle.child_end.specs.Wires.{IsHeld, IsLaid}
 use Rattle.child_end.proofs.Held.{held_apart, lone_held}
 use Rattle.task_run.specs.declared.setup.Setup.{Setup}
-use Rattle.lone_work.specs.Works.{CanWork, DeskTells}
+use Rattle.lone_work.specs.Works.{CanWork}
 use Rattle.lone_rounds.specs.Stints.{HasServed, in_stint}
 use Rattle.lone_rounds.proofs.Apart.{apart_in}
 use Rattle.lone_rounds.proofs.Stinting.{may_close}
@@ -72,7 +73,7 @@ others_differ l links distinct = go links (λ i c h. differ l.ear.child c (λ z.
     go (x ∷ xs) f = All-cons (λ (y : LinkValue). (l.ear.child == y.ear.child) ≡ false) x xs (f zero x.ear.child refl) (go xs (λ i c h. f (suc i) c h))
 
 -- The first link is held after its child's closing, and the others still.
-pub first_held : (o : Opening) (setup : Setup) (g mid : List Entry) (l l' : LinkValue) (links : List LinkValue) (desk desk' : DeskTells) → PoolCan o g (l ∷ links) → All (λ (x : LinkValue). x.mouth.child ≡ x.ear.child) links
+pub first_held : (o : Opening) (setup : Setup) (g mid : List Entry) (l l' : LinkValue) (links : List LinkValue) (desk desk' : DeskTold) → PoolCan o g (l ∷ links) → All (λ (x : LinkValue). x.mouth.child ≡ x.ear.child) links
     → HasServed o setup l.ear.child g mid desk desk' → KeepsLink g mid l.ear l'.ear l.mouth l'.mouth → All (λ (x : LinkValue). IsHeld mid x.ear x.mouth) (l' ∷ links)
 first_held o setup g mid l l' links desk desk' can one s keeps =
     All-cons (λ (x : LinkValue). IsHeld mid x.ear x.mouth) l' links (lone_held mid l'.ear l'.mouth (keeps.wired its.wired)) (go links one (others_differ l links can.differ) (All-tail (MayServe o g) l links can.each))

@@ -1,4 +1,5 @@
 -- What a pool does between its gathering and its closing: nothing, a round, or the work of the main thread over its first child.
+use Rattle.ann_outside.specs.Told.{DeskTold}
 use Rattle.std.proofs.Common.{◌≡◌, ◌⊎◌, ℕ, ◌+◌, ◌<◌, ◌≤◌, List, [], ◌∷◌, ◌++◌, refl, sym, ap, subst, ◌∙◌, append_assoc, append-nil, length, length-append, Bool, true, false, not, ◌==◌, Some, None, Option, arith, inl, inr}
 use Rattle.std.specs.Prelude.{◌||◌, All, is_some, nat_le, nat_lt}
 use Rattle.std.specs.List.{list_all, list_any, range_with_len}
@@ -31,7 +32,7 @@ use Rattle.gathering.specs.Rounds.{IsAmong, IsAtRest, IsLostChild, LinkValue, Ro
 use Rattle.gathering.specs.Tasks.{IsThrough}
 use Rattle.child_start.proofs.Jobs.{idle_on}
 use Rattle.task_run.specs.declared.setup.Setup.{Setup}
-use Rattle.lone_work.specs.Works.{DeskTells, by_worker}
+use Rattle.lone_work.specs.Works.{by_worker}
 use Rattle.lone_rounds.specs.Rounds.{AllLostWell, is_of_run}
 use Rattle.lone_rounds.specs.Starting.{is_any_start, is_unclosed}
 use Rattle.lone_rounds.specs.Stints.{HasServed, TasksDone, in_stint}
@@ -131,7 +132,7 @@ two_jobs o seen c legal ready = go (nat_lt 1 (length (asked_jobs seen c))) refl
 -- ---- what is done
 
 -- After g, where the links are first's and the others', which begin with child `first`.
-pub record Middle (o : Opening) (setup : Setup) (limit first : ℕ) (links : List LinkValue) (g mid : List Entry) (desks desks' : List DeskTells) (whole : Bool) : Type 0 where
+pub record Middle (o : Opening) (setup : Setup) (limit first : ℕ) (links : List LinkValue) (g mid : List Entry) (desks desks' : List DeskTold) (whole : Bool) : Type 0 where
   pub rest : List Entry
   pub is : mid ≡ g ++ rest
   pub none : any is_any_start rest ≡ false
@@ -148,7 +149,7 @@ pub record Middle (o : Opening) (setup : Setup) (limit first : ℕ) (links : Lis
   pub left : whole ≡ true → (list_any (λ (l : LinkValue). is_lost mid l.ear.child) links ≡ true) ⊎ (are_all_claimed o mid ≡ true)
 
 -- where no memory was found, nothing
-pub middle_none : (o : Opening) (setup : Setup) (limit first : ℕ) (links : List LinkValue) (g : List Entry) (desks : List DeskTells) → Legal o g → IsAtRest g → Middle o setup limit first links g g desks desks false
+pub middle_none : (o : Opening) (setup : Setup) (limit first : ℕ) (links : List LinkValue) (g : List Entry) (desks : List DeskTold) → Legal o g → IsAtRest g → Middle o setup limit first links g g desks desks false
 middle_none o setup limit first links g desks legal calm = record {
   rest = [];
   is = sym (append-nil g);
@@ -178,7 +179,7 @@ numbered_none many n past (e ∷ xs) far h =
     rw (other, numbered_none many n (past ++ e ∷ []) xs far t.1) refl
 
 module _ (o : Opening) (setup : Setup) (limit : ℕ) (journal past xs : List Entry) where
-  others_nothing : (k : ℕ) (others : List DeskTells) → ((n : ℕ) → k ≤ n → claims_for n past xs ≡ []) → DesksDid o setup limit journal past xs k others others
+  others_nothing : (k : ℕ) (others : List DeskTold) → ((n : ℕ) → k ≤ n → claims_for n past xs ≡ []) → DesksDid o setup limit journal past xs k others others
   others_nothing k [] none = tt
   others_nothing k (d ∷ ds) none = (
     record { done = []; claimed = sym (none k (omega arith)); ran = tt; log_is = gained_nothing d.log; caused = refl },
@@ -186,7 +187,7 @@ module _ (o : Opening) (setup : Setup) (limit : ℕ) (journal past xs : List Ent
   )
 
   -- the first desks did so, and the others nothing
-  pub desks_beside : (k : ℕ) (used used' others : List DeskTells) → ((n : ℕ) → k + length used ≤ n → claims_for n past xs ≡ []) → DesksDid o setup limit journal past xs k used used'
+  pub desks_beside : (k : ℕ) (used used' others : List DeskTold) → ((n : ℕ) → k + length used ≤ n → claims_for n past xs ≡ []) → DesksDid o setup limit journal past xs k used used'
       → DesksDid o setup limit journal past xs k (used ++ others) (used' ++ others)
   desks_beside k [] [] others none h = others_nothing k others (λ n le. none n (omega (arith, le)))
   desks_beside k [] (e ∷ es) others none h = absurd h
@@ -199,7 +200,7 @@ module _ (o : Opening) (setup : Setup) (limit : ℕ) (journal past xs : List Ent
 abbrev Behind : List Entry → List Entry → Type 0
 Behind g past = (more : List Entry) × (past ≡ g ++ more) × (any is_any_start more ≡ false)
 
-module _ (o : Opening) (setup : Setup) (limit first : ℕ) (g mid : List Entry) (links links' : List LinkValue) (desks desks' : List DeskTells) (legal : Legal o g) (can : PoolCan o g links)
+module _ (o : Opening) (setup : Setup) (limit first : ℕ) (g mid : List Entry) (links links' : List LinkValue) (desks desks' : List DeskTold) (legal : Legal o g) (can : PoolCan o g links)
     (low : All (λ (l : LinkValue). first ≤ l.ear.child) links) (untagged : All (λ (l : LinkValue). is_tagged g l.ear.child ≡ false) links) (mains : All (λ (l : LinkValue). are_by 0 (since_start l.ear.child g) ≡ true) links)
     (same : AreSameLinks links links') (r : RoundsPool o setup g mid links links' desks desks') where
   abbrev rest : List Entry
@@ -254,13 +255,13 @@ module _ (o : Opening) (setup : Setup) (limit first : ℕ) (g mid : List Entry) 
   many = r.many
 
   did : DesksDid o setup limit (g ++ rest) g rest 1 desks desks'
-  did = subst (λ (ds : List DeskTells). DesksDid o setup limit (g ++ rest) g rest 1 ds desks') (sym r.before) (subst (λ (ds : List DeskTells). DesksDid o setup limit (g ++ rest) g rest 1 (r.used ++ r.others) ds) (sym r.after)
+  did = subst (λ (ds : List DeskTold). DesksDid o setup limit (g ++ rest) g rest 1 ds desks') (sym r.before) (subst (λ (ds : List DeskTold). DesksDid o setup limit (g ++ rest) g rest 1 (r.used ++ r.others) ds) (sym r.after)
       (desks_beside o setup limit (g ++ rest) g rest 1 r.used r.used' r.others
       (λ n le. claimed_so n ∙ numbered_none (length links) (n + 1) g rest (let so = many in omega (arith, le, so)) rounded.numbered)
       (any_round_did o setup limit 1 g rest claimed_so leaves.dones r.used r.used' leaves.desks_did)))
 
   few : length links ≤ length desks
-  few = (let so = many in let all = ap (λ (ds : List DeskTells). length ds) r.before ∙ length-append r.used r.others in omega (arith, so, all))
+  few = (let so = many in let all = ap (λ (ds : List DeskTold). length ds) r.before ∙ length-append r.used r.others in omega (arith, so, all))
 
   left : (list_any (λ (l : LinkValue). is_lost (g ++ rest) l.ear.child) links ≡ true) ⊎ (are_all_claimed o (g ++ rest) ≡ true)
   left = go leaves.round.left
@@ -332,7 +333,7 @@ pub record ServedPart (c : ℕ) (g mid : List Entry) : Type 0 where
   pub is : mid ≡ g ++ rest
   pub part : Part c rest
 
-pub served_part : {o : Opening} {setup : Setup} {c : ℕ} {g mid : List Entry} {desk desk' : DeskTells} → Legal o g → is_prepared g c ≡ true → HasServed o setup c g mid desk desk' → ServedPart c g mid
+pub served_part : {o : Opening} {setup : Setup} {c : ℕ} {g mid : List Entry} {desk desk' : DeskTold} → Legal o g → is_prepared g c ≡ true → HasServed o setup c g mid desk desk' → ServedPart c g mid
 served_part {o} {setup} {c} {g} {mid} legal ready s =
     let k : Closing c s.mid mid = closing c s.mid mid s.closes in
     record {
@@ -343,7 +344,7 @@ served_part {o} {setup} {c} {g} {mid} legal ready s =
     }
 
 -- all is at rest after it
-pub served_calm : {o : Opening} {setup : Setup} {c : ℕ} {g mid : List Entry} {desk desk' : DeskTells} → Legal o g → IsAtRest g → is_prepared g c ≡ true → HasServed o setup c g mid desk desk' → IsAtRest mid
+pub served_calm : {o : Opening} {setup : Setup} {c : ℕ} {g mid : List Entry} {desk desk' : DeskTold} → Legal o g → IsAtRest g → is_prepared g c ≡ true → HasServed o setup c g mid desk desk' → IsAtRest mid
 served_calm {o} {setup} {c} {g} {mid} legal calm ready s =
     let k : Closing c s.mid mid = closing c s.mid mid s.closes in
     let p : ServedPart c g mid = served_part legal ready s in
@@ -353,7 +354,7 @@ served_calm {o} {setup} {c} {g} {mid} legal calm ready s =
       shut = shut_open mid (subst AreShut (sym p.is) (shut_next g p.rest c p.part.within (ap (λ (j : List Entry). open_jobs j c) (sym p.is) ∙ idle) (rest_shut g calm)));
     }
 
-module _ (o : Opening) (setup : Setup) (limit first : ℕ) (g mid : List Entry) (l : LinkValue) (links : List LinkValue) (desks desks' : List DeskTells) (legal : Legal o g) (can : PoolCan o g (l ∷ links))
+module _ (o : Opening) (setup : Setup) (limit first : ℕ) (g mid : List Entry) (l : LinkValue) (links : List LinkValue) (desks desks' : List DeskTold) (legal : Legal o g) (can : PoolCan o g (l ∷ links))
     (low : All (λ (x : LinkValue). first ≤ x.ear.child) (l ∷ links)) (legal' : Legal o mid) (a : ServesAlone o setup l.ear.child g mid desks desks') where
   abbrev c : ℕ
   c = l.ear.child
@@ -402,11 +403,11 @@ module _ (o : Opening) (setup : Setup) (limit first : ℕ) (g mid : List Entry) 
       done_same o setup most mid g g worked then a.desk a.desk' taken (subst (λ (j : List Entry). TasksDone o setup most j g worked a.desk a.desk') (sym k.is) at_end)
 
   did_alone : DesksDid o setup limit mid g then 1 desks desks'
-  did_alone = subst (λ (ds : List DeskTells). DesksDid o setup limit mid g then 1 ds desks') (sym a.before) (subst (λ (ds : List DeskTells). DesksDid o setup limit mid g then 1 (a.desk ∷ a.others) ds) (sym a.after)
+  did_alone = subst (λ (ds : List DeskTold). DesksDid o setup limit mid g then 1 ds desks') (sym a.before) (subst (λ (ds : List DeskTold). DesksDid o setup limit mid g then 1 (a.desk ∷ a.others) ds) (sym a.after)
       (desks_main o setup limit most mid g then a.desk a.desk' a.others (omega arith) part.main done))
 
   some : 0 < length desks
-  some = (let is = ap (λ (ds : List DeskTells). length ds) a.before in omega (arith, is))
+  some = (let is = ap (λ (ds : List DeskTold). length ds) a.before in omega (arith, is))
 
   calm : IsAtRest mid
   calm = served_calm legal can.calm its.serves.prepared s

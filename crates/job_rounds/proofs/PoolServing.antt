@@ -1,4 +1,5 @@
 -- What a pool's links come to while they serve: the first link alone, or a round, and then their closing.
+use Rattle.ann_outside.specs.Told.{DeskTold}
 use Rattle.std.proofs.Common.{◌≡◌, ℕ, ◌+◌, ◌<◌, List, [], ◌∷◌, ◌++◌, refl, sym, ap, subst, ◌∙◌, length, map, true, inl, inr, slice_index_or, slice_set}
 use Rattle.std.specs.Prelude.{All, Option, Some, None}
 use Rattle.std.specs.List.{range_with_len}
@@ -15,7 +16,7 @@ use Rattle.gathering.specs.Rounds.{IsAtRest, LinkValue}
 use Rattle.child_end.specs.Wires.{IsHeld}
 use Rattle.child_end.proofs.Held.{lone_held}
 use Rattle.task_run.specs.declared.setup.Setup.{Setup}
-use Rattle.lone_work.specs.Works.{CanWork, DeskTells}
+use Rattle.lone_work.specs.Works.{CanWork}
 use Rattle.lone_rounds.specs.Stints.{HasServed}
 use Rattle.crew_round.specs.declared.slot.Refused.{Refused}
 use Rattle.crew_rounds.specs.PoolChildren.{MayServe, PoolCan}
@@ -42,7 +43,7 @@ module _ {L : Type 0} (link : L → LinkValue) (o : Opening) (setup : Setup) (g 
   pub first_works : CanWork o (link x).ear.child g
   first_works = first_can o g (link x) (map link others) its
 
-  pub first_keeps : ((z : L) → (link z).mouth.child ≡ (link z).ear.child) → {desk desk' : DeskTells} → HasServed o setup (link x).ear.child g mid desk desk' → KeepsLink g mid (link x).ear (link y).ear (link x).mouth (link y).mouth
+  pub first_keeps : ((z : L) → (link z).mouth.child ≡ (link z).ear.child) → {desk desk' : DeskTold} → HasServed o setup (link x).ear.child g mid desk desk' → KeepsLink g mid (link x).ear (link y).ear (link x).mouth (link y).mouth
       → All (λ (z : L). IsHeld mid (link z).ear (link z).mouth) (slice_set items 0 y)
   first_keeps one {desk} {desk'} served keeps = subst (λ (ls : List L). All (λ (z : L). IsHeld mid (link z).ear (link z).mouth) (slice_set ls 0 y)) (sym place)
       (all_unmapped (λ (l : LinkValue). IsHeld mid l.ear l.mouth) link (y ∷ others)
@@ -90,7 +91,7 @@ held_then {L} link one cs old new closed xs h =
 
 -- ---- after the main thread's work
 
-module _ (o : Opening) (setup : Setup) (g mid : List Entry) (desks desks' : List DeskTells) where
+module _ (o : Opening) (setup : Setup) (g mid : List Entry) (desks desks' : List DeskTold) where
   served_behind : (ls : List LinkValue) → PoolCan o g ls → ServesFirst o setup ls g mid desks desks' → (rest : List Entry) × (mid ≡ g ++ rest)
   served_behind [] can s = absurd s
   served_behind (l ∷ ls) can s =
@@ -110,7 +111,7 @@ module _ (o : Opening) (setup : Setup) (g mid : List Entry) (desks desks' : List
 
 -- ---- after a round
 
-module _ (o : Opening) (setup : Setup) (g mid : List Entry) (ls ms : List LinkValue) (desks desks' : List DeskTells) (r : RoundsPool o setup g mid ls ms desks desks') where
+module _ (o : Opening) (setup : Setup) (g mid : List Entry) (ls ms : List LinkValue) (desks desks' : List DeskTold) (r : RoundsPool o setup g mid ls ms desks desks') where
   pub rounds_calm : IsAtRest mid
   rounds_calm = subst IsAtRest (sym r.round.1) r.round.2.round.rounded.at_rest
 
@@ -131,7 +132,7 @@ module _ (o : Opening) (setup : Setup) (g mid : List Entry) (ls ms : List LinkVa
 -- ---- the desks of a round
 
 -- the first desks had the round, and the others stand after them again
-pub round_beside : {K : Type 0} (tells : K → DeskTells) (o : Opening) (setup : Setup) (g mid : List Entry) (ls ms : List LinkValue) (all used used' back others : List K) (m : ℕ) → length used ≡ length ls → m ≡ length ls
+pub round_beside : {K : Type 0} (tells : K → DeskTold) (o : Opening) (setup : Setup) (g mid : List Entry) (ls ms : List LinkValue) (all used used' back others : List K) (m : ℕ) → length used ≡ length ls → m ≡ length ls
     → all ≡ used ++ others → back ≡ used' ++ others → GoesOn g mid (λ rest. PoolLeaves o setup (range_with_len 1 (1 + m)) g rest ls ms (map tells used) (map tells used'))
     → RoundsPool o setup g mid ls ms (map tells all) (map tells back)
 round_beside tells o setup g mid ls ms all used used' back others m many numbered before after goes = record {
@@ -146,7 +147,7 @@ round_beside tells o setup g mid ls ms all used used' back others m many numbere
 
 -- ---- where no round began: what was done then was done from before it
 
-module _ {L K : Type 0} (link : L → LinkValue) (tells : K → DeskTells) (o p : Opening) (old mid : List Entry) (ls is : List L) (ks js : List K) (eo : p ≡ o) (ej : mid ≡ old) (el : is ≡ ls) (ek : js ≡ ks) where
+module _ {L K : Type 0} (link : L → LinkValue) (tells : K → DeskTold) (o p : Opening) (old mid : List Entry) (ls is : List L) (ks js : List K) (eo : p ≡ o) (ej : mid ≡ old) (el : is ≡ ls) (ek : js ≡ ks) where
   pub can_kept : PoolCan o old (map link ls) → PoolCan p mid (map link is)
   can_kept can = subst (λ (q : Opening). PoolCan q mid (map link is)) (sym eo) (subst (λ (j : List Entry). PoolCan o j (map link is)) (sym ej) (subst (λ (xs : List L). PoolCan o old (map link xs)) (sym el) can))
 
@@ -156,7 +157,7 @@ module _ {L K : Type 0} (link : L → LinkValue) (tells : K → DeskTells) (o p 
       (subst (λ (xs : List L). All (λ (l : LinkValue). is_started old l.ear.child ≡ true) (map link xs)) (sym el)
       (All-weaker (MayServe o old) (λ (l : LinkValue). is_started old l.ear.child ≡ true) (λ l h. h.serves.started) (map link ls) can.each))
 
-  pub serves_kept : (setup : Setup) (new : List Entry) (desks' : List DeskTells) → ServesOne p setup mid new (map link is) (map tells js) desks' → ServesOne o setup old new (map link ls) (map tells ks) desks'
+  pub serves_kept : (setup : Setup) (new : List Entry) (desks' : List DeskTold) → ServesOne p setup mid new (map link is) (map tells js) desks' → ServesOne o setup old new (map link ls) (map tells ks) desks'
   serves_kept setup new desks' s =
       subst (λ (q : Opening). ServesOne q setup old new (map link ls) (map tells ks) desks') eo
       (subst (λ (j : List Entry). ServesOne p setup j new (map link ls) (map tells ks) desks') ej
@@ -165,10 +166,10 @@ module _ {L K : Type 0} (link : L → LinkValue) (tells : K → DeskTells) (o p 
 
 -- ---- whoever did the tasks
 
-pub by_one : (o : Opening) (setup : Setup) (old new : List Entry) (ls ms : List LinkValue) (desks desks' : List DeskTells) → ServesOne o setup old new ls desks desks' → ServesLinks o setup old new ls ms desks desks'
+pub by_one : (o : Opening) (setup : Setup) (old new : List Entry) (ls ms : List LinkValue) (desks desks' : List DeskTold) → ServesOne o setup old new ls desks desks' → ServesLinks o setup old new ls ms desks desks'
 by_one o setup old new ls ms desks desks' s = record { mid = s.mid; legal = s.legal; done = inr s.done; closes = s.closes }
 
-pub by_either : (alone : Option Refused) (o : Opening) (setup : Setup) (old new : List Entry) (ls ms : List LinkValue) (desks desks' : List DeskTells)
+pub by_either : (alone : Option Refused) (o : Opening) (setup : Setup) (old new : List Entry) (ls ms : List LinkValue) (desks desks' : List DeskTold)
     → ServesLinksUnless alone o setup old new ls ms desks desks' → ServesLinks o setup old new ls ms desks desks'
 by_either None o setup old new ls ms desks desks' s = record { mid = s.mid; legal = s.legal; done = inl s.done; closes = s.closes }
 by_either (Some refused) o setup old new ls ms desks desks' s = by_one o setup old new ls ms desks desks' s

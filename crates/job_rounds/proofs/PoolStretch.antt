@@ -1,4 +1,5 @@
 -- A child of slot 0 that takes no tags: a pool is started after it and does tasks, and all are closed.
+use Rattle.ann_outside.specs.Told.{DeskTold, ProgramsTold}
 use Rattle.std.proofs.Common.{◌≡◌, ◌⊎◌, ℕ, ◌+◌, ◌≤◌, List, [], ◌∷◌, ◌++◌, refl, sym, ap, subst, ◌∙◌, append_assoc, append-nil, length, Bool, true, false, not, ◌==◌, cond, Some, None, Option, arith, inl, inr}
 use Rattle.std.specs.Prelude.{◌&&◌, ◌||◌, filter, nat_le, option_and_then, option_map}
 use Rattle.std.specs.List.{cons_option, last_or, list_all, list_any}
@@ -20,12 +21,11 @@ use Rattle.journal_model.proofs.Testing.{all-join}
 use Rattle.host_core.specs.Steps.{are_all_claimed}
 use Rattle.link_roles.proofs.Linked.{any_narrower}
 use Rattle.child_start.specs.Greetings.{AreNumbered, Greeted, IsReady, is_of_greeting}
-use Rattle.child_end.specs.Programs.{AddsAll, HaveStarted, ProgramsValue, RoseBy, is_failed_start, told, told_in}
+use Rattle.child_end.specs.Programs.{AddsAll, HaveStarted, RoseBy, is_failed_start, told, told_in}
 use Rattle.link_roles.specs.Wires.{WireValue}
 use Rattle.child_end.specs.Wires.{IsOfStart, came, came_in}
 use Rattle.task_run.specs.declared.setup.Setup.{Setup}
 use Rattle.task_run.specs.TaskRuns.{failed_start, gone_answer, or_refusal, refusal_of, unready_answer}
-use Rattle.lone_work.specs.Works.{DeskTells}
 use Rattle.lone_rounds.specs.Starting.{children, is_any_start, is_ready_untagged, started_in}
 use Rattle.lone_rounds.specs.Rounds.{AllLostWell, AllStandNext, NoneUntaken, StandsNext, is_of_run, start_untaken, turn_of}
 use Rattle.lone_rounds.specs.Stints.{AreLinked, MayHaveAsked, in_stint, main_entry}
@@ -208,7 +208,7 @@ module _ (o : Opening) (old g : List Entry) (offer : Bool) (c : ℕ) (greeted : 
 
 -- ---- the stretch
 
-module _ (o : Opening) (setup : Setup) (limit : ℕ) (offer : Bool) (old g new : List Entry) (c : ℕ) (desks desks' : List DeskTells) (whole : Bool)
+module _ (o : Opening) (setup : Setup) (limit : ℕ) (offer : Bool) (old g new : List Entry) (c : ℕ) (desks desks' : List DeskTold) (whole : Bool)
     (greeted : Greeted old g 0 offer c) (legal' : Legal o g) (ready : IsReady g c) (many : length desks ≡ 1 → ⊥) (left : are_all_claimed o old ≡ false) (s : ServesPool o setup limit c g new desks desks' whole) where
   abbrev first : Entry
   first = main_entry (Start c 0 offer)
@@ -296,12 +296,12 @@ module _ (o : Opening) (setup : Setup) (limit : ℕ) (offer : Bool) (old g new :
     shut = λ shut. rest_shut new s.calm;
   }
 
-  pub pool_start : {program : List ℕ} {before after : ProgramsValue} {wires wires' : List WireValue} → StartsAll program new (first ∷ pool_later) before after wires wires'
+  pub pool_start : {program : List ℕ} {before after : ProgramsTold} {wires wires' : List WireValue} → StartsAll program new (first ∷ pool_later) before after wires wires'
       → OneJobStart o setup limit offer pool_next whole program old new desks desks' before after wires wires'
   pool_start objects = job_start pool_later pool_whole objects pool_stretch
 
   -- none is, after one that takes no tags
-  pub untagged_start : {program : List ℕ} {before after : ProgramsValue} {wires wires' : List WireValue} → is_tagged g c ≡ false → StartsAll program new (first ∷ pool_later) before after wires wires'
+  pub untagged_start : {program : List ℕ} {before after : ProgramsTold} {wires wires' : List WireValue} → is_tagged g c ≡ false → StartsAll program new (first ∷ pool_later) before after wires wires'
       → OneJobStart o setup limit offer (offer && false) whole program old new desks desks' before after wires wires'
   untagged_start {program} {before} {after} {wires} {wires'} tag objects =
       subst (λ (next : Bool). OneJobStart o setup limit offer next whole program old new desks desks' before after wires wires') (sym (no_more tag)) (pool_start objects)
@@ -309,10 +309,10 @@ module _ (o : Opening) (setup : Setup) (limit : ℕ) (offer : Bool) (old g new :
 -- ---- the objects
 
 -- The child of slot 0 was started, and then, where programs were asked for what `others` says, its pool.
-module _ (program : List ℕ) (new tail others : List Entry) (c : ℕ) (before mid : ProgramsValue) (ear : EarValue) (mouth : MouthValue) (adds : AddsOne before.starts mid.starts (program, true)) (le : before.faults ≤ mid.faults)
+module _ (program : List ℕ) (new tail others : List Entry) (c : ℕ) (before mid : ProgramsTold) (ear : EarValue) (mouth : MouthValue) (adds : AddsOne before.starts mid.starts (program, true)) (le : before.faults ≤ mid.faults)
     (numbered : AreNumbered mid.starts ear mouth) (is_child : ear.child ≡ c) (came_is : came tail ≡ Some c ∷ came others) (told_is : told program tail ≡ (program, true) ∷ told program others)
     (failed_is : count is_failed_start tail ≡ count is_failed_start others) where
-  pub first_objects : (W : Type 0) (last after : ProgramsValue) (wires wires' : List WireValue) → (l : LeavesPool W program new others ear mouth mid last wires wires') → AddsAll mid.starts after.starts (told program others) → after.faults ≡ last.faults
+  pub first_objects : (W : Type 0) (last after : ProgramsTold) (wires wires' : List WireValue) → (l : LeavesPool W program new others ear mouth mid last wires wires') → AddsAll mid.starts after.starts (told program others) → after.faults ≡ last.faults
       → StartsAll program new tail before after wires wires'
   first_objects W last after wires wires' l all same = record {
     adds = subst (AddsAll before.starts after.starts) (sym told_is) (adds_both before.starts mid.starts after.starts ((program, true) ∷ []) (told program others) (adds_one before.starts mid.starts (program, true) adds) all);
@@ -333,9 +333,9 @@ module _ (program : List ℕ) (new tail others : List Entry) (c : ℕ) (before m
   }
 
 -- after the start there stand entries that start nothing, and then others
-module _ (program : List ℕ) (new more others : List Entry) (c : ℕ) (offer : Bool) (before mid : ProgramsValue) (ear : EarValue) (mouth : MouthValue) (adds : AddsOne before.starts mid.starts (program, true)) (le : before.faults ≤ mid.faults)
+module _ (program : List ℕ) (new more others : List Entry) (c : ℕ) (offer : Bool) (before mid : ProgramsTold) (ear : EarValue) (mouth : MouthValue) (adds : AddsOne before.starts mid.starts (program, true)) (le : before.faults ≤ mid.faults)
     (numbered : AreNumbered mid.starts ear mouth) (is_child : ear.child ≡ c) (none : any is_any_start more ≡ false) where
-  pub its_objects : (W : Type 0) (last after : ProgramsValue) (wires wires' : List WireValue) → LeavesPool W program new others ear mouth mid last wires wires' → AddsAll mid.starts after.starts (told program others) → after.faults ≡ last.faults
+  pub its_objects : (W : Type 0) (last after : ProgramsTold) (wires wires' : List WireValue) → LeavesPool W program new others ear mouth mid last wires wires' → AddsAll mid.starts after.starts (told program others) → after.faults ≡ last.faults
       → StartsAll program new (main_entry (Start c 0 offer) ∷ (more ++ others)) before after wires wires'
   its_objects = first_objects program new (main_entry (Start c 0 offer) ∷ (more ++ others)) others c before mid ear mouth adds le numbered is_child
       (ap (λ (cs : List (Option ℕ)). Some c ∷ cs) (each_of-append came_in more others ∙ ap (λ (cs : List (Option ℕ)). cs ++ came others) (none_came more none)))
@@ -359,13 +359,13 @@ asked_after (Some xs) None more x h = absurd h
 asked_after (Some xs) (Some ys) more x h = h ∙ sym (append_assoc xs more (x ∷ []))
 
 -- the programs, as they told the starts that were made
-pub record Asked (program : List ℕ) (journal : List Entry) (before after : ProgramsValue) : Type 0 where
-  pub mid : ProgramsValue
+pub record Asked (program : List ℕ) (journal : List Entry) (before after : ProgramsTold) : Type 0 where
+  pub mid : ProgramsTold
   pub adds : AddsAll before.starts mid.starts (told program journal)
   pub faults : mid.faults ≡ after.faults
   pub asked : MayHaveAsked program mid after
 
-pub asked_so : (W : Type 0) (program : List ℕ) (journal : List Entry) (before after : ProgramsValue) → HaveStarted W program journal before.starts after.starts → Asked program journal before after
+pub asked_so : (W : Type 0) (program : List ℕ) (journal : List Entry) (before after : ProgramsTold) → HaveStarted W program journal before.starts after.starts → Asked program journal before after
 asked_so W program journal before after (inl h) = record { mid = after; adds = h; faults = refl; asked = (inl (stays_so after.starts), omega arith) }
 asked_so W program journal before after (inr (w, (b, h))) = record {
   mid = record { starts = told_after before.starts (told program journal); faults = after.faults };
@@ -374,6 +374,6 @@ asked_so W program journal before after (inr (w, (b, h))) = record {
   asked = (inr (b, asked_after before.starts after.starts (told program journal) (program, b) h), omega arith);
 }
 
-pub all_told : (W : Type 0) (program : List ℕ) (journal : List Entry) (before after : ProgramsValue) → (W → ⊥) → HaveStarted W program journal before.starts after.starts → AddsAll before.starts after.starts (told program journal)
+pub all_told : (W : Type 0) (program : List ℕ) (journal : List Entry) (before after : ProgramsTold) → (W → ⊥) → HaveStarted W program journal before.starts after.starts → AddsAll before.starts after.starts (told program journal)
 all_told W program journal before after none (inl h) = h
 all_told W program journal before after none (inr (w, h)) = absurd (none w)

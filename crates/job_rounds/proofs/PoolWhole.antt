@@ -1,4 +1,5 @@
 -- What a pool leaves in the journal, from its gathering to its closing.
+use Rattle.ann_outside.specs.Told.{DeskTold, ProgramsTold}
 use Rattle.std.proofs.Common.{◌≡◌, ◌⊎◌, ℕ, zero, suc, ◌+◌, ◌<◌, ◌≤◌, List, [], ◌∷◌, ◌++◌, refl, sym, ap, subst, ◌∙◌, append_assoc, append-nil, length, Bool, true, false, not, ◌==◌, None, Option, arith, inl, inr}
 use Rattle.std.specs.Prelude.{◌||◌, All, nat_le}
 use Rattle.std.specs.List.{list_all, list_any}
@@ -16,14 +17,12 @@ use Rattle.journal_model.proofs.Looks.{any-append, each_of-append}
 use Rattle.journal_model.proofs.Testing.{all-each, all-join, any-more, by_either}
 use Rattle.host_core.specs.Steps.{are_all_claimed}
 use Rattle.link_roles.proofs.Linked.{any_narrower}
-use Rattle.child_end.specs.Programs.{ProgramsValue}
 use Rattle.link_roles.specs.Wires.{WireValue}
 use Rattle.child_end.specs.Wires.{came}
 use Rattle.child_start.proofs.Begun.{later_unstarted}
 use Rattle.gathering.specs.Laws.{Distinct, children_of}
 use Rattle.gathering.specs.Rounds.{LinkValue}
 use Rattle.task_run.specs.declared.setup.Setup.{Setup}
-use Rattle.lone_work.specs.Works.{DeskTells}
 use Rattle.journal_model.proofs.Holding.{claimed}
 use Rattle.lone_rounds.specs.Rounds.{AllLostWell, is_of_run}
 use Rattle.lone_rounds.specs.Starting.{children, is_any_start, started_in}
@@ -100,7 +99,7 @@ pool_can o journal first tagged h = record {
     alone zero (suc j) c x y = absurd cc
     alone (suc i) j c x y = absurd cc
 
-module _ (o : Opening) (setup : Setup) (limit : ℕ) (old g mid new : List Entry) (first : LinkValue) (links : List LinkValue) (desks desks' : List DeskTells) (whole : Bool)
+module _ (o : Opening) (setup : Setup) (limit : ℕ) (old g mid new : List Entry) (first : LinkValue) (links : List LinkValue) (desks desks' : List DeskTold) (whole : Bool)
     (starts : Option Starts) (seats : List SeatValue) (its : first.ear.child ≡ count is_start old) (legal : Legal o old) (at : Gathered o (length desks) old g first links whole)
     (seated : AreSeated starts g 0 (came at.later) seats links) where
   abbrev c : ℕ
@@ -236,7 +235,7 @@ module _ (o : Opening) (setup : Setup) (limit : ℕ) (old g mid new : List Entry
         (desks_nothing o setup limit new (g ++ m.rest) k.tail 1 desks' (closings_take k))))
 
     -- with what is left of the objects
-    pub pool_served : {wanted : Type 0} {program : List ℕ} {before after : ProgramsValue} {wires wires' : List WireValue}
+    pub pool_served : {wanted : Type 0} {program : List ℕ} {before after : ProgramsTold} {wires wires' : List WireValue}
         → ((more : List Entry) → new ≡ g ++ more → any is_any_start more ≡ false → LeavesPool wanted program new (at.later ++ more) first.ear first.mouth before after wires wires')
         → PoolServed wanted o setup limit program old new desks desks' whole first.ear first.mouth before after wires wires'
     pool_served leaves = (

@@ -1,4 +1,5 @@
 -- What a pool leaves of its objects: a wire for each child, in the order of their starts, and the starts that were told.
+use Rattle.ann_outside.specs.Told.{ProgramsTold}
 use Rattle.std.proofs.Common.{◌≡◌, ◌⊎◌, ℕ, ◌+◌, ◌<◌, ◌≤◌, List, [], ◌∷◌, ◌++◌, refl, sym, ap, subst, ◌∙◌, append-nil, Bool, false, ◌==◌, Some, None, Option, arith, inl, inr}
 use Rattle.std.specs.Prelude.{All}
 use Rattle.std.specs.List.{list_any}
@@ -12,7 +13,7 @@ use Rattle.journal_model.specs.Legality.{count}
 use Rattle.journal_model.specs.Shares.{is_of_child}
 use Rattle.journal_model.proofs.Looks.{each_of-append}
 use Rattle.link_roles.proofs.Linked.{any_narrower}
-use Rattle.child_end.specs.Programs.{AddsAll, HaveStarted, ProgramsValue, RoseBy, is_failed_start, told, told_in}
+use Rattle.child_end.specs.Programs.{AddsAll, HaveStarted, RoseBy, is_failed_start, told, told_in}
 use Rattle.link_roles.specs.Wires.{IsLeft, WireValue}
 use Rattle.child_end.specs.Wires.{IsHeld, IsOfStart, came, came_in}
 use Rattle.child_end.proofs.Held.{held_apart}
@@ -120,7 +121,7 @@ pub record Settled (new : List Entry) (first : LinkValue) (links links' : List L
   pub held : All (λ (l : LinkValue). IsHeld new l.ear l.mouth) links'
   pub one : All (λ (l : LinkValue). l.mouth.child ≡ l.ear.child) links'
 
-pub leaves_pool : {wanted wanted' : Type 0} (program : List ℕ) (g new gl more : List Entry) (first : LinkValue) (links links' : List LinkValue) (others : List SeatValue) (m : ℕ) (before mid after : ProgramsValue) (wires wires' : List WireValue)
+pub leaves_pool : {wanted wanted' : Type 0} (program : List ℕ) (g new gl more : List Entry) (first : LinkValue) (links links' : List LinkValue) (others : List SeatValue) (m : ℕ) (before mid after : ProgramsTold) (wires wires' : List WireValue)
     → (wanted → wanted') → any is_any_start more ≡ false → first.ear.child ≤ m → Ascends m (came gl) → AreSeated before.starts g 0 (came gl) others links → HaveStarted wanted program gl before.starts mid.starts
     → RoseBy (count is_failed_start gl) before.faults mid.faults → before.faults ≤ mid.faults → Stays mid.starts after.starts → mid.faults ≤ after.faults → Settled new first links links' others wires wires'
     → ((c k : ℕ) (wire : WireValue) → wire.child ≡ c → list_any (λ (l : LinkValue). l.ear.child == c) (first ∷ links) ≡ false → IsLinked before.starts g k wire → IsLinked before.starts new k wire)

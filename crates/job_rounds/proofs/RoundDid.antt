@@ -1,5 +1,6 @@
 -- What a round over a tagged child leaves, as a run says it: what the desks did, that it made entries of its child alone, what its
 -- jobs are, and that the child is spent where tasks are left.
+use Rattle.ann_outside.specs.Told.{DeskTold}
 use Rattle.std.proofs.Common.{◌≡◌, zero, suc, ℕ, ◌+◌, ◌-◌, ◌<◌, ◌≤◌, List, [], ◌∷◌, ◌++◌, refl, sym, ap, subst, ◌∙◌, Bool, true, false, not, ◌==◌, cond, Some, None, Option, ◌⊎◌, inl, inr, length, length-append, append_assoc, arith}
 use Rattle.std.specs.Prelude.{◌&&◌, ◌||◌, nat_lt, filter, is_some}
 use Rattle.std.specs.List.{list_all, list_any, cons_option, range_with_len}
@@ -25,7 +26,7 @@ use Rattle.task_run.specs.TaskRuns.{refusal_of}
 use Rattle.gathering.specs.Tasks.{claimed_turn, turns_by}
 use Rattle.child_start.specs.Greetings.{asks_for}
 use Rattle.child_start.specs.declared.greeting.Mode.TheVariants.{Serve}
-use Rattle.lone_work.specs.Works.{DeskTells, TaskDone}
+use Rattle.lone_work.specs.Works.{TaskDone}
 use Rattle.lone_rounds.specs.Starting.{is_spent, is_unclosed}
 use Rattle.lone_rounds.specs.Rounds.{is_of_run}
 use Rattle.lone_rounds.specs.Stints.{in_stint}
@@ -252,7 +253,7 @@ module _ (o : Opening) (setup : Setup) (limit shift : ℕ) (start rest : List En
   all_done n [] h = tt
   all_done n (r ∷ rs) h = (inl (record { number = n; run = h.0.run; child = h.0.child; answer = h.0.answer }), all_done n rs h.1)
 
-  desk_did : (k n : ℕ) → n ≡ k + shift → (done : List TaskDone) (d e : DeskTells) → CrewDid o setup start rest n done d e → DeskDid o setup limit journal start rest k d e
+  desk_did : (k n : ℕ) → n ≡ k + shift → (done : List TaskDone) (d e : DeskTold) → CrewDid o setup start rest n done d e → DeskDid o setup limit journal start rest k d e
   desk_did k n is done d e did = record {
     done = done;
     claimed = sym did.claimed ∙ ap (λ (m : ℕ). turns_by m start rest) is ∙ sym (claimed_so k);
@@ -261,7 +262,7 @@ module _ (o : Opening) (setup : Setup) (limit shift : ℕ) (start rest : List En
     caused = did.caused;
   }
 
-  each_did : (k n : ℕ) → n ≡ k + shift → (rests : List (List TaskDone)) (ds es : List DeskTells) → CrewDesks o setup start rest n rests ds es → DesksDid o setup limit journal start rest k ds es
+  each_did : (k n : ℕ) → n ≡ k + shift → (rests : List (List TaskDone)) (ds es : List DeskTold) → CrewDesks o setup start rest n rests ds es → DesksDid o setup limit journal start rest k ds es
   each_did k n is [] [] [] did = tt
   each_did k n is [] [] (e ∷ es) did = absurd did
   each_did k n is [] (d ∷ ds) es did = absurd did
@@ -272,11 +273,11 @@ module _ (o : Opening) (setup : Setup) (limit shift : ℕ) (start rest : List En
     each_did (k + 1) (n + 1) (omega (arith, is)) rests ds es did.1,
   )
 
-  pub any_round_did : (dones : List (List TaskDone)) (desks desks' : List DeskTells) → CrewDesks o setup start rest (1 + shift) dones desks desks' → DesksDid o setup limit (start ++ rest) start rest 1 desks desks'
+  pub any_round_did : (dones : List (List TaskDone)) (desks desks' : List DeskTold) → CrewDesks o setup start rest (1 + shift) dones desks desks' → DesksDid o setup limit (start ++ rest) start rest 1 desks desks'
   any_round_did dones desks desks' did = each_did 1 (1 + shift) refl dones desks desks' did
 
 -- Each turn that was claimed in a round over a tagged child is done, by its desk.
-pub round_did : (o : Opening) (setup : Setup) (limit : ℕ) (numbers : List ℕ) (start rest : List Entry) (l : LinkValue) (desks desks' : List DeskTells) → is_tagged start l.ear.child ≡ true
+pub round_did : (o : Opening) (setup : Setup) (limit : ℕ) (numbers : List ℕ) (start rest : List Entry) (l : LinkValue) (desks desks' : List DeskTold) → is_tagged start l.ear.child ≡ true
     → TaggedLeaves o setup numbers start rest l desks desks' → DesksDid o setup limit (start ++ rest) start rest 1 desks desks'
 round_did o setup limit numbers start rest l desks desks' tag leaves =
     any_round_did o setup limit 3 start rest (λ k. claims_same l.ear.child k start rest tag leaves.round.rounded.posts) leaves.dones desks desks' leaves.desks_did

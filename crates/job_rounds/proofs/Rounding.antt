@@ -1,4 +1,5 @@
 -- A child that takes tags: a round of workers does tasks over it, and it is closed.
+use Rattle.ann_outside.specs.Told.{DeskTold, ProgramsTold}
 use Rattle.std.proofs.Common.{◌≡◌, ◌⊎◌, ℕ, ◌+◌, ◌≤◌, List, [], ◌∷◌, ◌++◌, refl, sym, ap, subst, ◌∙◌, append_assoc, length, Bool, true, false, not, arith, inl, inr}
 use Rattle.std.specs.Prelude.{◌&&◌, ◌||◌, ◌==◌}
 use Rattle.std.specs.List.{list_all, range_with_len}
@@ -14,10 +15,8 @@ use Rattle.gathering.specs.Posts.{makes, tagged_crew}
 use Rattle.gathering.specs.Rounds.{IsAtRest}
 use Rattle.crew_rounds.specs.TaggedRounds.{TaggedLeaves}
 use Rattle.child_start.specs.Greetings.{Greeted, IsReady}
-use Rattle.child_end.specs.Programs.{ProgramsValue}
 use Rattle.link_roles.specs.Wires.{WireValue}
 use Rattle.task_run.specs.declared.setup.Setup.{Setup}
-use Rattle.lone_work.specs.Works.{DeskTells}
 use Rattle.journal_model.proofs.Holding.{claimed}
 use Rattle.lone_rounds.specs.Starting.{is_any_start, is_ready_untagged, is_spent}
 use Rattle.lone_rounds.specs.Rounds.{AllLostWell, NoneUntaken, is_of_run}
@@ -38,7 +37,7 @@ use Rattle.job_rounds.proofs.Stretching.{behind_first, closed_idle, job_start, m
 use Rattle.std.proofs.lemmas.Bool.{and_parts as both}
 use Rattle.pool_starts.proofs.Own.{rest_shut}
 
-module _ (o : Opening) (setup : Setup) (limit : ℕ) (offer tagged : Bool) (old g new : List Entry) (c : ℕ) (desks desks' : List DeskTells)
+module _ (o : Opening) (setup : Setup) (limit : ℕ) (offer tagged : Bool) (old g new : List Entry) (c : ℕ) (desks desks' : List DeskTold)
     (legal : Legal o old) (left : are_all_claimed o old ≡ false) (greeted : Greeted old g 0 offer c) (legal' : Legal o g) (ready : IsReady g c) (tag : tagged ≡ is_tagged g c) (s : ServesRound o setup c g new desks desks') where
   abbrev first : Entry
   first = main_entry (Start c 0 offer)
@@ -170,12 +169,12 @@ module _ (o : Opening) (setup : Setup) (limit : ℕ) (offer tagged : Bool) (old 
       (λ one. absurd (s.many one)) (λ shut. subst (λ (n : ℕ). open_jobs new n ≡ []) greeted.next idle)
       (served_manned o n offer old g new c legal' greeted ready (rest ++ k.tail) behind (inr s.tagged) end_within) posts
 
-  pub round_start : {program : List ℕ} {before after : ProgramsValue} {wires wires' : List WireValue} (full : Bool) → ((xs : List Entry) → any is_any_start xs ≡ false → StartsAll program new (first ∷ xs) before after wires wires')
+  pub round_start : {program : List ℕ} {before after : ProgramsTold} {wires wires' : List WireValue} (full : Bool) → ((xs : List Entry) → any is_any_start xs ≡ false → StartsAll program new (first ∷ xs) before after wires wires')
       → OneJobStart o setup limit offer (offer && tagged) full program old new desks desks' before after wires wires'
   round_start full objects = job_start later whole (objects later (starts_none stretch)) (round_stretch full)
 
 -- by the main thread alone
-module _ (o : Opening) (setup : Setup) (limit : ℕ) (offer tagged : Bool) (old g new : List Entry) (c : ℕ) (desk desk' : DeskTells) (others : List DeskTells)
+module _ (o : Opening) (setup : Setup) (limit : ℕ) (offer tagged : Bool) (old g new : List Entry) (c : ℕ) (desk desk' : DeskTold) (others : List DeskTold)
     (legal : Legal o old) (left : are_all_claimed o old ≡ false) (greeted : Greeted old g 0 offer c) (legal' : Legal o g) (ready : IsReady g c) (tag : tagged ≡ is_tagged g c) (served : HasServed o setup c g new desk desk')
     (few : (length (desk ∷ others) ≡ 1) ⊎ (is_tagged g c ≡ true)) where
   stint : Stint o setup (more_than new) offer (offer && tagged) (Start c 0 offer) old new desk desk'
@@ -201,18 +200,18 @@ module _ (o : Opening) (setup : Setup) (limit : ℕ) (offer tagged : Bool) (old 
       (λ shut. served_idle o setup c (next_child old) g new desk desk' greeted.next served)
       (served_manned o (length (desk ∷ others)) offer old g new c legal' greeted ready (served.worked.more ++ closes.tail) grown few grown_within)
 
-  pub alone_start : {program : List ℕ} {before after : ProgramsValue} {wires wires' : List WireValue} (full : Bool) → ((xs : List Entry) → any is_any_start xs ≡ false → StartsAll program new (main_entry (Start c 0 offer) ∷ xs) before after wires wires')
+  pub alone_start : {program : List ℕ} {before after : ProgramsTold} {wires wires' : List WireValue} (full : Bool) → ((xs : List Entry) → any is_any_start xs ≡ false → StartsAll program new (main_entry (Start c 0 offer) ∷ xs) before after wires wires')
       → OneJobStart o setup limit offer (offer && tagged) full program old new (desk ∷ others) (desk' ∷ others) before after wires wires'
   alone_start full objects = job_start stint.stretch.later stint.stretch.is (objects stint.stretch.later (starts_none stint.stretch)) (alone_stretch full)
 
 -- a child that is ready: tasks were done over it, by one worker or by a round
-pub served_start : (o : Opening) (setup : Setup) (limit : ℕ) (offer tagged : Bool) (old g new : List Entry) (c : ℕ) (desks desks' : List DeskTells) {program : List ℕ} {before after : ProgramsValue} {wires wires' : List WireValue} (full : Bool)
+pub served_start : (o : Opening) (setup : Setup) (limit : ℕ) (offer tagged : Bool) (old g new : List Entry) (c : ℕ) (desks desks' : List DeskTold) {program : List ℕ} {before after : ProgramsTold} {wires wires' : List WireValue} (full : Bool)
     → Legal o old → are_all_claimed o old ≡ false → Greeted old g 0 offer c → Legal o g → IsReady g c → tagged ≡ is_tagged g c → Serves o setup c g new desks desks' → (length desks ≡ 1) ⊎ (is_tagged g c ≡ true)
     → ((xs : List Entry) → any is_any_start xs ≡ false → StartsAll program new (main_entry (Start c 0 offer) ∷ xs) before after wires wires')
     → OneJobStart o setup limit offer (offer && tagged) full program old new desks desks' before after wires wires'
 served_start o setup limit offer tagged old g new c desks desks' {program} {before} {after} {wires} {wires'} full legal left greeted legal' ready tag (inl a) few objects =
-    subst (λ (ds : List DeskTells). OneJobStart o setup limit offer (offer && tagged) full program old new ds desks' before after wires wires') (sym a.before)
-    (subst (λ (es : List DeskTells). OneJobStart o setup limit offer (offer && tagged) full program old new (a.desk ∷ a.others) es before after wires wires') (sym a.after)
-    (alone_start o setup limit offer tagged old g new c a.desk a.desk' a.others legal left greeted legal' ready tag a.served (subst (λ (ds : List DeskTells). (length ds ≡ 1) ⊎ (is_tagged g c ≡ true)) a.before few) full objects))
+    subst (λ (ds : List DeskTold). OneJobStart o setup limit offer (offer && tagged) full program old new ds desks' before after wires wires') (sym a.before)
+    (subst (λ (es : List DeskTold). OneJobStart o setup limit offer (offer && tagged) full program old new (a.desk ∷ a.others) es before after wires wires') (sym a.after)
+    (alone_start o setup limit offer tagged old g new c a.desk a.desk' a.others legal left greeted legal' ready tag a.served (subst (λ (ds : List DeskTold). (length ds ≡ 1) ⊎ (is_tagged g c ≡ true)) a.before few) full objects))
 served_start o setup limit offer tagged old g new c desks desks' full legal left greeted legal' ready tag (inr s) few objects =
     round_start o setup limit offer tagged old g new c desks desks' legal left greeted legal' ready tag s full objects

@@ -1,4 +1,5 @@
 -- One start of slot 0 and what follows it, over one child at a time.
+use Rattle.ann_outside.specs.Told.{DeskTold, ProgramsTold}
 use Rattle.std.proofs.Common.{◌≡◌, ◌⊎◌, ℕ, ◌+◌, ◌<◌, List, [], ◌∷◌, ◌++◌, refl, sym, ap, subst, ◌∙◌, append_assoc, append-nil, length, Bool, true, false, not, Some, None, arith, inl, inr}
 use Rattle.std.specs.Prelude.{◌&&◌, Option, is_some}
 use Rattle.std.specs.Option.{option_or}
@@ -28,11 +29,10 @@ use Rattle.gathering.specs.Rounds.{IsAtRest}
 use Rattle.child_start.specs.Greetings.{Greeted, IsReady, is_of_greeting}
 use Rattle.child_start.proofs.Begun.{later_unstarted}
 use Rattle.child_start.proofs.Jobs.{idle_on}
-use Rattle.child_end.specs.Programs.{ProgramsValue}
 use Rattle.link_roles.specs.Wires.{WireValue}
 use Rattle.lone_work.specs.KnownLayouts.{IsBook}
 use Rattle.task_run.specs.declared.setup.Setup.{Setup}
-use Rattle.lone_work.specs.Works.{CanWork, DeskTells}
+use Rattle.lone_work.specs.Works.{CanWork}
 use Rattle.lone_rounds.specs.Starting.{children, is_any_start, is_ready_untagged, is_spent, is_unclosed, started_in}
 use Rattle.lone_rounds.specs.Stints.{AnswersOne, HasServed, IsStart, Stint, Stretch, TurnsAway, in_stint, main_entry, next_child}
 use Rattle.lone_rounds.proofs.Apart.{no_start_in}
@@ -116,7 +116,7 @@ front_quiet more front rest quiet split = any_none is_quiet is_any_start quiet_s
     (sym (list_all-append (λ (e : Entry). is_quiet e.what) front rest) ∙ ap (list_all (λ (e : Entry). is_quiet e.what)) (sym split) ∙ quiet)).0
 
 -- the stretch, and the objects of the same entries
-pub job_start : {o : Opening} {setup : Setup} {limit : ℕ} {offer next whole : Bool} {program : List ℕ} {first : What} {old new : List Entry} {desks desks' : List DeskTells} {before after : ProgramsValue} {wires wires' : List WireValue}
+pub job_start : {o : Opening} {setup : Setup} {limit : ℕ} {offer next whole : Bool} {program : List ℕ} {first : What} {old new : List Entry} {desks desks' : List DeskTold} {before after : ProgramsTold} {wires wires' : List WireValue}
     (later : List Entry) → new ≡ old ++ main_entry first ∷ later → StartsAll program new (main_entry first ∷ later) before after wires wires' → JobStretch o setup limit offer next first old new desks desks' whole
     → OneJobStart o setup limit offer next whole program old new desks desks' before after wires wires'
 job_start {o} {setup} {limit} {offer} {next} {whole} {program} {first} {old} {new} {desks} {desks'} {before} {after} {wires} {wires'} later is objects s =
@@ -129,7 +129,7 @@ module _ {o : Opening} {offer next : Bool} {first : What} {old new : List Entry}
   one_child : children (main_entry first ∷ s.later) ≡ children (main_entry first ∷ [])
   one_child = ap (λ (ds : List ℕ). cons_option (started_in first) ds) (no_children s.later (starts_none s))
 
-  pub stretch_job : (setup : Setup) (limit : ℕ) (desks desks' : List DeskTells) (whole : Bool) → AllInTurn o (length desks) (old ++ main_entry first ∷ []) s.later → HaveDesks (length desks) (old ++ main_entry first ∷ []) s.later
+  pub stretch_job : (setup : Setup) (limit : ℕ) (desks desks' : List DeskTold) (whole : Bool) → AllInTurn o (length desks) (old ++ main_entry first ∷ []) s.later → HaveDesks (length desks) (old ++ main_entry first ∷ []) s.later
       → DesksDid o setup limit new (old ++ main_entry first ∷ []) s.later 1 desks desks' → (length desks ≡ 1 → are_by 0 s.later ≡ true) → (AreShut old → open_jobs new (next_child old) ≡ [])
       → IsManned o (length desks) new → AllPosted (old ++ main_entry first ∷ []) s.later → JobStretch o setup limit offer next first old new desks desks' whole
   stretch_job setup limit desks desks' whole turn placed did alone idle manned posts = record {
@@ -167,7 +167,7 @@ more_than journal = count is_any_start journal + 1
 -- ---- by the main thread alone
 
 module _ (o : Opening) (setup : Setup) (limit : ℕ) (offer next : Bool) (first : What) (old new : List Entry) where
-  pub stint_job : (desk desk' : DeskTells) (others : List DeskTells) (s : Stint o setup (more_than new) offer next first old new desk desk') → (whole : Bool)
+  pub stint_job : (desk desk' : DeskTold) (others : List DeskTold) (s : Stint o setup (more_than new) offer next first old new desk desk') → (whole : Bool)
       → AllInTurn o (length (desk ∷ others)) (old ++ main_entry first ∷ []) s.stretch.later → (AreShut old → open_jobs new (next_child old) ≡ []) → IsManned o (length (desk ∷ others)) new
       → JobStretch o setup limit offer next first old new (desk ∷ others) (desk' ∷ others) whole
   stint_job desk desk' others s whole turn idle manned =
@@ -177,7 +177,7 @@ module _ (o : Opening) (setup : Setup) (limit : ℕ) (offer next : Bool) (first 
       (λ one. s.main) idle manned (posted_main (old ++ main_entry first ∷ []) s.stretch.later s.main)
 
   -- where no desk is used
-  pub stint_any : (desks : List DeskTells) → 0 < length desks → ((d : DeskTells) → Stint o setup (more_than new) offer next first old new d d) → (whole : Bool) → QuietStretch old new first
+  pub stint_any : (desks : List DeskTold) → 0 < length desks → ((d : DeskTold) → Stint o setup (more_than new) offer next first old new d d) → (whole : Bool) → QuietStretch old new first
       → (AreShut old → open_jobs new (next_child old) ≡ []) → JobStretch o setup limit offer next first old new desks desks whole
   stint_any [] some f whole q idle = absurd (let bad : ⊥ = omega (arith, some) in bad)
   stint_any (d ∷ ds) some f whole q idle = stint_job d d ds (f d) whole (quiet_turns o (length (d ∷ ds)) q (f d).stretch.later (f d).stretch.is) idle (quiet_manned o (length (d ∷ ds)) q)
@@ -307,7 +307,7 @@ closed_idle c mid new h idle =
     let k : Closing c mid new = closing c mid new h in
     ap (λ (j : List Entry). open_jobs j c) k.is ∙ idle_on mid k.tail c (of_closing c k.tail k.one (λ (x : List Entry). asked_jobs x c ≡ []) refl refl) idle
 
-pub served_idle : (o : Opening) (setup : Setup) (c n : ℕ) (g new : List Entry) (desk desk' : DeskTells) → c ≡ n → HasServed o setup c g new desk desk' → open_jobs new n ≡ []
+pub served_idle : (o : Opening) (setup : Setup) (c n : ℕ) (g new : List Entry) (desk desk' : DeskTold) → c ≡ n → HasServed o setup c g new desk desk' → open_jobs new n ≡ []
 served_idle o setup c n g new desk desk' is s = subst (λ (k : ℕ). open_jobs new k ≡ []) is (closed_idle c s.mid new s.closes s.can.idle)
 
 pub away_idle : (o : Opening) (c n : ℕ) (g new : List Entry) (answer : Answer) → c ≡ n → open_jobs g c ≡ [] → TurnsAway o c g new answer → open_jobs new n ≡ []

@@ -1,4 +1,5 @@
 -- The laws of a run by many workers.
+use Rattle.ann_outside.specs.Told.{DeskTold}
 use Rattle.std.proofs.Common.{◌≡◌, ℕ, ◌+◌, ◌<◌, List, [], ◌∷◌, ◌++◌, refl, true, Some, None, Option, inl, inr}
 use Rattle.std.specs.Prelude.{All, is_some}
 use Rattle.std.proofs.lemmas.List.Elements.{All-cons, All-head, All-nil, All-tail}
@@ -7,7 +8,7 @@ use Rattle.journal_model.specs.declared.entry.Entry.{Entry}
 use Rattle.journal_model.specs.declared.opening.Opening.{Opening}
 use Rattle.journal_model.specs.Legality.{Legal}
 use Rattle.task_run.specs.declared.setup.Setup.{Setup}
-use Rattle.lone_work.specs.Works.{DeskTells, TaskDone}
+use Rattle.lone_work.specs.Works.{TaskDone}
 use Rattle.task_laws.specs.LoneWell.{AreKeysRead, ChildrenWell, IsDeskWell, IsDoneWell}
 use Rattle.task_laws.specs.RunWell.{AreAskedWell}
 use Rattle.task_laws.proofs.FilesStored.{file_keeps_stored, file_keeps_content}
@@ -50,7 +51,7 @@ module _ (o : Opening) (setup : Setup) (limit : ℕ) (journal : List Entry) wher
     both [] ys h k = k
     both (x ∷ xs) ys h k = All-cons (IsDoneWell o) x (xs ++ ys) (All-head (IsDoneWell o) x xs h) (both xs ys (All-tail (IsDoneWell o) x xs h) k)
 
-    desks_well : (past entries : List Entry) (k : ℕ) (ds es : List DeskTells) (did : DesksDid o setup limit journal past entries k ds es) → All Well (all_done o setup limit journal past entries k ds es did)
+    desks_well : (past entries : List Entry) (k : ℕ) (ds es : List DeskTold) (did : DesksDid o setup limit journal past entries k ds es) → All Well (all_done o setup limit journal past entries k ds es did)
         → All (IsDoneWell o) (all_done o setup limit journal past entries k ds es did)
     desks_well past entries k [] [] did h = All-nil (IsDoneWell o)
     desks_well past entries k [] (e ∷ es) did h = absurd did
@@ -59,7 +60,7 @@ module _ (o : Opening) (setup : Setup) (limit : ℕ) (journal : List Entry) wher
         let rest : List TaskDone = all_done o setup limit journal past entries (k + 1) ds es did.1 in
         both did.0.done rest (all_well did.0.done (front did.0.done rest h) did.0.ran) (desks_well past entries (k + 1) ds es did.1 (back did.0.done rest h))
 
-pub jobs_succeed : (o : Opening) (setup : Setup) (limit : ℕ) (journal past entries : List Entry) (k : ℕ) (desks desks' : List DeskTells) → JobsSucceed o setup limit journal past entries k desks desks'
+pub jobs_succeed : (o : Opening) (setup : Setup) (limit : ℕ) (journal past entries : List Entry) (k : ℕ) (desks desks' : List DeskTold) → JobsSucceed o setup limit journal past entries k desks desks'
 jobs_succeed o setup limit journal past entries k desks desks' did w = desks_well o setup limit journal w.starts w.keys w.children w.asked past entries k desks desks' did w.desks
 
 pub jobs_keep : (o : Opening) (setup : Setup) (journal : List Entry) → Legal o journal → JobsKeep o setup journal

@@ -1,4 +1,5 @@
 -- The files before and after each turn of a task of a run, where its desks tell theirs.
+use Rattle.ann_outside.specs.Told.{DeskTold}
 use Rattle.std.proofs.Common.{◌≡◌, ◌∙◌, ◌⊎◌, inl, inr, ℕ, zero, suc, ◌+◌, ◌≤◌, ◌==◌, Bool, true, false, not, List, [], ◌∷◌, ◌++◌, length, refl, sym, ap, subst, arith, append-nil, append_assoc}
 use Rattle.std.specs.Prelude.{◌&&◌, ◌||◌, nat_lt, if◌then◌else◌, map, All, Option, Some, None, option_map, unwrap_or, cond}
 use Rattle.std.specs.List.{cons_option}
@@ -24,7 +25,7 @@ use Rattle.journal_model.proofs.Looks.{entry}
 use Rattle.journal_model.proofs.Working.{claimed_free, claims_counted, count-append, due_untasked, one_if, unclaimed_in}
 use Rattle.task_run.specs.declared.setup.Setup.{Setup}
 use Rattle.task_run.specs.declared.turn.TaskTurn.{TaskTurn}
-use Rattle.lone_work.specs.Works.{DeskTells, TaskDone, all_calls, turns_of}
+use Rattle.lone_work.specs.Works.{TaskDone, all_calls, turns_of}
 use Rattle.task_laws.specs.Faithful.{Told, AreInTurn}
 use Rattle.task_laws.specs.ToldDesks.{AreToldFrom, IsToldAt, turn_done}
 use Rattle.job_rounds.specs.Desks.{DesksDid, claimed_for, claims_for, desk_of}
@@ -415,21 +416,21 @@ desk_row done (Some log) log' now blank g p =
     by_origin None n h = tt
 
 module _ (o : Opening) (setup : Setup) (limit : ℕ) (journal : List Entry) where
-  abbrev RowsAt : (past entries : List Entry) (k : ℕ) (ds es : List DeskTells) → DesksDid o setup limit journal past entries k ds es → List (Option Files) → Type 0
+  abbrev RowsAt : (past entries : List Entry) (k : ℕ) (ds es : List DeskTold) → DesksDid o setup limit journal past entries k ds es → List (Option Files) → Type 0
   RowsAt past entries k [] [] did files = Unit {0}
   RowsAt past entries k [] (e ∷ es) did files = Unit {0}
   RowsAt past entries k (d ∷ ds) [] did files = Unit {0}
   RowsAt past entries k (d ∷ ds) (e ∷ es) did [] = Unit {0}
   RowsAt past entries k (d ∷ ds) (e ∷ es) did (now ∷ more) = DeskRows did.0.done (begun e.log) now × RowsAt past entries (k + 1) ds es did.1 more
 
-  abbrev all_rows : (past entries : List Entry) (k : ℕ) (ds es : List DeskTells) (did : DesksDid o setup limit journal past entries k ds es) (files : List (Option Files)) → RowsAt past entries k ds es did files → List Row
+  abbrev all_rows : (past entries : List Entry) (k : ℕ) (ds es : List DeskTold) (did : DesksDid o setup limit journal past entries k ds es) (files : List (Option Files)) → RowsAt past entries k ds es did files → List Row
   all_rows past entries k [] [] did files r = []
   all_rows past entries k [] (e ∷ es) did files r = []
   all_rows past entries k (d ∷ ds) [] did files r = []
   all_rows past entries k (d ∷ ds) (e ∷ es) did [] r = []
   all_rows past entries k (d ∷ ds) (e ∷ es) did (now ∷ more) r = rows_in did.0.done (begun e.log) now r.0 ++ all_rows past entries (k + 1) ds es did.1 more r.1
 
-  few_rows : (past entries : List Entry) (k : ℕ) (ds es : List DeskTells) (did : DesksDid o setup limit journal past entries k ds es) (files : List (Option Files)) (r : RowsAt past entries k ds es did files) (t : TaskTurn)
+  few_rows : (past entries : List Entry) (k : ℕ) (ds es : List DeskTold) (did : DesksDid o setup limit journal past entries k ds es) (files : List (Option Files)) (r : RowsAt past entries k ds es did files) (t : TaskTurn)
       → occurs t (turns_in (all_rows past entries k ds es did files r)) ≤ used (length ds) k past entries t
   few_rows past entries k [] [] did files r t = omega arith
   few_rows past entries k [] (e ∷ es) did files r t = omega arith
@@ -444,7 +445,7 @@ module _ (o : Opening) (setup : Setup) (limit : ℕ) (journal : List Entry) wher
       ∙ occurs_both t (turns_in (rows_in did.0.done (begun e.log) now r.0)) (turns_in (all_rows past entries (k + 1) ds es did.1 more r.1)) in
       omega (arith, here, own, later, sum)
 
-  all_told : (all : List Row) → ((t : TaskTurn) → occurs t (turns_in all) ≤ 1) → (past entries : List Entry) (k : ℕ) (ds es : List DeskTells) (did : DesksDid o setup limit journal past entries k ds es) (files : List (Option Files))
+  all_told : (all : List Row) → ((t : TaskTurn) → occurs t (turns_in all) ≤ 1) → (past entries : List Entry) (k : ℕ) (ds es : List DeskTold) (did : DesksDid o setup limit journal past entries k ds es) (files : List (Option Files))
       → (r : RowsAt past entries k ds es did files) → ((row : Row) → IsAmong row (all_rows past entries k ds es did files r) → IsAmong row all) → AreToldAt (told_by all) o setup limit journal past entries k ds es did files
   all_told all few past entries k [] [] did files r among = tt
   all_told all few past entries k [] (e ∷ es) did files r among = tt
@@ -456,7 +457,7 @@ module _ (o : Opening) (setup : Setup) (limit : ℕ) (journal : List Entry) wher
     all_told all few past entries (k + 1) ds es did.1 more r.1 (λ row h. among row (among_right row (rows_in did.0.done (begun e.log) now r.0) (all_rows past entries (k + 1) ds es did.1 more r.1) h)),
   )
 
-  rows_at : (past entries : List Entry) (k : ℕ) (ds es : List DeskTells) (did : DesksDid o setup limit journal past entries k ds es) (files : List (Option Files)) → AreBlank ds → ArePlayedNow es files
+  rows_at : (past entries : List Entry) (k : ℕ) (ds es : List DeskTold) (did : DesksDid o setup limit journal past entries k ds es) (files : List (Option Files)) → AreBlank ds → ArePlayedNow es files
       → ∥ RowsAt past entries k ds es did files ∥₁
   rows_at past entries k [] [] did files blank played = ∣ tt ∣₁
   rows_at past entries k [] (e ∷ es) did files blank played = ∣ tt ∣₁

@@ -1,4 +1,5 @@
 -- When all went well from outside in a run by many workers, by what was counted, and how its tasks are answered then.
+use Rattle.ann_outside.specs.Told.{DeskTold}
 use Rattle.std.specs.Prelude.{ℕ, ◌≡◌, ◌⊎◌, ◌<◌, ◌+◌, Bool, true, List, [], ◌∷◌, ◌++◌, All, Some}
 use Rattle.std.specs.List.{list_all}
 use Rattle.ann_key.specs.Keys.{Parts, key_reading}
@@ -14,7 +15,7 @@ use Rattle.task_run.specs.Askings.{run_askings, run_turn}
 use Rattle.task_run.specs.Names.{part_of}
 use Rattle.task_run.specs.declared.setup.Setup.{Setup}
 use Rattle.gathering.specs.JournalRuns.{JournalRun}
-use Rattle.lone_work.specs.Works.{DeskTells, TaskDone}
+use Rattle.lone_work.specs.Works.{TaskDone}
 use Rattle.task_laws.specs.LoneWell.{AreKeysRead, ChildrenWell}
 use Rattle.task_laws.specs.RunWell.{AreAskedWell}
 use Rattle.task_laws.specs.WentWell.{IsFoundWell, IsSuccess, is_called_well}
@@ -30,7 +31,7 @@ FindsWell o setup journal old new r =
     × ((Rose old.missing new.missing → ⊥) ⊎ (list_all (is_called_well (part_of run.task.file)) r.calls ≡ true))
 
 -- No desk counted a fault, and each of its tasks found what it should.
-abbrev pub DesksFound : (o : Opening) (setup : Setup) (limit : ℕ) (journal past entries : List Entry) (k : ℕ) (desks desks' : List DeskTells) → DesksDid o setup limit journal past entries k desks desks' → Type 0
+abbrev pub DesksFound : (o : Opening) (setup : Setup) (limit : ℕ) (journal past entries : List Entry) (k : ℕ) (desks desks' : List DeskTold) → DesksDid o setup limit journal past entries k desks desks' → Type 0
 DesksFound o setup limit journal past entries k [] [] did = Unit {0}
 DesksFound o setup limit journal past entries k [] (e ∷ es) did = Unit {0}
 DesksFound o setup limit journal past entries k (d ∷ ds) [] did = Unit {0}
@@ -40,7 +41,7 @@ DesksFound o setup limit journal past entries k (d ∷ ds) (e ∷ es) did =
 -- A start was allowed; each gave a child, none refused to get ready, ended before it was closed, or couldn't be written to; each request of a
 -- task was done, but that what a store asks before it stores may be answered in any way; no desk counted a fault, and each task found what it
 -- should.
-pub record JobsFoundWell (o : Opening) (setup : Setup) (may : Bool) (limit : ℕ) (journal : List Entry) (desks desks' : List DeskTells) (ran : RanJobs o setup may limit journal desks desks') : Type 0 where
+pub record JobsFoundWell (o : Opening) (setup : Setup) (may : Bool) (limit : ℕ) (journal : List Entry) (desks desks' : List DeskTold) (ran : RanJobs o setup may limit journal desks desks') : Type 0 where
   pub starts : 0 < limit
   pub keys : AreKeysRead o
   pub children : ChildrenWell journal
@@ -55,5 +56,5 @@ AreAnsweredWell o journal =
 -- Then each answer in the journal is so.
 abbrev pub JobsComplete : Type 0
 JobsComplete =
-    (o : Opening) (setup : Setup) (may : Bool) (limit : ℕ) (journal : List Entry) (desks desks' : List DeskTells) (ran : RanJobs o setup may limit journal desks desks')
+    (o : Opening) (setup : Setup) (may : Bool) (limit : ℕ) (journal : List Entry) (desks desks' : List DeskTold) (ran : RanJobs o setup may limit journal desks desks')
     → JobsFoundWell o setup may limit journal desks desks' ran → AreAnsweredWell o journal

@@ -1,4 +1,5 @@
 -- Which tasks the desk of each worker was used for, and what it did for them.
+use Rattle.ann_outside.specs.Told.{DeskTold}
 use Rattle.std.specs.Prelude.{ℕ, ◌≡◌, ◌⊎◌, ◌+◌, ◌-◌, ◌<◌, ◌≤◌, ◌==◌, if◌then◌else◌, List, [], ◌∷◌, ◌++◌, Option, Some, None, nat_lt}
 use Rattle.std.specs.List.{cons_option}
 use Rattle.ann_outside.specs.Calls.{Gained}
@@ -10,7 +11,7 @@ use Rattle.journal_model.specs.Journal.{is_tagged}
 use Rattle.journal_model.specs.Legality.{turn_of_task}
 use Rattle.task_run.specs.declared.setup.Setup.{Setup}
 use Rattle.gathering.specs.JournalRuns.{JournalRun}
-use Rattle.lone_work.specs.Works.{CausedInTurn, DeskTells, TaskDone, all_calls, turns_of}
+use Rattle.lone_work.specs.Works.{CausedInTurn, TaskDone, all_calls, turns_of}
 use Rattle.job_rounds.specs.Unserved.{IsUnserved}
 
 -- ---- which desk
@@ -61,7 +62,7 @@ AreDone o setup limit journal (r ∷ rs) = IsTaskDone o setup limit journal r ×
 
 -- Each turn of a task that the entries after past claim for the kth desk has its run in the journal, and the desk made the calls of these
 -- runs, in the order of their claims, and no others.
-pub record DeskDid (o : Opening) (setup : Setup) (limit : ℕ) (journal past entries : List Entry) (k : ℕ) (desk desk' : DeskTells) : Type 0 where
+pub record DeskDid (o : Opening) (setup : Setup) (limit : ℕ) (journal past entries : List Entry) (k : ℕ) (desk desk' : DeskTold) : Type 0 where
   pub done : List TaskDone
   pub claimed : turns_of done ≡ claims_for k past entries
   pub ran : AreDone o setup limit journal done
@@ -69,7 +70,7 @@ pub record DeskDid (o : Opening) (setup : Setup) (limit : ℕ) (journal past ent
   pub caused : CausedInTurn desk.counts done desk'.counts
 
 -- so did each desk, from the kth on
-abbrev pub DesksDid : Opening → Setup → ℕ → List Entry → List Entry → List Entry → ℕ → List DeskTells → List DeskTells → Type 0
+abbrev pub DesksDid : Opening → Setup → ℕ → List Entry → List Entry → List Entry → ℕ → List DeskTold → List DeskTold → Type 0
 DesksDid o setup limit journal past entries k [] [] = Unit {0}
 DesksDid o setup limit journal past entries k (d ∷ ds) (e ∷ es) = DeskDid o setup limit journal past entries k d e × DesksDid o setup limit journal past entries (k + 1) ds es
 DesksDid o setup limit journal past entries k ds es = ⊥

@@ -1,4 +1,5 @@
 -- What a run leaves, by as many workers as it has desks.
+use Rattle.ann_outside.specs.Told.{DeskTold}
 use Rattle.std.specs.Prelude.{ℕ, ◌≡◌, Bool, true, List, [], length}
 use Rattle.std.specs.List.{list_all}
 use Rattle.journal_model.specs.declared.entry.Entry.{Entry}
@@ -7,7 +8,6 @@ use Rattle.journal_model.specs.Legality.{Legal}
 use Rattle.journal_model.specs.Shares.{are_by}
 use Rattle.gathering.specs.Rounds.{IsAtRest}
 use Rattle.task_run.specs.declared.setup.Setup.{Setup}
-use Rattle.lone_work.specs.Works.{DeskTells}
 use Rattle.lone_rounds.specs.Starting.{AreEnded}
 use Rattle.lone_rounds.specs.Rounds.{AllLostWell, is_of_run}
 use Rattle.pool_starts.specs.Slots.{AreStarts}
@@ -19,7 +19,7 @@ use Rattle.job_rounds.specs.Posts.{AllPosted}
 -- is one number's alone.
 -- No task is left unanswered that was claimed, and no job open. Each task was run by the number that claimed it, with its worker's desk, which made the calls of
 -- its tasks, in the order of their claims, and no others. With one desk, all entries are the main thread's.
-pub record RanJobs (o : Opening) (setup : Setup) (may : Bool) (limit : ℕ) (journal : List Entry) (desks desks' : List DeskTells) : Type 0 where
+pub record RanJobs (o : Opening) (setup : Setup) (may : Bool) (limit : ℕ) (journal : List Entry) (desks desks' : List DeskTold) : Type 0 where
   pub legal : Legal o journal
   pub starts : AreStarts o may limit (length desks) journal
   pub ended : AreEnded journal

@@ -1,10 +1,11 @@
 -- What is so of a run by many workers that went well from outside, and how its tasks are answered then.
+use Rattle.ann_outside.specs.Told.{DeskTold}
 use Rattle.std.specs.Prelude.{ℕ, ◌<◌, ◌+◌, List, [], ◌∷◌, ◌++◌, All}
 use Rattle.journal_model.specs.declared.answer.Answer.{Answer}
 use Rattle.journal_model.specs.declared.entry.Entry.{Entry}
 use Rattle.journal_model.specs.declared.opening.Opening.{Opening}
 use Rattle.task_run.specs.declared.setup.Setup.{Setup}
-use Rattle.lone_work.specs.Works.{DeskTells, TaskDone}
+use Rattle.lone_work.specs.Works.{TaskDone}
 use Rattle.task_laws.specs.LoneWell.{AreKeysRead, ChildrenWell, IsDeskWell, IsDoneWell}
 use Rattle.task_laws.specs.RunWell.{AreAskedWell}
 use Rattle.job_rounds.specs.Desks.{DesksDid}
@@ -16,7 +17,7 @@ abbrev pub NoneUnserved : Type 0
 NoneUnserved = (limit : ℕ) (journal : List Entry) (t : ℕ) → 0 < limit → ChildrenWell journal → (answer : Answer) → IsUnserved limit journal t answer → ⊥
 
 -- what all desks did, one after the other
-abbrev pub all_done : (o : Opening) (setup : Setup) (limit : ℕ) (journal past entries : List Entry) (k : ℕ) (desks desks' : List DeskTells) → DesksDid o setup limit journal past entries k desks desks' → List TaskDone
+abbrev pub all_done : (o : Opening) (setup : Setup) (limit : ℕ) (journal past entries : List Entry) (k : ℕ) (desks desks' : List DeskTold) → DesksDid o setup limit journal past entries k desks desks' → List TaskDone
 all_done o setup limit journal past entries k [] [] did = []
 all_done o setup limit journal past entries k [] (e ∷ es) did = []
 all_done o setup limit journal past entries k (d ∷ ds) [] did = []
@@ -33,7 +34,7 @@ pub record JobsWentWell (o : Opening) (setup : Setup) (limit : ℕ) (journal : L
   pub desks : All (λ (r : TaskDone). (number : ℕ) → IsDeskWell o setup journal number r.task r.turn r.calls) done
 
 -- Then each of the tasks that these desks did is answered by its success, or says that memory ran out.
-abbrev pub JobsSucceed : Opening → Setup → ℕ → List Entry → List Entry → List Entry → ℕ → List DeskTells → List DeskTells → Type 0
+abbrev pub JobsSucceed : Opening → Setup → ℕ → List Entry → List Entry → List Entry → ℕ → List DeskTold → List DeskTold → Type 0
 JobsSucceed o setup limit journal past entries k desks desks' =
     (did : DesksDid o setup limit journal past entries k desks desks') → JobsWentWell o setup limit journal (all_done o setup limit journal past entries k desks desks' did)
     → All (IsDoneWell o) (all_done o setup limit journal past entries k desks desks' did)

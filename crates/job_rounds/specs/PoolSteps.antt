@@ -1,4 +1,5 @@
 -- What is done with a pool that was gathered: a round or one worker, the closing of its children, and the wires.
+use Rattle.ann_outside.specs.Told.{DeskTold}
 use Rattle.std.specs.Prelude.{ℕ, ◌≡◌, ◌⊎◌, ◌+◌, List, [], ◌∷◌, ◌++◌, Option, Some, None, length}
 use Rattle.std.specs.List.{range_with_len}
 use Rattle.journal_model.specs.declared.entry.Entry.{Entry}
@@ -9,7 +10,6 @@ use Rattle.link_roles.specs.Wires.{IsLeft, WireValue}
 use Rattle.gathering.specs.Laws.{GoesOn, children_of}
 use Rattle.gathering.specs.Rounds.{LinkValue}
 use Rattle.task_run.specs.declared.setup.Setup.{Setup}
-use Rattle.lone_work.specs.Works.{DeskTells}
 use Rattle.crew_round.specs.declared.slot.Refused.{Refused}
 use Rattle.pool_rounds.specs.Pool.{PoolLeaves}
 use Rattle.pool_starts.specs.Pools.{OverBy, SeatValue, Serves}
@@ -21,17 +21,17 @@ ClosesAll [] old new = new ≡ old
 ClosesAll (c ∷ cs) old new = (mid : List Entry) × Closes 0 c old mid × ClosesAll cs mid new
 
 -- a round over the links, with the first desks, one for each; the others did nothing
-pub record RoundsPool (o : Opening) (setup : Setup) (old new : List Entry) (links links' : List LinkValue) (desks desks' : List DeskTells) : Type 0 where
-  pub used : List DeskTells
-  pub used' : List DeskTells
-  pub others : List DeskTells
+pub record RoundsPool (o : Opening) (setup : Setup) (old new : List Entry) (links links' : List LinkValue) (desks desks' : List DeskTold) : Type 0 where
+  pub used : List DeskTold
+  pub used' : List DeskTold
+  pub others : List DeskTold
   pub before : desks ≡ used ++ others
   pub after : desks' ≡ used' ++ others
   pub many : length used ≡ length links
   pub round : GoesOn old new (λ rest. PoolLeaves o setup (range_with_len 1 (1 + length links)) old rest links links' used used')
 
 -- tasks were done over the first of the links by the main thread
-abbrev pub ServesFirst : Opening → Setup → List LinkValue → List Entry → List Entry → List DeskTells → List DeskTells → Type 0
+abbrev pub ServesFirst : Opening → Setup → List LinkValue → List Entry → List Entry → List DeskTold → List DeskTold → Type 0
 ServesFirst o setup [] old new desks desks' = ⊥
 ServesFirst o setup (l ∷ links) old new desks desks' = ServesAlone o setup l.ear.child old new desks desks'
 
@@ -43,21 +43,21 @@ pub record ServesThen (Done : List Entry → Type 0) (o : Opening) (old new : Li
   pub closes : ClosesAll (children_of links) mid new
 
 -- tasks were done over the links by a round, or by the main thread over the first
-abbrev pub ServesLinks : Opening → Setup → List Entry → List Entry → List LinkValue → List LinkValue → List DeskTells → List DeskTells → Type 0
+abbrev pub ServesLinks : Opening → Setup → List Entry → List Entry → List LinkValue → List LinkValue → List DeskTold → List DeskTold → Type 0
 ServesLinks o setup old new links links' desks desks' =
     ServesThen (λ mid. RoundsPool o setup old mid links links' desks desks' ⊎ ServesFirst o setup links old mid desks desks') o old new links
 
 -- tasks were done over the first of the links by the main thread
-abbrev pub ServesOne : Opening → Setup → List Entry → List Entry → List LinkValue → List DeskTells → List DeskTells → Type 0
+abbrev pub ServesOne : Opening → Setup → List Entry → List Entry → List LinkValue → List DeskTold → List DeskTold → Type 0
 ServesOne o setup old new links desks desks' = ServesThen (λ mid. ServesFirst o setup links old mid desks desks') o old new links
 
 -- by whether a thread was refused: tasks were done by the main thread over the first of the links, or by a round
-abbrev pub ServesLinksUnless : Option Refused → Opening → Setup → List Entry → List Entry → List LinkValue → List LinkValue → List DeskTells → List DeskTells → Type 0
+abbrev pub ServesLinksUnless : Option Refused → Opening → Setup → List Entry → List Entry → List LinkValue → List LinkValue → List DeskTold → List DeskTold → Type 0
 ServesLinksUnless None o setup old new links links' desks desks' = ServesThen (λ mid. RoundsPool o setup old mid links links' desks desks') o old new links
 ServesLinksUnless (Some refused) o setup old new links links' desks desks' = ServesOne o setup old new links desks desks'
 
 -- no memory was found for a round: no task was done, and the links' children were closed
-pub record StarvedLinks (old new : List Entry) (links links' : List LinkValue) (desks desks' : List DeskTells) : Type 0 where
+pub record StarvedLinks (old new : List Entry) (links links' : List LinkValue) (desks desks' : List DeskTold) : Type 0 where
   pub links_are : links' ≡ links
   pub desks_are : desks' ≡ desks
   pub closes : ClosesAll (children_of links') old new

@@ -1,5 +1,6 @@
 -- What is done after a child of slot 0 that is ready and takes no tags, where a run has several desks: a pool is gathered, serves and is
 -- closed.
+use Rattle.ann_outside.specs.Told.{DeskTold, ProgramsTold}
 use Rattle.std.specs.Prelude.{ℕ, ◌≡◌, ◌⊎◌, ◌≤◌, Bool, true, false, List, ◌∷◌, ◌++◌, length}
 use Rattle.std.specs.List.{list_all, list_any}
 use Rattle.journal_model.specs.declared.entry.Entry.{Entry}
@@ -8,12 +9,11 @@ use Rattle.journal_model.specs.Halves.{EarValue, MouthValue}
 use Rattle.journal_model.specs.Journal.{any, is_ended}
 use Rattle.journal_model.specs.Legality.{Legal, count}
 use Rattle.host_core.specs.Steps.{are_all_claimed}
-use Rattle.child_end.specs.Programs.{HaveStarted, ProgramsValue, RoseBy, is_failed_start}
+use Rattle.child_end.specs.Programs.{HaveStarted, RoseBy, is_failed_start}
 use Rattle.link_roles.specs.Wires.{WireValue}
 use Rattle.child_end.specs.Wires.{IsHeld, came}
 use Rattle.gathering.specs.Rounds.{IsAtRest}
 use Rattle.task_run.specs.declared.setup.Setup.{Setup}
-use Rattle.lone_work.specs.Works.{DeskTells}
 use Rattle.lone_rounds.specs.Starting.{children}
 use Rattle.lone_rounds.specs.Rounds.{AllLostWell, is_of_run}
 use Rattle.lone_rounds.specs.Stints.{AreLinked, ear_of, mouth_of}
@@ -24,7 +24,7 @@ use Rattle.job_rounds.specs.Posts.{AllPosted}
 -- After old, where child c of slot 0 is ready, there stand only starts in other slots, in turn, none offering ASYNC, and what was made of
 -- c and of their children. All is at rest, and each of these children has ended. Each task that was claimed has its desk's run. Where the
 -- pool was whole, one of its ready children is lost, or all tasks are claimed, and each slot had its start as far as there are tasks.
-pub record ServesPool (o : Opening) (setup : Setup) (limit c : ℕ) (old new : List Entry) (desks desks' : List DeskTells) (whole : Bool) : Type 0 where
+pub record ServesPool (o : Opening) (setup : Setup) (limit c : ℕ) (old new : List Entry) (desks desks' : List DeskTold) (whole : Bool) : Type 0 where
   pub later : List Entry
   pub is : new ≡ old ++ later
   pub within : list_all (λ e. in_pool c e.what) later ≡ true
@@ -50,7 +50,7 @@ pub record IsLinkLeft (journal : List Entry) (ear : EarValue) (mouth : MouthValu
 
 -- Of the objects: after the wires there stand that of the child of slot 0 and, in the order of their starts, those of the pool's other
 -- children; the programs were asked for what `later` says; a fault was counted for each start that failed.
-pub record LeavesPool (wanted : Type 0) (program : List ℕ) (new later : List Entry) (ear : EarValue) (mouth : MouthValue) (before after : ProgramsValue) (wires wires' : List WireValue) : Type 0 where
+pub record LeavesPool (wanted : Type 0) (program : List ℕ) (new later : List Entry) (ear : EarValue) (mouth : MouthValue) (before after : ProgramsTold) (wires wires' : List WireValue) : Type 0 where
   pub own : WireValue
   pub more : List WireValue
   pub laid : wires' ≡ wires ++ own ∷ more
@@ -61,6 +61,6 @@ pub record LeavesPool (wanted : Type 0) (program : List ℕ) (new later : List E
   pub later_faults : before.faults ≤ after.faults
 
 -- both, of the same entries
-abbrev pub PoolServed : Type 0 → Opening → Setup → ℕ → List ℕ → List Entry → List Entry → List DeskTells → List DeskTells → Bool → EarValue → MouthValue → ProgramsValue → ProgramsValue → List WireValue → List WireValue → Type 0
+abbrev pub PoolServed : Type 0 → Opening → Setup → ℕ → List ℕ → List Entry → List Entry → List DeskTold → List DeskTold → Bool → EarValue → MouthValue → ProgramsTold → ProgramsTold → List WireValue → List WireValue → Type 0
 PoolServed wanted o setup limit program old new desks desks' whole ear mouth before after wires wires' =
     (s : ServesPool o setup limit ear.child old new desks desks' whole) × LeavesPool wanted program new s.later ear mouth before after wires wires'

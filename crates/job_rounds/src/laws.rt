@@ -1,10 +1,10 @@
 // Each law is the contract of a function with nothing to do.
+ghost use Rattle.ann_outside.specs.Told.{DeskTold};
 ghost use Rattle.std.specs.Prelude.{ℕ, List};
 ghost use Rattle.journal_model.specs.declared.entry.Entry.{Entry};
 ghost use Rattle.journal_model.specs.declared.opening.Opening.{Opening};
 ghost use Rattle.journal_model.specs.Legality.{Legal};
 ghost use Rattle.task_run.specs.declared.setup.Setup.{Setup};
-ghost use Rattle.lone_work.specs.Works.{DeskTells};
 ghost use Rattle.job_rounds.specs.Completeness.{JobsComplete};
 ghost use Rattle.job_rounds.specs.JobsWell.{JobsSucceed, NoneUnserved};
 ghost use Rattle.job_rounds.specs.JobsKeep.{JobsKeep};
@@ -17,7 +17,7 @@ pub fn none_unserved()
 
 /// Where all went well from outside, each task that was run is answered by its success, or says that memory ran out.
 pub fn jobs_succeed()
-    ensures { (o : Opening) (setup : Setup) (limit : ℕ) (journal past entries : List Entry) (k : ℕ) (desks desks' : List DeskTells) → JobsSucceed o setup limit journal past entries k desks desks' }
+    ensures { (o : Opening) (setup : Setup) (limit : ℕ) (journal past entries : List Entry) (k : ℕ) (desks desks' : List DeskTold) → JobsSucceed o setup limit journal past entries k desks desks' }
 {}
 
 /// In a legal journal, with a faithful remote, a get keeps what the stores of its keys sent.

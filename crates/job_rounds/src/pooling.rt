@@ -2,7 +2,6 @@
 ghost use Rattle.std.specs.Prelude.{◌≡◌, ◌≤◌, ◌<◌, ◌+◌, ◌++◌, [], All, IfErr, IfOk, IsErr, MatchResult, is_ok, map, reverse, vec_len, vec_capacity, false, true};
 ghost use Rattle.ann_outside.specs.Causes.{Stays};
 ghost use Rattle.annex_model.specs.Lines.{has_newline};
-ghost use Rattle.child_end.specs.Programs.{programs_value};
 ghost use Rattle.child_end.specs.Wires.{IsHeld};
 ghost use Rattle.child_start.specs.Cores.{IsSameCore};
 ghost use Rattle.crew_rounds.specs.Outcomes.{IfDone, IfKept};
@@ -14,7 +13,7 @@ ghost use Rattle.job_rounds.specs.PoolSteps.{AreLaid, ClosesAll, RoundsPool, Ser
 ghost use Rattle.job_rounds.specs.Servings.{CanBeServed};
 ghost use Rattle.journal_model.specs.Journal.{is_started};
 ghost use Rattle.journal_model.specs.Legality.{count, is_start};
-ghost use Rattle.lone_work.specs.Works.{AreTasks, desk_tells};
+ghost use Rattle.lone_work.specs.Works.{AreTasks};
 ghost use Rattle.crew_rounds.specs.PoolChildren.{PoolCan};
 ghost use Rattle.pool_rounds.specs.Pool.{AreAsBefore, AreSameLinks};
 ghost use Rattle.pool_starts.specs.Pools.{seat_value};
@@ -65,8 +64,8 @@ where
     requires room { vec_len wires.old + vec_len seats ≤ vec_capacity wires.old }
     ensures laid { AreLaid (map seat_value seats.items) (map (λ l. link_of l.ear l.mouth) links.items) wires.old.items wires.new.items }
     ensures room { (vec_len wires.new ≡ vec_len wires.old + vec_len seats) × (vec_capacity wires.new ≡ vec_capacity wires.old) }
-    ensures starts { Stays (P.starts programs.old) (P.starts programs.new) }
-    ensures later { P.faults programs.old ≤ P.faults programs.new }
+    ensures starts { Stays (P.told programs.old).starts (P.told programs.new).starts }
+    ensures later { (P.told programs.old).faults ≤ (P.told programs.new).faults }
 {
     links.reverse();
     seats.reverse();
@@ -136,7 +135,7 @@ fn round_links<
     requires tasks { (bench.core.opening.tasks ≡ tasks.now) × AreTasks tasks.now }
     requires folder { has_newline setup.now.work ≡ false }
     requires can { PoolCan bench.core.opening bench.core.journal (map (λ l. link_of l.ear l.mouth) links.items) }
-    ensures round { IfDone result.2 (RoundsPool bench.core.opening setup.now bench.core.journal result.1.core.journal (map (λ l. link_of l.ear l.mouth) links.items) (map (λ l. link_of l.ear l.mouth) result.0.items) (map (λ k. desk_tells (K.log k) (K.counts k)) bench.desks.items) (map (λ k. desk_tells (K.log k) (K.counts k)) result.1.desks.items)) }
+    ensures round { IfDone result.2 (RoundsPool bench.core.opening setup.now bench.core.journal result.1.core.journal (map (λ l. link_of l.ear l.mouth) links.items) (map (λ l. link_of l.ear l.mouth) result.0.items) (map K.told bench.desks.items) (map K.told result.1.desks.items)) }
     ensures kept { IfKept result.2 ((result.1.core.journal ≡ bench.core.journal) × AreAsBefore links.items result.0.items bench.desks.items result.1.desks.items) }
     ensures same { AreSameLinks (map (λ l. link_of l.ear l.mouth) links.items) (map (λ l. link_of l.ear l.mouth) result.0.items) }
     ensures opening { result.1.core.opening ≡ bench.core.opening }
@@ -170,7 +169,7 @@ fn serve_first<I: Sink, O: Source, K: Desk + Drop>(
     requires tasks { (bench.old.core.opening.tasks ≡ tasks.now) × AreTasks tasks.now }
     requires folder { has_newline setup.now.work ≡ false }
     requires can { PoolCan bench.old.core.opening bench.old.core.journal (map (λ l. link_of l.ear l.mouth) links.old.items) }
-    ensures serves { ServesFirst bench.old.core.opening setup.now (map (λ l. link_of l.ear l.mouth) links.old.items) bench.old.core.journal bench.new.core.journal (map (λ k. desk_tells (K.log k) (K.counts k)) bench.old.desks.items) (map (λ k. desk_tells (K.log k) (K.counts k)) bench.new.desks.items) }
+    ensures serves { ServesFirst bench.old.core.opening setup.now (map (λ l. link_of l.ear l.mouth) links.old.items) bench.old.core.journal bench.new.core.journal (map K.told bench.old.desks.items) (map K.told bench.new.desks.items) }
     ensures held { All (λ l. IsHeld bench.new.core.journal l.ear l.mouth) links.new.items }
     ensures same { AreSameLinks (map (λ l. link_of l.ear l.mouth) links.old.items) (map (λ l. link_of l.ear l.mouth) links.new.items) }
     ensures core { IsSameCore bench.old.core bench.new.core }
@@ -198,7 +197,7 @@ fn serve_one<I: Sink, O: Source, K: Desk + Drop>(
     requires tasks { (bench.old.core.opening.tasks ≡ tasks.now) × AreTasks tasks.now }
     requires folder { has_newline setup.now.work ≡ false }
     requires can { PoolCan bench.old.core.opening bench.old.core.journal (map (λ l. link_of l.ear l.mouth) links.old.items) }
-    ensures serves { ServesOne bench.old.core.opening setup.now bench.old.core.journal bench.new.core.journal (map (λ l. link_of l.ear l.mouth) links.old.items) (map (λ k. desk_tells (K.log k) (K.counts k)) bench.old.desks.items) (map (λ k. desk_tells (K.log k) (K.counts k)) bench.new.desks.items) }
+    ensures serves { ServesOne bench.old.core.opening setup.now bench.old.core.journal bench.new.core.journal (map (λ l. link_of l.ear l.mouth) links.old.items) (map K.told bench.old.desks.items) (map K.told bench.new.desks.items) }
     ensures held { All (λ l. IsHeld bench.new.core.journal l.ear l.mouth) links.new.items }
     ensures same { AreSameLinks (map (λ l. link_of l.ear l.mouth) links.old.items) (map (λ l. link_of l.ear l.mouth) links.new.items) }
     ensures core { IsSameCore bench.old.core bench.new.core }
@@ -228,8 +227,8 @@ fn serve_all<
     requires folder { has_newline setup.now.work ≡ false }
     requires can { PoolCan bench.core.opening bench.core.journal (map (λ l. link_of l.ear l.mouth) links.items) }
     ensures serves { MatchResult result.2
-        (λ alone. ServesLinksUnless alone bench.core.opening setup.now bench.core.journal result.1.core.journal (map (λ l. link_of l.ear l.mouth) links.items) (map (λ l. link_of l.ear l.mouth) result.0.items) (map (λ k. desk_tells (K.log k) (K.counts k)) bench.desks.items) (map (λ k. desk_tells (K.log k) (K.counts k)) result.1.desks.items))
-        (λ _. StarvedLinks bench.core.journal result.1.core.journal (map (λ l. link_of l.ear l.mouth) links.items) (map (λ l. link_of l.ear l.mouth) result.0.items) (map (λ k. desk_tells (K.log k) (K.counts k)) bench.desks.items) (map (λ k. desk_tells (K.log k) (K.counts k)) result.1.desks.items)) }
+        (λ alone. ServesLinksUnless alone bench.core.opening setup.now bench.core.journal result.1.core.journal (map (λ l. link_of l.ear l.mouth) links.items) (map (λ l. link_of l.ear l.mouth) result.0.items) (map K.told bench.desks.items) (map K.told result.1.desks.items))
+        (λ _. StarvedLinks bench.core.journal result.1.core.journal (map (λ l. link_of l.ear l.mouth) links.items) (map (λ l. link_of l.ear l.mouth) result.0.items) (map K.told bench.desks.items) (map K.told result.1.desks.items)) }
     ensures held { IfOk result.2 (λ _. All (λ l. IsHeld result.1.core.journal l.ear l.mouth) result.0.items) }
     ensures same { AreSameLinks (map (λ l. link_of l.ear l.mouth) links.items) (map (λ l. link_of l.ear l.mouth) result.0.items) }
     ensures core { IsSameCore bench.core result.1.core }
@@ -271,8 +270,8 @@ fn serve_links<
     requires folder { has_newline setup.now.work ≡ false }
     requires can { PoolCan bench.core.opening bench.core.journal (map (λ l. link_of l.ear l.mouth) links.items) }
     ensures serves { MatchResult result.2
-        (λ _. ServesLinks bench.core.opening setup.now bench.core.journal result.1.core.journal (map (λ l. link_of l.ear l.mouth) links.items) (map (λ l. link_of l.ear l.mouth) result.0.items) (map (λ k. desk_tells (K.log k) (K.counts k)) bench.desks.items) (map (λ k. desk_tells (K.log k) (K.counts k)) result.1.desks.items))
-        (λ _. StarvedLinks bench.core.journal result.1.core.journal (map (λ l. link_of l.ear l.mouth) links.items) (map (λ l. link_of l.ear l.mouth) result.0.items) (map (λ k. desk_tells (K.log k) (K.counts k)) bench.desks.items) (map (λ k. desk_tells (K.log k) (K.counts k)) result.1.desks.items)) }
+        (λ _. ServesLinks bench.core.opening setup.now bench.core.journal result.1.core.journal (map (λ l. link_of l.ear l.mouth) links.items) (map (λ l. link_of l.ear l.mouth) result.0.items) (map K.told bench.desks.items) (map K.told result.1.desks.items))
+        (λ _. StarvedLinks bench.core.journal result.1.core.journal (map (λ l. link_of l.ear l.mouth) links.items) (map (λ l. link_of l.ear l.mouth) result.0.items) (map K.told bench.desks.items) (map K.told result.1.desks.items)) }
     ensures held { IfOk result.2 (λ _. All (λ l. IsHeld result.1.core.journal l.ear l.mouth) result.0.items) }
     ensures same { AreSameLinks (map (λ l. link_of l.ear l.mouth) links.items) (map (λ l. link_of l.ear l.mouth) result.0.items) }
     ensures core { IsSameCore bench.core result.1.core }
@@ -320,8 +319,8 @@ where
     requires since { is_unclaimed_since bench.core.journal ≡ true }
     requires last_child { link.ear.child ≡ count is_start bench.core.journal }
     requires room { vec_len wires.old + vec_len bench.desks ≤ vec_capacity wires.old }
-    ensures served { PoolServed (IsErr result.1) bench.core.opening plan.now.setup plan.now.starts plan.now.program bench.core.journal result.0.core.journal (map (λ k. desk_tells (K.log k) (K.counts k)) bench.desks.items) (map (λ k. desk_tells (K.log k) (K.counts k)) result.0.desks.items) (is_ok result.1) link.ear link.mouth
-        (programs_value (P.starts programs.old) (P.faults programs.old)) (programs_value (P.starts programs.new) (P.faults programs.new)) wires.old.items wires.new.items }
+    ensures served { PoolServed (IsErr result.1) bench.core.opening plan.now.setup plan.now.starts plan.now.program bench.core.journal result.0.core.journal (map K.told bench.desks.items) (map K.told result.0.desks.items) (is_ok result.1) link.ear link.mouth
+        (P.told programs.old) (P.told programs.new) wires.old.items wires.new.items }
     ensures room { (vec_len wires.new ≤ vec_len wires.old + vec_len bench.desks) × (vec_capacity wires.new ≡ vec_capacity wires.old) }
     ensures core { IsSameCore bench.core result.0.core }
     ensures desks { vec_len result.0.desks ≡ vec_len bench.desks }

@@ -1,10 +1,10 @@
 ghost use Rattle.std.specs.Prelude.{◌≡◌, ◌≤◌, ◌<◌, ◌*◌, [], map, IsErr, vec_len, vec_capacity, false};
 ghost use Rattle.annex_model.specs.Lines.{has_newline};
-ghost use Rattle.child_end.specs.Programs.{Leaves, programs_value};
+ghost use Rattle.child_end.specs.Programs.{Leaves};
 ghost use Rattle.child_start.specs.Cores.{IsSameCore};
 ghost use Rattle.job_rounds.specs.JobRuns.{RanJobs};
 ghost use Rattle.lone_rounds.specs.Rounds.{IsWhole};
-ghost use Rattle.lone_work.specs.Works.{AreTasks, desk_tells};
+ghost use Rattle.lone_work.specs.Works.{AreTasks};
 
 use crate::bench::Bench;
 use crate::starting::start_children;
@@ -43,10 +43,10 @@ where
     requires desks { (0 < vec_len bench.desks) × (vec_len bench.desks ≤ 64) }
     requires room { plan.now.starts * vec_len bench.desks ≤ vec_capacity wires.old }
     requires none { wires.old.items ≡ [] }
-    ensures ran { RanJobs bench.core.opening plan.now.setup plan.now.offers plan.now.starts result.0.core.journal (map (λ k. desk_tells (K.log k) (K.counts k)) bench.desks.items) (map (λ k. desk_tells (K.log k) (K.counts k)) result.0.desks.items) }
+    ensures ran { RanJobs bench.core.opening plan.now.setup plan.now.offers plan.now.starts result.0.core.journal (map K.told bench.desks.items) (map K.told result.0.desks.items) }
     ensures whole { IsWhole bench.core.opening result.0.core.journal result.1 }
-    ensures leaves { Leaves (IsErr result.1) plan.now.program result.0.core.journal (programs_value (P.starts programs.old) (P.faults programs.old))
-        (programs_value (P.starts programs.new) (P.faults programs.new)) wires.new.items }
+    ensures leaves { Leaves (IsErr result.1) plan.now.program result.0.core.journal (P.told programs.old)
+        (P.told programs.new) wires.new.items }
     ensures core { IsSameCore bench.core result.0.core }
     ensures desks { vec_len result.0.desks ≡ vec_len bench.desks }
 {

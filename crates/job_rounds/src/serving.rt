@@ -5,7 +5,7 @@ ghost use Rattle.child_end.specs.Wires.{IsHeld};
 ghost use Rattle.child_start.specs.Cores.{IsSameCore};
 ghost use Rattle.job_rounds.specs.Servings.{CanBeServed, Serves, ServesAlone, ServesUnless, Starved, plainly};
 ghost use Rattle.link_roles.specs.Moves.{IsSameLink};
-ghost use Rattle.lone_work.specs.Works.{AreTasks, desk_tells};
+ghost use Rattle.lone_work.specs.Works.{AreTasks};
 
 use crate::bench::Bench;
 use ann_key::NoMemory;
@@ -35,7 +35,7 @@ pub(crate) fn serve_alone<I: Sink, O: Source, K: Desk + Drop>(
     requires tasks { (bench.old.core.opening.tasks ≡ tasks.now) × AreTasks tasks.now }
     requires folder { has_newline setup.now.work ≡ false }
     requires can { CanBeServed bench.old.core.opening bench.old.core.journal link.old.ear link.old.mouth tagged }
-    ensures serves { ServesAlone bench.old.core.opening setup.now link.old.ear.child bench.old.core.journal bench.new.core.journal (map (λ k. desk_tells (K.log k) (K.counts k)) bench.old.desks.items) (map (λ k. desk_tells (K.log k) (K.counts k)) bench.new.desks.items) }
+    ensures serves { ServesAlone bench.old.core.opening setup.now link.old.ear.child bench.old.core.journal bench.new.core.journal (map K.told bench.old.desks.items) (map K.told bench.new.desks.items) }
     ensures held { IsHeld bench.new.core.journal link.new.ear link.new.mouth }
     ensures same { IsSameLink link.old.ear link.new.ear link.old.mouth link.new.mouth }
     ensures core { IsSameCore bench.old.core bench.new.core }
@@ -72,8 +72,8 @@ pub(crate) fn serve_round<
     requires folder { has_newline setup.now.work ≡ false }
     requires can { CanBeServed bench.core.opening bench.core.journal link.ear link.mouth true }
     ensures serves { MatchResult result.2
-        (λ alone. ServesUnless alone bench.core.opening setup.now link.ear.child bench.core.journal result.1.core.journal (map (λ k. desk_tells (K.log k) (K.counts k)) bench.desks.items) (map (λ k. desk_tells (K.log k) (K.counts k)) result.1.desks.items))
-        (λ _. Starved bench.core.journal result.1.core.journal link.ear result.0.ear link.mouth result.0.mouth (map (λ k. desk_tells (K.log k) (K.counts k)) bench.desks.items) (map (λ k. desk_tells (K.log k) (K.counts k)) result.1.desks.items)) }
+        (λ alone. ServesUnless alone bench.core.opening setup.now link.ear.child bench.core.journal result.1.core.journal (map K.told bench.desks.items) (map K.told result.1.desks.items))
+        (λ _. Starved bench.core.journal result.1.core.journal link.ear result.0.ear link.mouth result.0.mouth (map K.told bench.desks.items) (map K.told result.1.desks.items)) }
     ensures held { IsHeld result.1.core.journal result.0.ear result.0.mouth }
     ensures same { IsSameLink link.ear result.0.ear link.mouth result.0.mouth }
     ensures core { IsSameCore bench.core result.1.core }
@@ -131,8 +131,8 @@ pub(crate) fn serve_ready<
     requires folder { has_newline setup.now.work ≡ false }
     requires can { CanBeServed bench.core.opening bench.core.journal link.ear link.mouth tagged }
     ensures serves { MatchResult result.2
-        (λ _. Serves bench.core.opening setup.now link.ear.child bench.core.journal result.1.core.journal (map (λ k. desk_tells (K.log k) (K.counts k)) bench.desks.items) (map (λ k. desk_tells (K.log k) (K.counts k)) result.1.desks.items))
-        (λ _. Starved bench.core.journal result.1.core.journal link.ear result.0.ear link.mouth result.0.mouth (map (λ k. desk_tells (K.log k) (K.counts k)) bench.desks.items) (map (λ k. desk_tells (K.log k) (K.counts k)) result.1.desks.items)) }
+        (λ _. Serves bench.core.opening setup.now link.ear.child bench.core.journal result.1.core.journal (map K.told bench.desks.items) (map K.told result.1.desks.items))
+        (λ _. Starved bench.core.journal result.1.core.journal link.ear result.0.ear link.mouth result.0.mouth (map K.told bench.desks.items) (map K.told result.1.desks.items)) }
     ensures held { IsHeld result.1.core.journal result.0.ear result.0.mouth }
     ensures same { IsSameLink link.ear result.0.ear link.mouth result.0.mouth }
     ensures core { IsSameCore bench.core result.1.core }

@@ -1,7 +1,6 @@
 // The starts of a run: one child of slot 0 after the other.
 ghost use Rattle.std.specs.Prelude.{◌≡◌, ◌≤◌, ◌<◌, ◌+◌, ◌*◌, ℕ, [], map, false, true, IsErr, MatchResult, is_ok, vec_len, vec_capacity};
 ghost use Rattle.annex_model.specs.Lines.{has_newline};
-ghost use Rattle.child_end.specs.Programs.{programs_value};
 ghost use Rattle.child_start.specs.Cores.{IsSameCore};
 ghost use Rattle.host_core.specs.Steps.{are_all_claimed};
 ghost use Rattle.job_rounds.specs.Servings.{CanBeServed, FirstServed};
@@ -9,7 +8,7 @@ ghost use Rattle.job_rounds.specs.Starts.{JobsStarted, RunLacksMemory, OneJobSta
 ghost use Rattle.journal_model.specs.Legality.{Legal, count, is_start};
 ghost use Rattle.gathering.specs.Rounds.{IsAtRest};
 ghost use Rattle.lone_rounds.specs.Stints.{KeptOr};
-ghost use Rattle.lone_work.specs.Works.{AreTasks, desk_tells};
+ghost use Rattle.lone_work.specs.Works.{AreTasks};
 ghost use Rattle.pool_starts.specs.Slots.{has_pool, is_unclaimed_since, last_slot};
 
 use crate::bench::Bench;
@@ -56,8 +55,8 @@ where
     requires since { is_unclaimed_since bench.core.journal ≡ true }
     requires last_child { link.ear.child ≡ count is_start bench.core.journal }
     requires room { vec_len wires.old + vec_len bench.desks ≤ vec_capacity wires.old }
-    ensures served { FirstServed (IsErr result.1) bench.core.opening plan.now.setup plan.now.starts plan.now.program bench.core.journal result.0.core.journal (map (λ k. desk_tells (K.log k) (K.counts k)) bench.desks.items) (map (λ k. desk_tells (K.log k) (K.counts k)) result.0.desks.items) (is_ok result.1) link.ear link.mouth
-        (programs_value (P.starts programs.old) (P.faults programs.old)) (programs_value (P.starts programs.new) (P.faults programs.new)) wires.old.items wires.new.items }
+    ensures served { FirstServed (IsErr result.1) bench.core.opening plan.now.setup plan.now.starts plan.now.program bench.core.journal result.0.core.journal (map K.told bench.desks.items) (map K.told result.0.desks.items) (is_ok result.1) link.ear link.mouth
+        (P.told programs.old) (P.told programs.new) wires.old.items wires.new.items }
     ensures room { (vec_len wires.new ≤ vec_len wires.old + vec_len bench.desks) × (vec_capacity wires.new ≡ vec_capacity wires.old) }
     ensures core { IsSameCore bench.core result.0.core }
     ensures desks { vec_len result.0.desks ≡ vec_len bench.desks }
@@ -96,12 +95,12 @@ where
     requires room { vec_len wires.old + vec_len bench.desks ≤ vec_capacity wires.old }
     ensures starts { MatchResult result.1
         (λ next. OneJobStart bench.core.opening plan.now.setup plan.now.starts offer next true plan.now.program bench.core.journal result.0.core.journal
-        (map (λ k. desk_tells (K.log k) (K.counts k)) bench.desks.items) (map (λ k. desk_tells (K.log k) (K.counts k)) result.0.desks.items)
-        (programs_value (P.starts programs.old) (P.faults programs.old)) (programs_value (P.starts programs.new) (P.faults programs.new))
+        (map K.told bench.desks.items) (map K.told result.0.desks.items)
+        (P.told programs.old) (P.told programs.new)
         wires.old.items wires.new.items)
         (λ _. RunLacksMemory bench.core.opening plan.now.setup plan.now.starts offer plan.now.program bench.core.journal result.0.core.journal
-        (map (λ k. desk_tells (K.log k) (K.counts k)) bench.desks.items) (map (λ k. desk_tells (K.log k) (K.counts k)) result.0.desks.items)
-        (programs_value (P.starts programs.old) (P.faults programs.old)) (programs_value (P.starts programs.new) (P.faults programs.new))
+        (map K.told bench.desks.items) (map K.told result.0.desks.items)
+        (P.told programs.old) (P.told programs.new)
         wires.old.items wires.new.items) }
     ensures room { (vec_len wires.new ≤ vec_len wires.old + vec_len bench.desks) × (vec_capacity wires.new ≡ vec_capacity wires.old) }
     ensures core { IsSameCore bench.core result.0.core }
@@ -178,9 +177,9 @@ where
     requires desks { (0 < vec_len bench.desks) × (vec_len bench.desks ≤ 64) }
     requires room { plan.now.starts * vec_len bench.desks ≤ vec_capacity wires.old }
     requires none { wires.old.items ≡ [] }
-    ensures started { JobsStarted bench.core.opening plan.now.setup plan.now.offers plan.now.starts result.0.core.journal (map (λ k. desk_tells (K.log k) (K.counts k)) bench.desks.items) (map (λ k. desk_tells (K.log k) (K.counts k)) result.0.desks.items) result.1 }
-    ensures kept { KeptOr plan.now.program result.0.core.journal (programs_value (P.starts programs.old) (P.faults programs.old))
-        (programs_value (P.starts programs.new) (P.faults programs.new)) wires.new.items result.1 }
+    ensures started { JobsStarted bench.core.opening plan.now.setup plan.now.offers plan.now.starts result.0.core.journal (map K.told bench.desks.items) (map K.told result.0.desks.items) result.1 }
+    ensures kept { KeptOr plan.now.program result.0.core.journal (P.told programs.old)
+        (P.told programs.new) wires.new.items result.1 }
     ensures core { IsSameCore bench.core result.0.core }
     ensures desks { vec_len result.0.desks ≡ vec_len bench.desks }
 {

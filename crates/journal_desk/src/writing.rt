@@ -34,9 +34,9 @@ pub fn write_journal<D: Desk>(
     opening: &Opening,
     journal: &Journal,
 ) -> Result<JournalWritten, NoMemory>
-    ensures calls { IsWrittenBy (D.log desk.old) (D.log desk.new) name.now (journal_lines opening.now journal.now.entries) result }
-    ensures files { WhereTold (D.files desk.old) (D.files desk.new) (IsWrittenIn name.now (journal_text opening.now journal.now.entries) result) }
-    ensures causes { HasWriteCauses (D.files desk.old) (D.counts desk.old) (D.counts desk.new) result }
+    ensures calls { IsWrittenBy (D.told desk.old).log (D.told desk.new).log name.now (journal_lines opening.now journal.now.entries) result }
+    ensures files { WhereTold (D.told desk.old).files (D.told desk.new).files (IsWrittenIn name.now (journal_text opening.now journal.now.entries) result) }
+    ensures causes { HasWriteCauses (D.told desk.old).files (D.told desk.old).counts (D.told desk.new).counts result }
 {
     match make_synced(alloc, desk, name, opening, journal) {
         Ok(()) => Ok(JournalWritten::Done),
@@ -53,10 +53,10 @@ fn make_synced<D: Desk>(
     opening: &Opening,
     journal: &Journal,
 ) -> Result<(), DeskError>
-    ensures calls { MakesSynced (D.log desk.old) (D.log desk.new) name.now (journal_lines opening.now journal.now.entries) result }
-    ensures files { WhereTold (D.files desk.old) (D.files desk.new) (IsMadeAs name.now (journal_text opening.now journal.now.entries) result) }
-    ensures causes { HasCauses (D.counts desk.old) (D.counts desk.new) result }
-    ensures found { result ≡ Err DeskError.Missing → D.files desk.old ≡ None }
+    ensures calls { MakesSynced (D.told desk.old).log (D.told desk.new).log name.now (journal_lines opening.now journal.now.entries) result }
+    ensures files { WhereTold (D.told desk.old).files (D.told desk.new).files (IsMadeAs name.now (journal_text opening.now journal.now.entries) result) }
+    ensures causes { HasCauses (D.told desk.old).counts (D.told desk.new).counts result }
+    ensures found { result ≡ Err DeskError.Missing → (D.told desk.old).files ≡ None }
 {
     match make_text(alloc, desk, name, opening, journal) {
         Ok(()) => desk.sync(name),
@@ -72,10 +72,10 @@ fn make_text<D: Desk>(
     opening: &Opening,
     journal: &Journal,
 ) -> Result<(), DeskError>
-    ensures calls { MakesLines (D.log desk.old) (D.log desk.new) name.now (journal_lines opening.now journal.now.entries) result }
-    ensures files { WhereTold (D.files desk.old) (D.files desk.new) (IsMadeAs name.now (journal_text opening.now journal.now.entries) result) }
-    ensures causes { HasCauses (D.counts desk.old) (D.counts desk.new) result }
-    ensures found { result ≡ Err DeskError.Missing → D.files desk.old ≡ None }
+    ensures calls { MakesLines (D.told desk.old).log (D.told desk.new).log name.now (journal_lines opening.now journal.now.entries) result }
+    ensures files { WhereTold (D.told desk.old).files (D.told desk.new).files (IsMadeAs name.now (journal_text opening.now journal.now.entries) result) }
+    ensures causes { HasCauses (D.told desk.old).counts (D.told desk.new).counts result }
+    ensures found { result ≡ Err DeskError.Missing → (D.told desk.old).files ≡ None }
 {
     let Ok(registers) = opening.registers.lines() else {
         return Err(DeskError::NoMemory);
@@ -125,9 +125,9 @@ fn append_lines<D: Desk>(
     requires registers { map line_of kept.registers.now ≡ lines_of opening.now.registers }
     requires notes { map (λ note. note.now) kept.notes.now ≡ opening.now.notes }
     requires lines { lines ≡ length (journal_lines opening.now journal.now.entries) }
-    ensures calls { AppendsLines (D.log desk.old) (D.log desk.new) name.now (journal_lines opening.now journal.now.entries) result }
-    ensures files { WhereTold (D.files desk.old) (D.files desk.new) (GrowsBy name.now (journal_text opening.now journal.now.entries) result) }
-    ensures causes { HasCauses (D.counts desk.old) (D.counts desk.new) result }
+    ensures calls { AppendsLines (D.told desk.old).log (D.told desk.new).log name.now (journal_lines opening.now journal.now.entries) result }
+    ensures files { WhereTold (D.told desk.old).files (D.told desk.new).files (GrowsBy name.now (journal_text opening.now journal.now.entries) result) }
+    ensures causes { HasCauses (D.told desk.old).counts (D.told desk.new).counts result }
 {
     let mut piece = Vec::new(alloc);
     for n in 0..lines {
@@ -148,9 +148,9 @@ fn take_up<D: Desk>(
     piece: &mut Vec<u8>,
     line: Vec<u8>,
 ) -> Result<(), DeskError>
-    ensures ok { OnOk result (TakesUp (D.log desk.old) (D.log desk.new) (D.files desk.old) (D.files desk.new) name.now piece.old.items line.items piece.new.items) }
-    ensures err { IfErr result (λ e. RefusesPiece (D.log desk.old) (D.log desk.new) (D.files desk.old) (D.files desk.new) name.now piece.old.items e) }
-    ensures causes { HasCauses (D.counts desk.old) (D.counts desk.new) result }
+    ensures ok { OnOk result (TakesUp (D.told desk.old).log (D.told desk.new).log (D.told desk.old).files (D.told desk.new).files name.now piece.old.items line.items piece.new.items) }
+    ensures err { IfErr result (λ e. RefusesPiece (D.told desk.old).log (D.told desk.new).log (D.told desk.old).files (D.told desk.new).files name.now piece.old.items e) }
+    ensures causes { HasCauses (D.told desk.old).counts (D.told desk.new).counts result }
 {
     if joins(piece.as_slice(), line.as_slice()) {
         return match piece.extend_from_slice(line.as_slice()) {

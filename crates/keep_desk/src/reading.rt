@@ -28,10 +28,10 @@ pub enum KeptRead {
 
 /// What the file hands on. One that isn't there hands on what an empty one does.
 pub fn read_kept<D: Desk>(alloc: Global, desk: &mut D, name: &str) -> Result<KeptRead, NoMemory>
-    ensures read { IsReadAs (D.log desk.old) (D.log desk.new) name.now result }
-    ensures told { IfSome (D.files desk.old) (λ files. IsKeptAt name.now files result) }
-    ensures files { D.files desk.new ≡ D.files desk.old }
-    ensures causes { HasKeptCauses (D.counts desk.old) (D.counts desk.new) result }
+    ensures read { IsReadAs (D.told desk.old).log (D.told desk.new).log name.now result }
+    ensures told { IfSome (D.told desk.old).files (λ files. IsKeptAt name.now files result) }
+    ensures files { (D.told desk.new).files ≡ (D.told desk.old).files }
+    ensures causes { HasKeptCauses (D.told desk.old).counts (D.told desk.new).counts result }
 {
     match read_file(alloc, desk, name, MOST_BYTES) {
         Ok(FileRead::Text(text)) => kept_in(alloc, text.view()),

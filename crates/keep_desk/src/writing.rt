@@ -32,9 +32,9 @@ pub fn write_kept<D: Desk>(
     now: &Registers,
     notes: &NoteBook,
 ) -> Result<KeptWritten, NoMemory>
-    ensures calls { IsWrittenBy (D.log desk.old) (D.log desk.new) name.now (kept_text config.now now.now notes.now) result }
-    ensures files { WhereTold (D.files desk.old) (D.files desk.new) (IsWrittenIn name.now (kept_text config.now now.now notes.now) result) }
-    ensures causes { HasWriteCauses (D.files desk.old) (D.counts desk.old) (D.counts desk.new) result }
+    ensures calls { IsWrittenBy (D.told desk.old).log (D.told desk.new).log name.now (kept_text config.now now.now notes.now) result }
+    ensures files { WhereTold (D.told desk.old).files (D.told desk.new).files (IsWrittenIn name.now (kept_text config.now now.now notes.now) result) }
+    ensures causes { HasWriteCauses (D.told desk.old).files (D.told desk.old).counts (D.told desk.new).counts result }
 {
     let Ok(text) = write_keep(alloc, config, now, notes) else {
         return Err(NoMemory);
@@ -49,9 +49,9 @@ fn put<D: Desk>(
     name: &str,
     text: &[u8],
 ) -> Result<KeptWritten, NoMemory>
-    ensures calls { IsWrittenBy (D.log desk.old) (D.log desk.new) name.now text.now result }
-    ensures files { WhereTold (D.files desk.old) (D.files desk.new) (IsWrittenIn name.now text.now result) }
-    ensures causes { HasWriteCauses (D.files desk.old) (D.counts desk.old) (D.counts desk.new) result }
+    ensures calls { IsWrittenBy (D.told desk.old).log (D.told desk.new).log name.now text.now result }
+    ensures files { WhereTold (D.told desk.old).files (D.told desk.new).files (IsWrittenIn name.now text.now result) }
+    ensures causes { HasWriteCauses (D.told desk.old).files (D.told desk.old).counts (D.told desk.new).counts result }
 {
     if MOST_BYTES < text.len() {
         return Ok(KeptWritten::TooLarge);

@@ -29,10 +29,10 @@ fn settle<'a, W: Sink, K: Remote, R: Wait>(
     writer: &mut Writer<'a, W, R>,
     workers: &mut [Worker<'a, K, R>],
 )
-    requires writer { Stands writer.old.hall.now 2 writer.old.pass × (W.is_open writer.old.sink ≡ true) }
+    requires writer { Stands writer.old.hall.now 2 writer.old.pass × ((W.told writer.old.sink).is_open ≡ true) }
     requires workers { All (λ w. Stands w.hall.now (w.number + 3) w.pass) workers.old }
     ensures wrote { WriterGoes writer.old writer.new }
-    ensures writer { Stands writer.new.hall.now 2 writer.new.pass × (W.is_open writer.new.sink ≡ true) × (writer.new.hall.now ≡ writer.old.hall.now) }
+    ensures writer { Stands writer.new.hall.now 2 writer.new.pass × ((W.told writer.new.sink).is_open ≡ true) × (writer.new.hall.now ≡ writer.old.hall.now) }
     ensures workers { Pairwise WorkerGoes workers.old workers.new }
 {
     let rt = writer.rt;
@@ -52,8 +52,8 @@ pub(crate) fn serve_alone<'a, S: Source, W: Sink, K: Remote, R: Wait>(
     writer: &mut Writer<'a, W, R>,
     workers: &mut [Worker<'a, K, R>],
 )
-    requires reader { Stands reader.old.hall.now 1 reader.old.pass × (S.is_open reader.old.source ≡ true) × (reader.old.splitter.limit ≡ longest_line) }
-    requires writer { Stands writer.old.hall.now 2 writer.old.pass × (W.is_open writer.old.sink ≡ true) }
+    requires reader { Stands reader.old.hall.now 1 reader.old.pass × ((S.told reader.old.source).is_open ≡ true) × (reader.old.splitter.limit ≡ longest_line) }
+    requires writer { Stands writer.old.hall.now 2 writer.old.pass × ((W.told writer.old.sink).is_open ≡ true) }
     requires workers { All (λ w. Stands w.hall.now (w.number + 3) w.pass) workers.old }
     ensures read { ReaderGoes reader.old reader.new }
     ensures wrote { WriterGoes writer.old writer.new }

@@ -138,8 +138,8 @@ fn serve_unless<'a, K: Remote, S: Source, W: Sink, R: Wait>(
     writer: &mut Writer<'a, W, R>,
     workers: &mut [Worker<'a, K, R>],
 )
-    requires reader { Stands reader.old.hall.now 1 reader.old.pass × (S.is_open reader.old.source ≡ true) × (reader.old.splitter.limit ≡ longest_line) }
-    requires writer { Stands writer.old.hall.now 2 writer.old.pass × (W.is_open writer.old.sink ≡ true) }
+    requires reader { Stands reader.old.hall.now 1 reader.old.pass × ((S.told reader.old.source).is_open ≡ true) × (reader.old.splitter.limit ≡ longest_line) }
+    requires writer { Stands writer.old.hall.now 2 writer.old.pass × ((W.told writer.old.sink).is_open ≡ true) }
     requires workers { All (λ w. Stands w.hall.now (w.number + 3) w.pass) workers.old }
     ensures read { ReaderGoes reader.old reader.new }
     ensures wrote { WriterGoes writer.old writer.new }
@@ -166,8 +166,8 @@ fn run<
 ) -> Roles<'a, K, S, W, R>
     requires few { (vec_len crew.workers < 1000) × (vec_len crew.workers ≤ room) }
     requires backs { (backs.items ≡ []) × (vec_len crew.workers ≤ vec_capacity backs) }
-    requires reader { Stands crew.ear.hall.now 1 crew.ear.pass × (S.is_open crew.ear.source ≡ true) × (crew.ear.splitter.limit ≡ longest_line) × (crew.ear.why ≡ None) }
-    requires writer { Stands crew.mouth.hall.now 2 crew.mouth.pass × (W.is_open crew.mouth.sink ≡ true) × (crew.mouth.why ≡ None) }
+    requires reader { Stands crew.ear.hall.now 1 crew.ear.pass × ((S.told crew.ear.source).is_open ≡ true) × (crew.ear.splitter.limit ≡ longest_line) × (crew.ear.why ≡ None) }
+    requires writer { Stands crew.mouth.hall.now 2 crew.mouth.pass × ((W.told crew.mouth.sink).is_open ≡ true) × (crew.mouth.why ≡ None) }
     requires workers { All (λ w. Stands w.hall.now (w.number + 3) w.pass) crew.workers.items }
     ensures read { ReaderRuns crew.entry.ear result.ear }
     ensures wrote { WriterRuns crew.entry.mouth result.mouth }
@@ -243,7 +243,7 @@ pub(crate) fn play<
 >(site: &Site<'_, R>, most: usize, kit: Kit<K, S, W>) -> (Kit<K, S, W>, RoleEnds)
     requires remotes { (vec_len kit.remotes ≤ 64) × (vec_len kit.passes ≡ 2 + vec_len kit.remotes) }
     requires fresh { AreFresh site.now.hall.now 1 kit.passes.items }
-    requires open { (S.is_open kit.source ≡ true) × (W.is_open kit.sink ≡ true) }
+    requires open { ((S.told kit.source).is_open ≡ true) × ((W.told kit.sink).is_open ≡ true) }
     ensures own { All (IsPassOf site.now.hall.now) result.0.passes.items × (length result.0.passes.items ≡ length kit.passes.items) }
     ensures read { (held : List ℕ) × ReaderDid site.now.hall.now result.0.passes.items (ear_at S.Source kit.source []) (ear_at S.Source result.0.source held) result.1.read }
     ensures wrote { WriterDid site.now.hall.now result.0.passes.items (mouth_at W.Sink kit.sink) (mouth_at W.Sink result.0.sink) result.1.wrote }

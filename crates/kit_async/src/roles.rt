@@ -27,7 +27,7 @@ impl<'a, S: Source, R: Wait> Role for Reader<'a, S, R> {
     ghost use Rattle.kit_async_roles.specs.Passes.{Stands};
     ghost use Rattle.kit_async.specs.Turns.{ReaderRuns};
 
-    ghost can_run = { λ s. Stands s.hall.now 1 s.pass × (S.is_open s.source ≡ true) × (s.splitter.limit ≡ longest_line) };
+    ghost can_run = { λ s. Stands s.hall.now 1 s.pass × ((S.told s.source).is_open ≡ true) × (s.splitter.limit ≡ longest_line) };
 
     ghost ran = { λ a b. ReaderRuns a b × (b.hall.now ≡ a.hall.now) × (b.splitter.limit ≡ longest_line) };
 
@@ -62,9 +62,9 @@ impl<'a, S: Source, R: Wait> Reader<'a, S, R> {
 
     /// One turn, by the thread that calls it, and whether something was done. Nothing is, once it ended by itself.
     pub(crate) fn turn(&mut self) -> bool
-        requires can { Stands self.old.hall.now 1 self.old.pass × (S.is_open self.old.source ≡ true) × (self.old.splitter.limit ≡ longest_line) }
+        requires can { Stands self.old.hall.now 1 self.old.pass × ((S.told self.old.source).is_open ≡ true) × (self.old.splitter.limit ≡ longest_line) }
         ensures went { ReaderGoes self.old self.new }
-        ensures can { Stands self.new.hall.now 1 self.new.pass × (S.is_open self.new.source ≡ true) × (self.new.splitter.limit ≡ longest_line) }
+        ensures can { Stands self.new.hall.now 1 self.new.pass × ((S.told self.new.source).is_open ≡ true) × (self.new.splitter.limit ≡ longest_line) }
         ensures hall { self.new.hall.now ≡ self.old.hall.now }
     {
         if self.why.is_some() {
@@ -99,7 +99,7 @@ impl<'a, W: Sink, R: Wait> Role for Writer<'a, W, R> {
     ghost use Rattle.kit_async_roles.specs.Passes.{Stands};
     ghost use Rattle.kit_async.specs.Turns.{WriterRuns};
 
-    ghost can_run = { λ s. Stands s.hall.now 2 s.pass × (W.is_open s.sink ≡ true) };
+    ghost can_run = { λ s. Stands s.hall.now 2 s.pass × ((W.told s.sink).is_open ≡ true) };
 
     ghost ran = { λ a b. WriterRuns a b × (b.hall.now ≡ a.hall.now) };
 
@@ -129,9 +129,9 @@ impl<'a, W: Sink, R: Wait> Writer<'a, W, R> {
 
     /// One turn, by the thread that calls it, and whether something was done. Nothing is, once it ended by itself.
     pub(crate) fn turn(&mut self) -> bool
-        requires can { Stands self.old.hall.now 2 self.old.pass × (W.is_open self.old.sink ≡ true) }
+        requires can { Stands self.old.hall.now 2 self.old.pass × ((W.told self.old.sink).is_open ≡ true) }
         ensures went { WriterGoes self.old self.new }
-        ensures can { Stands self.new.hall.now 2 self.new.pass × (W.is_open self.new.sink ≡ true) }
+        ensures can { Stands self.new.hall.now 2 self.new.pass × ((W.told self.new.sink).is_open ≡ true) }
         ensures hall { self.new.hall.now ≡ self.old.hall.now }
     {
         if self.why.is_some() {

@@ -44,12 +44,12 @@ fn unserved<K: Remote + Drop, S: Source, W: Sink>(
     source: S,
     sink: W,
 ) -> AsyncEnd<K, S, W>
-    requires open { (S.is_open source ≡ true) × (W.is_open sink ≡ true) }
+    requires open { ((S.told source).is_open ≡ true) × ((W.told sink).is_open ≡ true) }
     ensures serves { (setup : Setup) → Serves setup
-        (record { given = S.given source; left = S.left source; taken = W.taken sink; calls = map K.calls remotes.items })
-        (record { given = S.given result.source; left = S.left result.source; taken = W.taken result.sink; calls = map K.calls result.remotes.items }) result.journal }
+        (record { given = (S.told source).given; left = (S.told source).left; taken = (W.told sink).taken; calls = map K.calls remotes.items })
+        (record { given = (S.told result.source).given; left = (S.told result.source).left; taken = (W.told result.sink).taken; calls = map K.calls result.remotes.items }) result.journal }
     ensures status { result.status ≡ status_of result.journal.why }
-    ensures causes { HasCauses result.journal.why (S.faults source) (S.faults result.source) (W.faults sink) (W.faults result.sink) }
+    ensures causes { HasCauses result.journal.why (S.told source).faults (S.told result.source).faults (W.told sink).faults (W.told result.sink).faults }
     ensures kept { (result.remotes ≡ remotes) × (result.source ≡ source) × (result.sink ≡ sink) }
 {
     AsyncEnd {
@@ -174,13 +174,13 @@ fn serve_over<
     sink: W,
 ) -> AsyncEnd<K, S, W>
     requires remotes { (0 < vec_len remotes) × (vec_len remotes ≤ 64) }
-    requires open { (S.is_open source ≡ true) × (W.is_open sink ≡ true) }
+    requires open { ((S.told source).is_open ≡ true) × ((W.told sink).is_open ≡ true) }
     ensures serves { Serves setup
-        (record { given = S.given source; left = S.left source; taken = W.taken sink; calls = map K.calls remotes.items })
-        (record { given = S.given result.source; left = S.left result.source; taken = W.taken result.sink; calls = map K.calls result.remotes.items }) result.journal }
+        (record { given = (S.told source).given; left = (S.told source).left; taken = (W.told sink).taken; calls = map K.calls remotes.items })
+        (record { given = (S.told result.source).given; left = (S.told result.source).left; taken = (W.told result.sink).taken; calls = map K.calls result.remotes.items }) result.journal }
     ensures status { result.status ≡ status_of result.journal.why }
-    ensures causes { HasCauses result.journal.why (S.faults source) (S.faults result.source) (W.faults sink) (W.faults result.sink) }
-    ensures open { (S.is_open result.source ≡ true) × (W.is_open result.sink ≡ true) }
+    ensures causes { HasCauses result.journal.why (S.told source).faults (S.told result.source).faults (W.told sink).faults (W.told result.sink).faults }
+    ensures open { ((S.told result.source).is_open ≡ true) × ((W.told result.sink).is_open ≡ true) }
     ensures settings { map K.settings result.remotes.items ≡ map K.settings remotes.items }
 {
     let Ok((hall, passes)) = begin(alloc, setup, remotes.len() as u32) else {
@@ -210,13 +210,13 @@ pub fn serve_async_some<
     R: Threads + Wait + Sync,
 >(rt: &R, alloc: Global, most: usize, remotes: Vec<K>, source: S, sink: W) -> AsyncEnd<K, S, W>
     requires remotes { (0 < vec_len remotes) × (vec_len remotes ≤ 64) }
-    requires open { (S.is_open source ≡ true) × (W.is_open sink ≡ true) }
+    requires open { ((S.told source).is_open ≡ true) × ((W.told sink).is_open ≡ true) }
     ensures serves { Serves (setup_of K.settings remotes.items)
-        (record { given = S.given source; left = S.left source; taken = W.taken sink; calls = map K.calls remotes.items })
-        (record { given = S.given result.source; left = S.left result.source; taken = W.taken result.sink; calls = map K.calls result.remotes.items }) result.journal }
+        (record { given = (S.told source).given; left = (S.told source).left; taken = (W.told sink).taken; calls = map K.calls remotes.items })
+        (record { given = (S.told result.source).given; left = (S.told result.source).left; taken = (W.told result.sink).taken; calls = map K.calls result.remotes.items }) result.journal }
     ensures status { result.status ≡ status_of result.journal.why }
-    ensures causes { HasCauses result.journal.why (S.faults source) (S.faults result.source) (W.faults sink) (W.faults result.sink) }
-    ensures open { (S.is_open result.source ≡ true) × (W.is_open result.sink ≡ true) }
+    ensures causes { HasCauses result.journal.why (S.told source).faults (S.told result.source).faults (W.told sink).faults (W.told result.sink).faults }
+    ensures open { ((S.told result.source).is_open ≡ true) × ((W.told result.sink).is_open ≡ true) }
     ensures settings { map K.settings result.remotes.items ≡ map K.settings remotes.items }
 {
     let Ok(setup) = setup(alloc, &remotes) else {
@@ -236,13 +236,13 @@ pub fn serve_async<
     R: Threads + Wait + Sync,
 >(rt: &R, alloc: Global, remotes: Vec<K>, source: S, sink: W) -> AsyncEnd<K, S, W>
     requires remotes { (0 < vec_len remotes) × (vec_len remotes ≤ 64) }
-    requires open { (S.is_open source ≡ true) × (W.is_open sink ≡ true) }
+    requires open { ((S.told source).is_open ≡ true) × ((W.told sink).is_open ≡ true) }
     ensures serves { Serves (setup_of K.settings remotes.items)
-        (record { given = S.given source; left = S.left source; taken = W.taken sink; calls = map K.calls remotes.items })
-        (record { given = S.given result.source; left = S.left result.source; taken = W.taken result.sink; calls = map K.calls result.remotes.items }) result.journal }
+        (record { given = (S.told source).given; left = (S.told source).left; taken = (W.told sink).taken; calls = map K.calls remotes.items })
+        (record { given = (S.told result.source).given; left = (S.told result.source).left; taken = (W.told result.sink).taken; calls = map K.calls result.remotes.items }) result.journal }
     ensures status { result.status ≡ status_of result.journal.why }
-    ensures causes { HasCauses result.journal.why (S.faults source) (S.faults result.source) (W.faults sink) (W.faults result.sink) }
-    ensures open { (S.is_open result.source ≡ true) × (W.is_open result.sink ≡ true) }
+    ensures causes { HasCauses result.journal.why (S.told source).faults (S.told result.source).faults (W.told sink).faults (W.told result.sink).faults }
+    ensures open { ((S.told result.source).is_open ≡ true) × ((W.told result.sink).is_open ≡ true) }
     ensures settings { map K.settings result.remotes.items ≡ map K.settings remotes.items }
 {
     serve_async_some(rt, alloc, usize::MAX, remotes, source, sink)
@@ -259,13 +259,13 @@ pub fn serve_async_described<
     R: Threads + Wait + Sync,
 >(rt: &R, alloc: Global, remotes: Vec<K>, facts: Vec<Fact>, source: S, sink: W) -> AsyncEnd<K, S, W>
     requires remotes { (0 < vec_len remotes) × (vec_len remotes ≤ 64) }
-    requires open { (S.is_open source ≡ true) × (W.is_open sink ≡ true) }
+    requires open { ((S.told source).is_open ≡ true) × ((W.told sink).is_open ≡ true) }
     ensures serves { Serves (described_setup K.settings K.description facts.items remotes.items)
-        (record { given = S.given source; left = S.left source; taken = W.taken sink; calls = map K.calls remotes.items })
-        (record { given = S.given result.source; left = S.left result.source; taken = W.taken result.sink; calls = map K.calls result.remotes.items }) result.journal }
+        (record { given = (S.told source).given; left = (S.told source).left; taken = (W.told sink).taken; calls = map K.calls remotes.items })
+        (record { given = (S.told result.source).given; left = (S.told result.source).left; taken = (W.told result.sink).taken; calls = map K.calls result.remotes.items }) result.journal }
     ensures status { result.status ≡ status_of result.journal.why }
-    ensures causes { HasCauses result.journal.why (S.faults source) (S.faults result.source) (W.faults sink) (W.faults result.sink) }
-    ensures open { (S.is_open result.source ≡ true) × (W.is_open result.sink ≡ true) }
+    ensures causes { HasCauses result.journal.why (S.told source).faults (S.told result.source).faults (W.told sink).faults (W.told result.sink).faults }
+    ensures open { ((S.told result.source).is_open ≡ true) × ((W.told result.sink).is_open ≡ true) }
     ensures settings { map K.settings result.remotes.items ≡ map K.settings remotes.items }
 {
     let Ok(setup) = described_setup(alloc, &remotes, facts) else {

@@ -138,12 +138,12 @@ fn read<S: Source, R: Wait>(
     splitter: &mut Splitter,
 ) -> Turn
     requires stands { Stands hall.now 1 pass.old }
-    requires open { S.is_open source.old ≡ true }
+    requires open { (S.told source.old).is_open ≡ true }
     requires limit { splitter.old.limit ≡ longest_line }
     requires none { has_newline splitter.old.bytes ≡ false }
     ensures ran { ReaderRan hall.now pass.old pass.new
-        (ear_of (S.given source.old) (S.left source.old) (half_of (S.faults source.old) (S.is_open source.old) (S.number source.old)) splitter.old.bytes)
-        (ear_of (S.given source.new) (S.left source.new) (half_of (S.faults source.new) (S.is_open source.new) (S.number source.new)) splitter.new.bytes)
+        (ear_of (S.told source.old).given (S.told source.old).left (half_of (S.told source.old).faults (S.told source.old).is_open (S.told source.old).number) splitter.old.bytes)
+        (ear_of (S.told source.new).given (S.told source.new).left (half_of (S.told source.new).faults (S.told source.new).is_open (S.told source.new).number) splitter.new.bytes)
         (why_of result) }
     ensures limit { splitter.new.limit ≡ longest_line }
 {
@@ -163,11 +163,11 @@ pub fn read_turn<S: Source, R: Wait>(
     splitter: &mut Splitter,
 ) -> Turn
     requires stands { Stands hall.now 1 pass.old }
-    requires open { S.is_open source.old ≡ true }
+    requires open { (S.told source.old).is_open ≡ true }
     requires limit { splitter.old.limit ≡ longest_line }
     ensures ran { ReaderRan hall.now pass.old pass.new
-        (ear_of (S.given source.old) (S.left source.old) (half_of (S.faults source.old) (S.is_open source.old) (S.number source.old)) splitter.old.bytes)
-        (ear_of (S.given source.new) (S.left source.new) (half_of (S.faults source.new) (S.is_open source.new) (S.number source.new)) splitter.new.bytes)
+        (ear_of (S.told source.old).given (S.told source.old).left (half_of (S.told source.old).faults (S.told source.old).is_open (S.told source.old).number) splitter.old.bytes)
+        (ear_of (S.told source.new).given (S.told source.new).left (half_of (S.told source.new).faults (S.told source.new).is_open (S.told source.new).number) splitter.new.bytes)
         (why_of result) }
     ensures limit { splitter.new.limit ≡ longest_line }
 {
@@ -189,11 +189,11 @@ pub fn listen<S: Source, R: Wait>(
     splitter: &mut Splitter,
 ) -> Option<Why>
     requires stands { Stands hall.now 1 pass.old }
-    requires open { S.is_open source.old ≡ true }
+    requires open { (S.told source.old).is_open ≡ true }
     requires limit { splitter.old.limit ≡ longest_line }
     ensures ran { ReaderRan hall.now pass.old pass.new
-        (ear_of (S.given source.old) (S.left source.old) (half_of (S.faults source.old) (S.is_open source.old) (S.number source.old)) splitter.old.bytes)
-        (ear_of (S.given source.new) (S.left source.new) (half_of (S.faults source.new) (S.is_open source.new) (S.number source.new)) splitter.new.bytes)
+        (ear_of (S.told source.old).given (S.told source.old).left (half_of (S.told source.old).faults (S.told source.old).is_open (S.told source.old).number) splitter.old.bytes)
+        (ear_of (S.told source.new).given (S.told source.new).left (half_of (S.told source.new).faults (S.told source.new).is_open (S.told source.new).number) splitter.new.bytes)
         result }
     ensures limit { splitter.new.limit ≡ longest_line }
 {

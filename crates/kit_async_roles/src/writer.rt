@@ -19,12 +19,12 @@ use std::sync::Wait;
 
 // Writes the line and hands it on. After `Failed` the sink has taken the first bytes of it.
 fn put<W: Sink>(sink: &mut W, line: &[u8]) -> Result<(), Failed>
-    requires { W.is_open sink.old ≡ true }
-    ensures ok { OnOk result (Appends (W.taken sink.old) (W.taken sink.new) (line.now ++ 10 ∷ [])) }
-    ensures prefix { (n : ℕ) × Appends (W.taken sink.old) (W.taken sink.new) (take n (line.now ++ 10 ∷ [])) }
-    ensures silent { StaysUntold (W.taken sink.old) (W.taken sink.new) }
-    ensures sink { Leaves (half_of (W.faults sink.old) (W.is_open sink.old) (W.number sink.old))
-        (half_of (W.faults sink.new) (W.is_open sink.new) (W.number sink.new)) (IsErr result) }
+    requires { (W.told sink.old).is_open ≡ true }
+    ensures ok { OnOk result (Appends (W.told sink.old).taken (W.told sink.new).taken (line.now ++ 10 ∷ [])) }
+    ensures prefix { (n : ℕ) × Appends (W.told sink.old).taken (W.told sink.new).taken (take n (line.now ++ 10 ∷ [])) }
+    ensures silent { StaysUntold (W.told sink.old).taken (W.told sink.new).taken }
+    ensures sink { Leaves (half_of (W.told sink.old).faults (W.told sink.old).is_open (W.told sink.old).number)
+        (half_of (W.told sink.new).faults (W.told sink.new).is_open (W.told sink.new).number) (IsErr result) }
 {
     write_line(sink, line)?;
     sink.flush()
@@ -39,11 +39,11 @@ fn write<W: Sink, R: Wait>(
     line: &Bytes,
 ) -> Turn
     requires stands { Stands hall.now 2 pass.old }
-    requires open { W.is_open sink.old ≡ true }
+    requires open { (W.told sink.old).is_open ≡ true }
     requires line { IsNextLine (seen_of pass.old) line.now }
     ensures ran { WriterRan hall.now pass.old pass.new
-        (mouth_of (W.taken sink.old) (half_of (W.faults sink.old) (W.is_open sink.old) (W.number sink.old)))
-        (mouth_of (W.taken sink.new) (half_of (W.faults sink.new) (W.is_open sink.new) (W.number sink.new)))
+        (mouth_of (W.told sink.old).taken (half_of (W.told sink.old).faults (W.told sink.old).is_open (W.told sink.old).number))
+        (mouth_of (W.told sink.new).taken (half_of (W.told sink.new).faults (W.told sink.new).is_open (W.told sink.new).number))
         (why_of result) }
 {
     match put(sink, line.view()) {
@@ -64,10 +64,10 @@ pub fn write_turn<W: Sink, R: Wait>(
     sink: &mut W,
 ) -> Turn
     requires stands { Stands hall.now 2 pass.old }
-    requires open { W.is_open sink.old ≡ true }
+    requires open { (W.told sink.old).is_open ≡ true }
     ensures ran { WriterRan hall.now pass.old pass.new
-        (mouth_of (W.taken sink.old) (half_of (W.faults sink.old) (W.is_open sink.old) (W.number sink.old)))
-        (mouth_of (W.taken sink.new) (half_of (W.faults sink.new) (W.is_open sink.new) (W.number sink.new)))
+        (mouth_of (W.told sink.old).taken (half_of (W.told sink.old).faults (W.told sink.old).is_open (W.told sink.old).number))
+        (mouth_of (W.told sink.new).taken (half_of (W.told sink.new).faults (W.told sink.new).is_open (W.told sink.new).number))
         (why_of result) }
 {
     match enter(rt, hall, pass, Event::Next) {
@@ -86,10 +86,10 @@ pub fn speak<W: Sink, R: Wait>(
     sink: &mut W,
 ) -> Option<Why>
     requires stands { Stands hall.now 2 pass.old }
-    requires open { W.is_open sink.old ≡ true }
+    requires open { (W.told sink.old).is_open ≡ true }
     ensures ran { WriterRan hall.now pass.old pass.new
-        (mouth_of (W.taken sink.old) (half_of (W.faults sink.old) (W.is_open sink.old) (W.number sink.old)))
-        (mouth_of (W.taken sink.new) (half_of (W.faults sink.new) (W.is_open sink.new) (W.number sink.new)))
+        (mouth_of (W.told sink.old).taken (half_of (W.told sink.old).faults (W.told sink.old).is_open (W.told sink.old).number))
+        (mouth_of (W.told sink.new).taken (half_of (W.told sink.new).faults (W.told sink.new).is_open (W.told sink.new).number))
         result }
 {
     for _ in rt.forever() {

@@ -34,17 +34,17 @@ impl<S: Feed, V: Voice> Model for Child<S, V> {
       source = c.source;
       voice = c.voice;
       held = c.splitter.bytes;
-      said = ⟦<MemSink as Sink>⟧.taken c.said;
+      said = (⟦<MemSink as Sink>⟧.told c.said).taken;
       read = c.read;
       end = c.end;
     } };
 
-    ghost invariant = { λ c. (c.splitter.limit ≡ longest_line) × (⟦<MemSink as Sink>⟧.is_open c.said ≡ true)
+    ghost invariant = { λ c. (c.splitter.limit ≡ longest_line) × ((⟦<MemSink as Sink>⟧.told c.said).is_open ≡ true)
         × IsChild S.heard S.is_at_end V.spoke V.is_over V.is_foul V.lacks (record {
           source = c.source;
           voice = c.voice;
           held = c.splitter.bytes;
-          said = ⟦<MemSink as Sink>⟧.taken c.said;
+          said = (⟦<MemSink as Sink>⟧.told c.said).taken;
           read = c.read;
           end = c.end;
         }) };

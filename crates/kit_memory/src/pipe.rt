@@ -189,22 +189,16 @@ fn await_some<T: Wait>(rt: &T, gate: &Gate, ring: &mut Exit, buf: &mut [u8]) -> 
 }
 
 impl<'a, T: Wait> Sink for PipeInlet<'a, T> {
-    ghost faults = { λ _. 0 };
-
-    ghost taken = { λ s. Some (bytes_in (sent s.ring)) };
-
-    ghost is_open = { λ s. s.is_open };
-
-    ghost number = { λ _. None };
+    ghost told = { λ s. record { faults = 0; taken = Some (bytes_in (sent s.ring)); is_open = s.is_open; number = None } };
 
     fn write(&mut self, piece: &[u8]) -> Result<usize, Failed>
-        requires { ⟦<PipeInlet<'a, T> as Sink>⟧.is_open self.old ≡ true }
+        requires { (⟦<PipeInlet<'a, T> as Sink>⟧.told self.old).is_open ≡ true }
         ensures bound { WritesAtMost result piece.now }
         ensures some { 0 < length piece.now → IfOk result (λ n. 0 < n) }
-        ensures bytes { WriteAppends (⟦<PipeInlet<'a, T> as Sink>⟧.taken self.old) (⟦<PipeInlet<'a, T> as Sink>⟧.taken self.new) result piece.now }
-        ensures silent { StaysUntold (⟦<PipeInlet<'a, T> as Sink>⟧.taken self.old) (⟦<PipeInlet<'a, T> as Sink>⟧.taken self.new) }
-        ensures cause { HasCause (⟦<PipeInlet<'a, T> as Sink>⟧.faults self.old) (⟦<PipeInlet<'a, T> as Sink>⟧.faults self.new) result }
-        ensures stays { (⟦<PipeInlet<'a, T> as Sink>⟧.is_open self.new ≡ true) × (⟦<PipeInlet<'a, T> as Sink>⟧.number self.new ≡ ⟦<PipeInlet<'a, T> as Sink>⟧.number self.old) }
+        ensures bytes { WriteAppends (⟦<PipeInlet<'a, T> as Sink>⟧.told self.old).taken (⟦<PipeInlet<'a, T> as Sink>⟧.told self.new).taken result piece.now }
+        ensures silent { StaysUntold (⟦<PipeInlet<'a, T> as Sink>⟧.told self.old).taken (⟦<PipeInlet<'a, T> as Sink>⟧.told self.new).taken }
+        ensures cause { HasCause (⟦<PipeInlet<'a, T> as Sink>⟧.told self.old).faults (⟦<PipeInlet<'a, T> as Sink>⟧.told self.new).faults result }
+        ensures stays { ((⟦<PipeInlet<'a, T> as Sink>⟧.told self.new).is_open ≡ true) × ((⟦<PipeInlet<'a, T> as Sink>⟧.told self.new).number ≡ (⟦<PipeInlet<'a, T> as Sink>⟧.told self.old).number) }
         ensures pipe { SameProducer self.old.ring self.new.ring }
     {
         let rt = self.rt;
@@ -216,21 +210,21 @@ impl<'a, T: Wait> Sink for PipeInlet<'a, T> {
     }
 
     fn flush(&mut self) -> Result<(), Failed>
-        requires { ⟦<PipeInlet<'a, T> as Sink>⟧.is_open self.old ≡ true }
-        ensures bytes { ⟦<PipeInlet<'a, T> as Sink>⟧.taken self.new ≡ ⟦<PipeInlet<'a, T> as Sink>⟧.taken self.old }
-        ensures cause { HasCause (⟦<PipeInlet<'a, T> as Sink>⟧.faults self.old) (⟦<PipeInlet<'a, T> as Sink>⟧.faults self.new) result }
-        ensures stays { (⟦<PipeInlet<'a, T> as Sink>⟧.is_open self.new ≡ true) × (⟦<PipeInlet<'a, T> as Sink>⟧.number self.new ≡ ⟦<PipeInlet<'a, T> as Sink>⟧.number self.old) }
+        requires { (⟦<PipeInlet<'a, T> as Sink>⟧.told self.old).is_open ≡ true }
+        ensures bytes { (⟦<PipeInlet<'a, T> as Sink>⟧.told self.new).taken ≡ (⟦<PipeInlet<'a, T> as Sink>⟧.told self.old).taken }
+        ensures cause { HasCause (⟦<PipeInlet<'a, T> as Sink>⟧.told self.old).faults (⟦<PipeInlet<'a, T> as Sink>⟧.told self.new).faults result }
+        ensures stays { ((⟦<PipeInlet<'a, T> as Sink>⟧.told self.new).is_open ≡ true) × ((⟦<PipeInlet<'a, T> as Sink>⟧.told self.new).number ≡ (⟦<PipeInlet<'a, T> as Sink>⟧.told self.old).number) }
         ensures pipe { SameProducer self.old.ring self.new.ring }
     {
         Ok(())
     }
 
     fn close(&mut self)
-        requires { ⟦<PipeInlet<'a, T> as Sink>⟧.is_open self.old ≡ true }
-        ensures closed { ⟦<PipeInlet<'a, T> as Sink>⟧.is_open self.new ≡ false }
-        ensures bytes { ⟦<PipeInlet<'a, T> as Sink>⟧.taken self.new ≡ ⟦<PipeInlet<'a, T> as Sink>⟧.taken self.old }
-        ensures counts { (⟦<PipeInlet<'a, T> as Sink>⟧.faults self.new ≡ ⟦<PipeInlet<'a, T> as Sink>⟧.faults self.old)
-            × (⟦<PipeInlet<'a, T> as Sink>⟧.number self.new ≡ ⟦<PipeInlet<'a, T> as Sink>⟧.number self.old) }
+        requires { (⟦<PipeInlet<'a, T> as Sink>⟧.told self.old).is_open ≡ true }
+        ensures closed { (⟦<PipeInlet<'a, T> as Sink>⟧.told self.new).is_open ≡ false }
+        ensures bytes { (⟦<PipeInlet<'a, T> as Sink>⟧.told self.new).taken ≡ (⟦<PipeInlet<'a, T> as Sink>⟧.told self.old).taken }
+        ensures counts { ((⟦<PipeInlet<'a, T> as Sink>⟧.told self.new).faults ≡ (⟦<PipeInlet<'a, T> as Sink>⟧.told self.old).faults)
+            × ((⟦<PipeInlet<'a, T> as Sink>⟧.told self.new).number ≡ (⟦<PipeInlet<'a, T> as Sink>⟧.told self.old).number) }
         ensures pipe { SameProducer self.old.ring self.new.ring }
     {
         let rt = self.rt;

@@ -85,9 +85,9 @@ impl<'a, T: Wait, R: Remote> KitOutlet<'a, T, R> {
         R: Drop,
         requires { IsPair inlet.old.ring self.child.source.ring }
         ensures heard { (rest : List ℕ)
-            × (⟦<PipeInlet<'a, T> as Sink>⟧.taken inlet.new ≡ Some (⟦<PipeOutlet<'a, T> as Feed>⟧.heard self.entry.child.source ++ rest))
+            × ((⟦<PipeInlet<'a, T> as Sink>⟧.told inlet.new).taken ≡ Some (⟦<PipeOutlet<'a, T> as Feed>⟧.heard self.entry.child.source ++ rest))
             × (self.entry.child.end ≡ Some Eof → rest ≡ []) }
-        ensures same { ⟦<PipeInlet<'a, T> as Sink>⟧.taken inlet.new ≡ ⟦<PipeInlet<'a, T> as Sink>⟧.taken inlet.old }
+        ensures same { (⟦<PipeInlet<'a, T> as Sink>⟧.told inlet.new).taken ≡ (⟦<PipeInlet<'a, T> as Sink>⟧.told inlet.old).taken }
     {
         self.stands();
         let KitOutlet {
@@ -101,26 +101,18 @@ impl<'a, T: Wait, R: Remote> KitOutlet<'a, T, R> {
 }
 
 impl<'a, T: Wait, R: Remote> Source for KitOutlet<'a, T, R> {
-    ghost faults = { λ _. 0 };
-
-    ghost given = { λ s. read_of s.child };
-
-    ghost left = { λ _. None };
-
-    ghost is_open = { λ s. s.is_open };
-
-    ghost number = { λ _. None };
+    ghost told = { λ s. record { faults = 0; given = read_of s.child; left = None; is_open = s.is_open; number = None } };
 
     fn read(&mut self, buf: &mut [u8]) -> Result<usize, Failed>
-        requires { ⟦<KitOutlet<'a, T, R> as Source>⟧.is_open self.old ≡ true }
+        requires { (⟦<KitOutlet<'a, T, R> as Source>⟧.told self.old).is_open ≡ true }
         ensures bound { ReadsAtMost result buf.new }
-        ensures bytes { ReadConsumes (⟦<KitOutlet<'a, T, R> as Source>⟧.left self.old) (⟦<KitOutlet<'a, T, R> as Source>⟧.left self.new) result buf.new }
-        ensures given { WriteAppends (⟦<KitOutlet<'a, T, R> as Source>⟧.given self.old) (⟦<KitOutlet<'a, T, R> as Source>⟧.given self.new) result buf.new }
-        ensures silent { StaysUntold (⟦<KitOutlet<'a, T, R> as Source>⟧.left self.old) (⟦<KitOutlet<'a, T, R> as Source>⟧.left self.new)
-            × StaysUntold (⟦<KitOutlet<'a, T, R> as Source>⟧.given self.old) (⟦<KitOutlet<'a, T, R> as Source>⟧.given self.new) }
-        ensures cause { HasCause (⟦<KitOutlet<'a, T, R> as Source>⟧.faults self.old) (⟦<KitOutlet<'a, T, R> as Source>⟧.faults self.new) result }
-        ensures stays { (⟦<KitOutlet<'a, T, R> as Source>⟧.is_open self.new ≡ true)
-            × (⟦<KitOutlet<'a, T, R> as Source>⟧.number self.new ≡ ⟦<KitOutlet<'a, T, R> as Source>⟧.number self.old)
+        ensures bytes { ReadConsumes (⟦<KitOutlet<'a, T, R> as Source>⟧.told self.old).left (⟦<KitOutlet<'a, T, R> as Source>⟧.told self.new).left result buf.new }
+        ensures given { WriteAppends (⟦<KitOutlet<'a, T, R> as Source>⟧.told self.old).given (⟦<KitOutlet<'a, T, R> as Source>⟧.told self.new).given result buf.new }
+        ensures silent { StaysUntold (⟦<KitOutlet<'a, T, R> as Source>⟧.told self.old).left (⟦<KitOutlet<'a, T, R> as Source>⟧.told self.new).left
+            × StaysUntold (⟦<KitOutlet<'a, T, R> as Source>⟧.told self.old).given (⟦<KitOutlet<'a, T, R> as Source>⟧.told self.new).given }
+        ensures cause { HasCause (⟦<KitOutlet<'a, T, R> as Source>⟧.told self.old).faults (⟦<KitOutlet<'a, T, R> as Source>⟧.told self.new).faults result }
+        ensures stays { ((⟦<KitOutlet<'a, T, R> as Source>⟧.told self.new).is_open ≡ true)
+            × ((⟦<KitOutlet<'a, T, R> as Source>⟧.told self.new).number ≡ (⟦<KitOutlet<'a, T, R> as Source>⟧.told self.old).number)
             × SameConsumer self.old.child.source.ring self.new.child.source.ring }
         ensures ended { IfOk result (λ n. n ≡ 0 → 0 < length buf.new → (self.new.child.end ≡ None → ⊥) × IsReadOut self.new.child) }
     {
@@ -135,12 +127,12 @@ impl<'a, T: Wait, R: Remote> Source for KitOutlet<'a, T, R> {
     }
 
     fn close(&mut self)
-        requires { ⟦<KitOutlet<'a, T, R> as Source>⟧.is_open self.old ≡ true }
-        ensures closed { ⟦<KitOutlet<'a, T, R> as Source>⟧.is_open self.new ≡ false }
-        ensures told { (⟦<KitOutlet<'a, T, R> as Source>⟧.left self.new ≡ ⟦<KitOutlet<'a, T, R> as Source>⟧.left self.old)
-            × (⟦<KitOutlet<'a, T, R> as Source>⟧.given self.new ≡ ⟦<KitOutlet<'a, T, R> as Source>⟧.given self.old) }
-        ensures counts { (⟦<KitOutlet<'a, T, R> as Source>⟧.faults self.new ≡ ⟦<KitOutlet<'a, T, R> as Source>⟧.faults self.old)
-            × (⟦<KitOutlet<'a, T, R> as Source>⟧.number self.new ≡ ⟦<KitOutlet<'a, T, R> as Source>⟧.number self.old) }
+        requires { (⟦<KitOutlet<'a, T, R> as Source>⟧.told self.old).is_open ≡ true }
+        ensures closed { (⟦<KitOutlet<'a, T, R> as Source>⟧.told self.new).is_open ≡ false }
+        ensures told { ((⟦<KitOutlet<'a, T, R> as Source>⟧.told self.new).left ≡ (⟦<KitOutlet<'a, T, R> as Source>⟧.told self.old).left)
+            × ((⟦<KitOutlet<'a, T, R> as Source>⟧.told self.new).given ≡ (⟦<KitOutlet<'a, T, R> as Source>⟧.told self.old).given) }
+        ensures counts { ((⟦<KitOutlet<'a, T, R> as Source>⟧.told self.new).faults ≡ (⟦<KitOutlet<'a, T, R> as Source>⟧.told self.old).faults)
+            × ((⟦<KitOutlet<'a, T, R> as Source>⟧.told self.new).number ≡ (⟦<KitOutlet<'a, T, R> as Source>⟧.told self.old).number) }
         ensures child { self.new.child ≡ self.old.child }
     {
         self.is_open = false;
@@ -154,23 +146,21 @@ impl<'a, T: Wait + Sync, M: Maker> Programs for KitPrograms<'a, T, M> {
 
     type Stub = KitStub;
 
-    ghost faults = { λ _. 0 };
-
-    ghost starts = { λ _. None };
+    ghost told = { λ _. record { faults = 0; starts = None } };
 
     fn start(
         &mut self,
         program: &str,
     ) -> Result<Started<Self::Inlet, Self::Outlet, KitStub>, StartError>
-        ensures faults { ⟦<KitPrograms<'a, T, M> as Programs>⟧.faults self.old ≤ ⟦<KitPrograms<'a, T, M> as Programs>⟧.faults self.new }
-        ensures failed { result ≡ Err StartError.Failed → Rose (⟦<KitPrograms<'a, T, M> as Programs>⟧.faults self.old) (⟦<KitPrograms<'a, T, M> as Programs>⟧.faults self.new) }
-        ensures done { OnOk result (⟦<KitPrograms<'a, T, M> as Programs>⟧.faults self.new ≡ ⟦<KitPrograms<'a, T, M> as Programs>⟧.faults self.old) }
-        ensures starts { StartAdds (⟦<KitPrograms<'a, T, M> as Programs>⟧.starts self.old) (⟦<KitPrograms<'a, T, M> as Programs>⟧.starts self.new) program.now result }
-        ensures inlet { IfOk result (λ s. (⟦<PipeInlet<'a, T> as Sink>⟧.is_open s.inlet ≡ true) × (⟦<PipeInlet<'a, T> as Sink>⟧.faults s.inlet ≡ 0)
-            × IsBlank (⟦<PipeInlet<'a, T> as Sink>⟧.taken s.inlet) × IsNumbered (⟦<KitPrograms<'a, T, M> as Programs>⟧.starts self.new) (⟦<PipeInlet<'a, T> as Sink>⟧.number s.inlet)) }
-        ensures outlet { IfOk result (λ s. (⟦<KitOutlet<'a, T, M::Remote> as Source>⟧.is_open s.outlet ≡ true) × (⟦<KitOutlet<'a, T, M::Remote> as Source>⟧.faults s.outlet ≡ 0)
-            × IsBlank (⟦<KitOutlet<'a, T, M::Remote> as Source>⟧.given s.outlet)
-            × IsNumbered (⟦<KitPrograms<'a, T, M> as Programs>⟧.starts self.new) (⟦<KitOutlet<'a, T, M::Remote> as Source>⟧.number s.outlet)) }
+        ensures faults { (⟦<KitPrograms<'a, T, M> as Programs>⟧.told self.old).faults ≤ (⟦<KitPrograms<'a, T, M> as Programs>⟧.told self.new).faults }
+        ensures failed { result ≡ Err StartError.Failed → Rose (⟦<KitPrograms<'a, T, M> as Programs>⟧.told self.old).faults (⟦<KitPrograms<'a, T, M> as Programs>⟧.told self.new).faults }
+        ensures done { OnOk result ((⟦<KitPrograms<'a, T, M> as Programs>⟧.told self.new).faults ≡ (⟦<KitPrograms<'a, T, M> as Programs>⟧.told self.old).faults) }
+        ensures starts { StartAdds (⟦<KitPrograms<'a, T, M> as Programs>⟧.told self.old).starts (⟦<KitPrograms<'a, T, M> as Programs>⟧.told self.new).starts program.now result }
+        ensures inlet { IfOk result (λ s. ((⟦<PipeInlet<'a, T> as Sink>⟧.told s.inlet).is_open ≡ true) × ((⟦<PipeInlet<'a, T> as Sink>⟧.told s.inlet).faults ≡ 0)
+            × IsBlank (⟦<PipeInlet<'a, T> as Sink>⟧.told s.inlet).taken × IsNumbered (⟦<KitPrograms<'a, T, M> as Programs>⟧.told self.new).starts (⟦<PipeInlet<'a, T> as Sink>⟧.told s.inlet).number) }
+        ensures outlet { IfOk result (λ s. ((⟦<KitOutlet<'a, T, M::Remote> as Source>⟧.told s.outlet).is_open ≡ true) × ((⟦<KitOutlet<'a, T, M::Remote> as Source>⟧.told s.outlet).faults ≡ 0)
+            × IsBlank (⟦<KitOutlet<'a, T, M::Remote> as Source>⟧.told s.outlet).given
+            × IsNumbered (⟦<KitPrograms<'a, T, M> as Programs>⟧.told self.new).starts (⟦<KitOutlet<'a, T, M::Remote> as Source>⟧.told s.outlet).number) }
         ensures pair { IfOk result (λ s. IsPair s.inlet.ring s.outlet.child.source.ring) }
     {
         let _any = program;

@@ -117,15 +117,15 @@ pub fn serve_described<R: Remote + Describe, S: Source, W: Sink>(
     source: &mut S,
     sink: &mut W,
 ) -> Served<R>
-    requires source { S.is_open source.old ≡ true }
-    requires sink { W.is_open sink.old ≡ true }
-    ensures serves { ServesDescribed R.settings R.calls R.description remote result.remote (record { given = S.given source.old; taken = W.taken sink.old })
-        (record { given = S.given source.new; taken = W.taken sink.new }) result.status }
-    ensures end { result.status ≡ 0 → IfSome (S.left source.new) (λ bytes. bytes ≡ []) }
-    ensures source { Leaves (record { faults = S.faults source.old; is_open = S.is_open source.old; number = S.number source.old })
-        (record { faults = S.faults source.new; is_open = S.is_open source.new; number = S.number source.new }) (result.status ≡ 4) }
-    ensures sink { Leaves (record { faults = W.faults sink.old; is_open = W.is_open sink.old; number = W.number sink.old })
-        (record { faults = W.faults sink.new; is_open = W.is_open sink.new; number = W.number sink.new }) (result.status ≡ 5) }
+    requires source { (S.told source.old).is_open ≡ true }
+    requires sink { (W.told sink.old).is_open ≡ true }
+    ensures serves { ServesDescribed R.settings R.calls R.description remote result.remote (record { given = (S.told source.old).given; taken = (W.told sink.old).taken })
+        (record { given = (S.told source.new).given; taken = (W.told sink.new).taken }) result.status }
+    ensures end { result.status ≡ 0 → IfSome (S.told source.new).left (λ bytes. bytes ≡ []) }
+    ensures source { Leaves (record { faults = (S.told source.old).faults; is_open = (S.told source.old).is_open; number = (S.told source.old).number })
+        (record { faults = (S.told source.new).faults; is_open = (S.told source.new).is_open; number = (S.told source.new).number }) (result.status ≡ 4) }
+    ensures sink { Leaves (record { faults = (W.told sink.old).faults; is_open = (W.told sink.old).is_open; number = (W.told sink.old).number })
+        (record { faults = (W.told sink.new).faults; is_open = (W.told sink.new).is_open; number = (W.told sink.new).number }) (result.status ≡ 5) }
     ensures settings { R.settings result.remote ≡ R.settings remote }
 {
     let mut described = Described::new(alloc, remote);

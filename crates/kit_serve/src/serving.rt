@@ -37,14 +37,14 @@ pub struct Served<R> {
 
 /// What the voice says to one line is written and handed on.
 pub fn hear<V: Voice, W: Mouth>(voice: &mut V, sink: &mut W, line: &[u8]) -> Result<(), End>
-    requires open { W.is_open sink.old ≡ true }
+    requires open { (W.told sink.old).is_open ≡ true }
     requires line { has_newline line.now ≡ false }
     requires live { V.is_over voice.old ≡ false }
     requires flushed { W.is_flushed sink.old ≡ true }
-    ensures heard { Hears V.spoke V.is_over V.is_foul V.lacks voice.old voice.new (W.taken sink.old) (W.taken sink.new) line.now result }
+    ensures heard { Hears V.spoke V.is_over V.is_foul V.lacks voice.old voice.new (W.told sink.old).taken (W.told sink.new).taken line.now result }
     ensures flushed { (end_of result ≡ Some WriteFault → ⊥) → W.is_flushed sink.new ≡ true }
-    ensures sink { Leaves (record { faults = W.faults sink.old; is_open = W.is_open sink.old; number = W.number sink.old })
-        (record { faults = W.faults sink.new; is_open = W.is_open sink.new; number = W.number sink.new }) (end_of result ≡ Some WriteFault) }
+    ensures sink { Leaves (record { faults = (W.told sink.old).faults; is_open = (W.told sink.old).is_open; number = (W.told sink.old).number })
+        (record { faults = (W.told sink.new).faults; is_open = (W.told sink.new).is_open; number = (W.told sink.new).number }) (end_of result ≡ Some WriteFault) }
 {
     match voice.answer(line) {
         Ok(Some(step)) => {
@@ -63,14 +63,14 @@ pub fn hear<V: Voice, W: Mouth>(voice: &mut V, sink: &mut W, line: &[u8]) -> Res
 
 /// One read. Room is taken before it for all that it may give, so that no byte is lost.
 pub fn fill<S: Ear>(splitter: &mut Splitter, source: &mut S) -> Result<(), End>
-    requires { S.is_open source.old ≡ true }
-    ensures reads { ReadsOn (S.given source.old) (S.given source.new) splitter.old.bytes splitter.new.bytes result }
+    requires { (S.told source.old).is_open ≡ true }
+    ensures reads { ReadsOn (S.told source.old).given (S.told source.new).given splitter.old.bytes splitter.new.bytes result }
     ensures once { ReadsOnce (S.rooms source.old) (S.rooms source.new) }
     ensures kept { IfErr result (λ _. splitter.new.bytes ≡ splitter.old.bytes) }
-    ensures spent { IsSpent (end_of result) (S.left source.new) }
+    ensures spent { IsSpent (end_of result) (S.told source.new).left }
     ensures others { (result ≡ Err Bad → ⊥) × (result ≡ Err WriteFault → ⊥) }
-    ensures source { Leaves (record { faults = S.faults source.old; is_open = S.is_open source.old; number = S.number source.old })
-        (record { faults = S.faults source.new; is_open = S.is_open source.new; number = S.number source.new }) (end_of result ≡ Some ReadFault) }
+    ensures source { Leaves (record { faults = (S.told source.old).faults; is_open = (S.told source.old).is_open; number = (S.told source.old).number })
+        (record { faults = (S.told source.new).faults; is_open = (S.told source.new).is_open; number = (S.told source.new).number }) (end_of result ≡ Some ReadFault) }
     ensures limit { splitter.new.limit ≡ splitter.old.limit }
 {
     if splitter.reserve(READ_SIZE).is_err() {
@@ -95,23 +95,23 @@ pub fn turn<V: Voice, S: Ear, W: Mouth>(
     source: &mut S,
     sink: &mut W,
 ) -> Result<(), End>
-    requires open { (S.is_open source.old ≡ true) × (W.is_open sink.old ≡ true) }
+    requires open { ((S.told source.old).is_open ≡ true) × ((W.told sink.old).is_open ≡ true) }
     requires limit { splitter.old.limit ≡ longest_line }
     requires live { V.is_over voice.old ≡ false }
     requires flushed { W.is_flushed sink.old ≡ true }
-    ensures goes { OnOk result ((begun : V) (old : Bytes) (turns : ℕ) → Talking V.spoke begun old (record { given = S.given source.old; taken = W.taken sink.old }) voice.old splitter.old.bytes turns
-        → Talking V.spoke begun old (record { given = S.given source.new; taken = W.taken sink.new }) voice.new splitter.new.bytes (turns + 1)) }
+    ensures goes { OnOk result ((begun : V) (old : Bytes) (turns : ℕ) → Talking V.spoke begun old (record { given = (S.told source.old).given; taken = (W.told sink.old).taken }) voice.old splitter.old.bytes turns
+        → Talking V.spoke begun old (record { given = (S.told source.new).given; taken = (W.told sink.new).taken }) voice.new splitter.new.bytes (turns + 1)) }
     ensures ended { IfErr result (λ end. (begun : V) (old : Bytes) (turns : ℕ)
-        → Talking V.spoke begun old (record { given = S.given source.old; taken = W.taken sink.old }) voice.old splitter.old.bytes turns
-        → Talked V.spoke V.is_over V.is_foul V.lacks begun old (record { given = S.given source.new; taken = W.taken sink.new }) voice.new end) }
-    ensures turned { Turned (record { rooms = S.rooms source.old; given = S.given source.old; taken = W.taken sink.old; flushed = W.is_flushed sink.old })
-        (record { rooms = S.rooms source.new; given = S.given source.new; taken = W.taken sink.new; flushed = W.is_flushed sink.new }) splitter.old.bytes }
+        → Talking V.spoke begun old (record { given = (S.told source.old).given; taken = (W.told sink.old).taken }) voice.old splitter.old.bytes turns
+        → Talked V.spoke V.is_over V.is_foul V.lacks begun old (record { given = (S.told source.new).given; taken = (W.told sink.new).taken }) voice.new end) }
+    ensures turned { Turned (record { rooms = S.rooms source.old; given = (S.told source.old).given; taken = (W.told sink.old).taken; flushed = W.is_flushed sink.old })
+        (record { rooms = S.rooms source.new; given = (S.told source.new).given; taken = (W.told sink.new).taken; flushed = W.is_flushed sink.new }) splitter.old.bytes }
     ensures next { ((end_of result ≡ Some WriteFault → ⊥) → W.is_flushed sink.new ≡ true) × OnOk result (V.is_over voice.new ≡ false) × (splitter.new.limit ≡ longest_line) }
-    ensures spent { IsSpent (end_of result) (S.left source.new) }
-    ensures source { Leaves (record { faults = S.faults source.old; is_open = S.is_open source.old; number = S.number source.old })
-        (record { faults = S.faults source.new; is_open = S.is_open source.new; number = S.number source.new }) (end_of result ≡ Some ReadFault) }
-    ensures sink { Leaves (record { faults = W.faults sink.old; is_open = W.is_open sink.old; number = W.number sink.old })
-        (record { faults = W.faults sink.new; is_open = W.is_open sink.new; number = W.number sink.new }) (end_of result ≡ Some WriteFault) }
+    ensures spent { IsSpent (end_of result) (S.told source.new).left }
+    ensures source { Leaves (record { faults = (S.told source.old).faults; is_open = (S.told source.old).is_open; number = (S.told source.old).number })
+        (record { faults = (S.told source.new).faults; is_open = (S.told source.new).is_open; number = (S.told source.new).number }) (end_of result ≡ Some ReadFault) }
+    ensures sink { Leaves (record { faults = (W.told sink.old).faults; is_open = (W.told sink.old).is_open; number = (W.told sink.old).number })
+        (record { faults = (W.told sink.new).faults; is_open = (W.told sink.new).is_open; number = (W.told sink.new).number }) (end_of result ≡ Some WriteFault) }
 {
     match splitter.first() {
         Next::Line(line) => {
@@ -131,18 +131,18 @@ fn converse<V: Voice, S: Ear, W: Mouth>(
     source: &mut S,
     sink: &mut W,
 ) -> End
-    requires open { (S.is_open source.old ≡ true) × (W.is_open sink.old ≡ true) }
+    requires open { ((S.told source.old).is_open ≡ true) × ((W.told sink.old).is_open ≡ true) }
     requires limit { splitter.old.limit ≡ longest_line }
     requires live { V.is_over voice.old ≡ false }
     requires flushed { W.is_flushed sink.old ≡ true }
-    ensures ended { (begun : V) (old : Bytes) → Talking V.spoke begun old (record { given = S.given source.old; taken = W.taken sink.old }) voice.old splitter.old.bytes 0
-        → Talked V.spoke V.is_over V.is_foul V.lacks begun old (record { given = S.given source.new; taken = W.taken sink.new }) voice.new result }
+    ensures ended { (begun : V) (old : Bytes) → Talking V.spoke begun old (record { given = (S.told source.old).given; taken = (W.told sink.old).taken }) voice.old splitter.old.bytes 0
+        → Talked V.spoke V.is_over V.is_foul V.lacks begun old (record { given = (S.told source.new).given; taken = (W.told sink.new).taken }) voice.new result }
     ensures flushed { (result ≡ WriteFault → ⊥) → W.is_flushed sink.new ≡ true }
-    ensures spent { IsSpent (Some result) (S.left source.new) }
-    ensures source { Leaves (record { faults = S.faults source.old; is_open = S.is_open source.old; number = S.number source.old })
-        (record { faults = S.faults source.new; is_open = S.is_open source.new; number = S.number source.new }) (result ≡ ReadFault) }
-    ensures sink { Leaves (record { faults = W.faults sink.old; is_open = W.is_open sink.old; number = W.number sink.old })
-        (record { faults = W.faults sink.new; is_open = W.is_open sink.new; number = W.number sink.new }) (result ≡ WriteFault) }
+    ensures spent { IsSpent (Some result) (S.told source.new).left }
+    ensures source { Leaves (record { faults = (S.told source.old).faults; is_open = (S.told source.old).is_open; number = (S.told source.old).number })
+        (record { faults = (S.told source.new).faults; is_open = (S.told source.new).is_open; number = (S.told source.new).number }) (result ≡ ReadFault) }
+    ensures sink { Leaves (record { faults = (W.told sink.old).faults; is_open = (W.told sink.old).is_open; number = (W.told sink.old).number })
+        (record { faults = (W.told sink.new).faults; is_open = (W.told sink.new).is_open; number = (W.told sink.new).number }) (result ≡ WriteFault) }
 {
     for _ in 0..u64::MAX {
         match turn(voice, splitter, source, sink) {
@@ -160,17 +160,17 @@ pub fn talk<V: Voice, S: Ear, W: Mouth>(
     source: &mut S,
     sink: &mut W,
 ) -> End
-    requires open { (S.is_open source.old ≡ true) × (W.is_open sink.old ≡ true) }
+    requires open { ((S.told source.old).is_open ≡ true) × ((W.told sink.old).is_open ≡ true) }
     requires live { V.is_over voice.old ≡ false }
     requires begins { V.spoke voice.old voice.old [] [] }
-    ensures ended { Talked V.spoke V.is_over V.is_foul V.lacks voice.old (record { given = S.given source.old; taken = W.taken sink.old })
-        (record { given = S.given source.new; taken = W.taken sink.new }) voice.new result }
+    ensures ended { Talked V.spoke V.is_over V.is_foul V.lacks voice.old (record { given = (S.told source.old).given; taken = (W.told sink.old).taken })
+        (record { given = (S.told source.new).given; taken = (W.told sink.new).taken }) voice.new result }
     ensures flushed { (result ≡ WriteFault → ⊥) → W.is_flushed sink.new ≡ true }
-    ensures spent { IsSpent (Some result) (S.left source.new) }
-    ensures source { Leaves (record { faults = S.faults source.old; is_open = S.is_open source.old; number = S.number source.old })
-        (record { faults = S.faults source.new; is_open = S.is_open source.new; number = S.number source.new }) (result ≡ ReadFault) }
-    ensures sink { Leaves (record { faults = W.faults sink.old; is_open = W.is_open sink.old; number = W.number sink.old })
-        (record { faults = W.faults sink.new; is_open = W.is_open sink.new; number = W.number sink.new }) (result ≡ WriteFault) }
+    ensures spent { IsSpent (Some result) (S.told source.new).left }
+    ensures source { Leaves (record { faults = (S.told source.old).faults; is_open = (S.told source.old).is_open; number = (S.told source.old).number })
+        (record { faults = (S.told source.new).faults; is_open = (S.told source.new).is_open; number = (S.told source.new).number }) (result ≡ ReadFault) }
+    ensures sink { Leaves (record { faults = (W.told sink.old).faults; is_open = (W.told sink.old).is_open; number = (W.told sink.old).number })
+        (record { faults = (W.told sink.new).faults; is_open = (W.told sink.new).is_open; number = (W.told sink.new).number }) (result ≡ WriteFault) }
 {
     match write_version(sink) {
         Ok(()) => {
@@ -190,17 +190,17 @@ pub fn serve<R: Remote, S: Source, W: Sink>(
     source: &mut S,
     sink: &mut W,
 ) -> Served<R>
-    requires source { S.is_open source.old ≡ true }
-    requires sink { W.is_open sink.old ≡ true }
-    ensures serves { Serves (R.settings remote) (told (S.given source.old) (W.taken sink.old) (R.calls remote)) (told (S.given source.new) (W.taken sink.new) (R.calls result.remote)) result.status }
-    ensures end { result.status ≡ 0 → IfSome (S.left source.new) (λ bytes. bytes ≡ []) }
-    ensures read_fault { result.status ≡ 4 → Rose (S.faults source.old) (S.faults source.new) }
-    ensures write_fault { result.status ≡ 5 → Rose (W.faults sink.old) (W.faults sink.new) }
-    ensures read_quiet { (result.status ≡ 4 → ⊥) → S.faults source.new ≡ S.faults source.old }
-    ensures write_quiet { (result.status ≡ 5 → ⊥) → W.faults sink.new ≡ W.faults sink.old }
-    ensures later { (S.faults source.old ≤ S.faults source.new) × (W.faults sink.old ≤ W.faults sink.new) }
-    ensures open { (S.is_open source.new ≡ true) × (W.is_open sink.new ≡ true) }
-    ensures numbers { (S.number source.new ≡ S.number source.old) × (W.number sink.new ≡ W.number sink.old) }
+    requires source { (S.told source.old).is_open ≡ true }
+    requires sink { (W.told sink.old).is_open ≡ true }
+    ensures serves { Serves (R.settings remote) (told (S.told source.old).given (W.told sink.old).taken (R.calls remote)) (told (S.told source.new).given (W.told sink.new).taken (R.calls result.remote)) result.status }
+    ensures end { result.status ≡ 0 → IfSome (S.told source.new).left (λ bytes. bytes ≡ []) }
+    ensures read_fault { result.status ≡ 4 → Rose (S.told source.old).faults (S.told source.new).faults }
+    ensures write_fault { result.status ≡ 5 → Rose (W.told sink.old).faults (W.told sink.new).faults }
+    ensures read_quiet { (result.status ≡ 4 → ⊥) → (S.told source.new).faults ≡ (S.told source.old).faults }
+    ensures write_quiet { (result.status ≡ 5 → ⊥) → (W.told sink.new).faults ≡ (W.told sink.old).faults }
+    ensures later { ((S.told source.old).faults ≤ (S.told source.new).faults) × ((W.told sink.old).faults ≤ (W.told sink.new).faults) }
+    ensures open { ((S.told source.new).is_open ≡ true) × ((W.told sink.new).is_open ≡ true) }
+    ensures numbers { ((S.told source.new).number ≡ (S.told source.old).number) × ((W.told sink.new).number ≡ (W.told sink.old).number) }
     ensures settings { R.settings result.remote ≡ R.settings remote }
 {
     let mut kit = Kit::new(alloc, remote);

@@ -49,8 +49,8 @@ pub fn share<'a, T: Wait, W: Sink + Drop>(
     alloc: Global,
     sink: W,
 ) -> Result<(SharedSink<'a, T, W>, Teller<'a, T, W>), NoMemory>
-    requires { W.is_open sink ≡ true }
-    ensures open { IfOk result (λ halves. ⟦<SharedSink<'a, T, W> as Sink>⟧.is_open halves.0 ≡ true) }
+    requires { (W.told sink).is_open ≡ true }
+    ensures open { IfOk result (λ halves. (⟦<SharedSink<'a, T, W> as Sink>⟧.told halves.0).is_open ≡ true) }
 {
     let one = Arc::new(alloc, Mutex::new(LineSink::new(sink)))?;
     let two = Arc::try_clone(&one)?;
@@ -118,13 +118,7 @@ impl<'a, T: Wait, W: Mouth> SharedSink<'a, T, W> {
 }
 
 impl<'a, T: Wait, W: Mouth> Sink for SharedSink<'a, T, W> {
-    ghost faults = { λ s. s.faults };
-
-    ghost taken = { λ _. None };
-
-    ghost is_open = { λ s. s.is_open };
-
-    ghost number = { λ _. None };
+    ghost told = { λ s. record { faults = s.faults; taken = None; is_open = s.is_open; number = None } };
 
     fn write(&mut self, piece: &[u8]) -> Result<usize, Failed> {
         let done = hold(&mut self.held, piece);

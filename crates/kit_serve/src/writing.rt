@@ -9,15 +9,15 @@ use kit_core::Lines;
 
 /// Writes the line and its byte 10. After `Failed` the sink has taken the first bytes of them.
 pub fn write_line<W: Sink>(sink: &mut W, line: &[u8]) -> Result<(), Failed>
-    requires { W.is_open sink.old ≡ true }
-    ensures ok { OnOk result (Appends (W.taken sink.old) (W.taken sink.new) (line.now ++ 10 ∷ [])) }
-    ensures prefix { (n : ℕ) × Appends (W.taken sink.old) (W.taken sink.new) (take n (line.now ++ 10 ∷ [])) }
-    ensures silent { StaysUntold (W.taken sink.old) (W.taken sink.new) }
-    ensures later { W.faults sink.old ≤ W.faults sink.new }
-    ensures done { OnOk result (W.faults sink.new ≡ W.faults sink.old) }
-    ensures err { OnErr result (Rose (W.faults sink.old) (W.faults sink.new)) }
-    ensures open { W.is_open sink.new ≡ true }
-    ensures number { W.number sink.new ≡ W.number sink.old }
+    requires { (W.told sink.old).is_open ≡ true }
+    ensures ok { OnOk result (Appends (W.told sink.old).taken (W.told sink.new).taken (line.now ++ 10 ∷ [])) }
+    ensures prefix { (n : ℕ) × Appends (W.told sink.old).taken (W.told sink.new).taken (take n (line.now ++ 10 ∷ [])) }
+    ensures silent { StaysUntold (W.told sink.old).taken (W.told sink.new).taken }
+    ensures later { (W.told sink.old).faults ≤ (W.told sink.new).faults }
+    ensures done { OnOk result ((W.told sink.new).faults ≡ (W.told sink.old).faults) }
+    ensures err { OnErr result (Rose (W.told sink.old).faults (W.told sink.new).faults) }
+    ensures open { (W.told sink.new).is_open ≡ true }
+    ensures number { (W.told sink.new).number ≡ (W.told sink.old).number }
 {
     write_all(sink, line)?;
     write_all(sink, b"\n")
@@ -25,14 +25,14 @@ pub fn write_line<W: Sink>(sink: &mut W, line: &[u8]) -> Result<(), Failed>
 
 /// Writes the first line that a remote says, and hands it on. After `Failed` the sink has taken the first bytes of it.
 pub fn write_version<W: Mouth>(sink: &mut W) -> Result<(), Failed>
-    requires { W.is_open sink.old ≡ true }
-    ensures ok { OnOk result (Appends (W.taken sink.old) (W.taken sink.new) (codes "VERSION 1" ++ 10 ∷ [])) }
-    ensures prefix { (n : ℕ) × Appends (W.taken sink.old) (W.taken sink.new) (take n (codes "VERSION 1" ++ 10 ∷ [])) }
+    requires { (W.told sink.old).is_open ≡ true }
+    ensures ok { OnOk result (Appends (W.told sink.old).taken (W.told sink.new).taken (codes "VERSION 1" ++ 10 ∷ [])) }
+    ensures prefix { (n : ℕ) × Appends (W.told sink.old).taken (W.told sink.new).taken (take n (codes "VERSION 1" ++ 10 ∷ [])) }
     ensures flushed { OnOk result (W.is_flushed sink.new ≡ true) }
-    ensures silent { StaysUntold (W.taken sink.old) (W.taken sink.new) }
-    ensures cause { HasCause (W.faults sink.old) (W.faults sink.new) result }
-    ensures open { W.is_open sink.new ≡ true }
-    ensures number { W.number sink.new ≡ W.number sink.old }
+    ensures silent { StaysUntold (W.told sink.old).taken (W.told sink.new).taken }
+    ensures cause { HasCause (W.told sink.old).faults (W.told sink.new).faults result }
+    ensures open { (W.told sink.new).is_open ≡ true }
+    ensures number { (W.told sink.new).number ≡ (W.told sink.old).number }
 {
     write_line(sink, b"VERSION 1")?;
     sink.hand_on()
@@ -40,14 +40,14 @@ pub fn write_version<W: Mouth>(sink: &mut W) -> Result<(), Failed>
 
 // Writes the lines, each with its byte 10, and hands them on. After `Failed` the sink has taken the first bytes of them.
 pub(super) fn write_lines<W: Mouth>(sink: &mut W, lines: &Lines) -> Result<(), Failed>
-    requires { W.is_open sink.old ≡ true }
-    ensures ok { OnOk result (Appends (W.taken sink.old) (W.taken sink.new) (text lines.now)) }
-    ensures prefix { (n : ℕ) × Appends (W.taken sink.old) (W.taken sink.new) (take n (text lines.now)) }
+    requires { (W.told sink.old).is_open ≡ true }
+    ensures ok { OnOk result (Appends (W.told sink.old).taken (W.told sink.new).taken (text lines.now)) }
+    ensures prefix { (n : ℕ) × Appends (W.told sink.old).taken (W.told sink.new).taken (take n (text lines.now)) }
     ensures flushed { OnOk result (W.is_flushed sink.new ≡ true) }
-    ensures silent { StaysUntold (W.taken sink.old) (W.taken sink.new) }
-    ensures cause { HasCause (W.faults sink.old) (W.faults sink.new) result }
-    ensures open { W.is_open sink.new ≡ true }
-    ensures number { W.number sink.new ≡ W.number sink.old }
+    ensures silent { StaysUntold (W.told sink.old).taken (W.told sink.new).taken }
+    ensures cause { HasCause (W.told sink.old).faults (W.told sink.new).faults result }
+    ensures open { (W.told sink.new).is_open ≡ true }
+    ensures number { (W.told sink.new).number ≡ (W.told sink.old).number }
 {
     for line in lines.view() {
         write_line(sink, line.view())?;

@@ -34,8 +34,8 @@ impl Maker for NoRemotes {
 
 // All that a source gives.
 fn heard<S: Source>(alloc: Global, source: &mut S) -> Result<Vec<u8>, AllocError>
-    requires { S.is_open source.old ≡ true }
-    ensures { S.is_open source.new ≡ true }
+    requires { (S.told source.old).is_open ≡ true }
+    ensures { (S.told source.new).is_open ≡ true }
 {
     let mut bytes = Vec::new(alloc);
     let mut buf = [0u8; 7];
@@ -83,8 +83,8 @@ where
 
 // Whether the source gives just these bytes next.
 fn gives<S: Source>(source: &mut S, bytes: &[u8]) -> bool
-    requires { S.is_open source.old ≡ true }
-    ensures { S.is_open source.new ≡ true }
+    requires { (S.told source.old).is_open ≡ true }
+    ensures { (S.told source.new).is_open ≡ true }
 {
     let mut at = 0;
     let mut buf = [0u8; 512];
@@ -112,8 +112,8 @@ fn repeated(alloc: Global, line: &[u8], times: u32) -> Result<Vec<u8>, AllocErro
 
 // Writes these bytes forty times, and each time reads what the child says to them.
 fn talks<I: Sink, O: Source>(inlet: &mut I, outlet: &mut O, says: &[u8], hears: &[u8]) -> bool
-    requires { (I.is_open inlet.old ≡ true) × (O.is_open outlet.old ≡ true) }
-    ensures { (I.is_open inlet.new ≡ true) × (O.is_open outlet.new ≡ true) }
+    requires { ((I.told inlet.old).is_open ≡ true) × ((O.told outlet.old).is_open ≡ true) }
+    ensures { ((I.told inlet.new).is_open ≡ true) × ((O.told outlet.new).is_open ≡ true) }
 {
     for _ in 0..40 {
         if write_all(inlet, says).is_err() || !gives(outlet, hears) {

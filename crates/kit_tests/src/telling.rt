@@ -46,13 +46,7 @@ fn noted(rt: &impl Wait, log: &Log, piece: &[u8]) -> bool {
 }
 
 impl<'a, T: Wait> Sink for LogSink<'a, T> {
-    ghost faults = { λ s. s.faults };
-
-    ghost taken = { λ _. None };
-
-    ghost is_open = { λ s. s.is_open };
-
-    ghost number = { λ _. None };
+    ghost told = { λ s. record { faults = s.faults; taken = None; is_open = s.is_open; number = None } };
 
     fn write(&mut self, piece: &[u8]) -> Result<usize, Failed> {
         self.writes = self.writes.saturating_add(1);
@@ -140,7 +134,7 @@ impl<'a, T: Wait, W: Mouth> Remote for Talker<'a, T, W> {
 
 // One request for a remote with no settings.
 fn asked(alloc: Global) -> Result<MemSource, NoMemory>
-    ensures { IfOk result (λ s. ⟦<MemSource as Source>⟧.is_open s ≡ true) }
+    ensures { IfOk result (λ s. (⟦<MemSource as Source>⟧.told s).is_open ≡ true) }
 {
     let mut lines = Vec::new(alloc);
     lines.push(Bytes::copy(alloc, b"PREPARE\nTRANSFER STORE WORM--a f\n")?)?;

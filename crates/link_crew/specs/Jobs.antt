@@ -6,8 +6,9 @@ use Rattle.journal_model.specs.declared.verdict.Verdict.{Verdict}
 use Rattle.talk_serial.specs.declared.request.Request.{Request}
 use Rattle.talk_serial.specs.Requests.{message_of, name_of}
 use Rattle.link_roles.specs.Asks.{HasAsked, never}
+use Rattle.link_roles.specs.Doors.{DoorView}
 
 -- from the one value of the door to the other the request was asked of the child, and settled so; nothing else was made
-abbrev pub HasAskedJob : {D : Type 0} → (D → Opening) → (D → ℕ) → (D → Bool) → (D → List Entry) → D → D → ℕ → ℕ → Request → Verdict → Type 0
-HasAskedJob opening number alone seen old new child task request =
-    HasAsked (opening old) (number old) (alone old) never (seen old) (seen new) child task (name_of request) (message_of request) (λ job. Unit {0})
+abbrev pub HasAskedJob : {H : Type 0} → DoorView H → DoorView H → ℕ → ℕ → Request → Verdict → Type 0
+HasAskedJob old new child task request =
+    HasAsked old.opening old.number old.alone never old.seen new.seen child task (name_of request) (message_of request) (λ job. Unit {0})

@@ -22,17 +22,7 @@ impl<'a, R: Wait> Door for HallDoor<'a, R> {
     ghost use Rattle.std.specs.Prelude.{false, [], ◌∷◌};
     ghost use Rattle.hall.specs.Passes.{seen_of};
 
-    ghost opening = { λ d. d.hall.now.fixed };
-
-    ghost number = { λ d. d.pass.now.number };
-
-    ghost seen = { λ d. seen_of d.pass.now };
-
-    ghost alone = { λ d. false };
-
-    ghost loans = { λ d. d.pass.ghost_name ∷ [] };
-
-    ghost home = { λ d. d.hall.now };
+    ghost view = { λ d. record { opening = d.hall.now.fixed; number = d.pass.now.number; seen = seen_of d.pass.now; alone = false; loans = d.pass.ghost_name ∷ []; home = d.hall.now } };
 
     fn step(&mut self, event: Event) -> Result<Reply, NoMemory> {
         self.hall.enter(self.rt, self.pass, event)

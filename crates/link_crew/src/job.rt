@@ -20,10 +20,10 @@ use talk_serial::Request;
 
 // How the job was settled; where it isn't, a rest.
 fn look_or_rest<D: Door>(door: &mut D, child: u32, job: u64) -> Option<Verdict>
-    requires asked { is_asked (D.seen door.old) child job ≡ true }
-    ensures verdict { IfSome result (λ v. verdict_of (D.seen door.new) child job ≡ Some v) }
-    ensures grows { Grows (D.number door.old) (D.alone door.old) never (D.seen door.old) (D.seen door.new) }
-    ensures door { IsSameDoor D.opening D.number D.seen D.alone D.loans D.home door.old door.new }
+    requires asked { is_asked (D.view door.old).seen child job ≡ true }
+    ensures verdict { IfSome result (λ v. verdict_of (D.view door.new).seen child job ≡ Some v) }
+    ensures grows { Grows (D.view door.old).number (D.view door.old).alone never (D.view door.old).seen (D.view door.new).seen }
+    ensures door { IsSameDoor (D.view door.old) (D.view door.new) }
 {
     let settled = events::verdict(door, child, job);
     if settled.is_none() {
@@ -34,11 +34,11 @@ fn look_or_rest<D: Door>(door: &mut D, child: u32, job: u64) -> Option<Verdict>
 
 // Waits until the job is settled.
 fn wait_for<D: Door, R: Wait>(rt: &R, door: &mut D, child: u32, job: u64) -> Verdict
-    requires asked { is_asked (D.seen door.old) child job ≡ true }
+    requires asked { is_asked (D.view door.old).seen child job ≡ true }
     ensures small { job < 2 ^ 64 }
-    ensures verdict { verdict_of (D.seen door.new) child job ≡ Some result }
-    ensures grows { Grows (D.number door.old) (D.alone door.old) never (D.seen door.old) (D.seen door.new) }
-    ensures door { IsSameDoor D.opening D.number D.seen D.alone D.loans D.home door.old door.new }
+    ensures verdict { verdict_of (D.view door.new).seen child job ≡ Some result }
+    ensures grows { Grows (D.view door.old).number (D.view door.old).alone never (D.view door.old).seen (D.view door.new).seen }
+    ensures door { IsSameDoor (D.view door.old) (D.view door.new) }
 {
     for _ in rt.forever() {
         if let Some(verdict) = look_or_rest(door, child, job) {
@@ -57,12 +57,12 @@ pub fn ask_job<D: Door, R: Wait>(
     task: u32,
     request: &Request,
 ) -> Result<Verdict, NoMemory>
-    requires legal { Legal (D.opening door.old) (D.seen door.old) }
+    requires legal { Legal (D.view door.old).opening (D.view door.old).seen }
     ensures named { IfOk result (IsNamed (message_of request.now)) }
-    ensures asked { IfOk result (HasAskedJob D.opening D.number D.alone D.seen door.old door.new child task request.now) }
-    ensures none { OnErr result (Passed (D.number door.old) (D.alone door.old) (D.seen door.old) (D.seen door.new)) }
-    ensures grows { Grows (D.number door.old) (D.alone door.old) (by_asking child) (D.seen door.old) (D.seen door.new) }
-    ensures door { IsSameDoor D.opening D.number D.seen D.alone D.loans D.home door.old door.new }
+    ensures asked { IfOk result (HasAskedJob (D.view door.old) (D.view door.new) child task request.now) }
+    ensures none { OnErr result (Passed (D.view door.old).number (D.view door.old).alone (D.view door.old).seen (D.view door.new).seen) }
+    ensures grows { Grows (D.view door.old).number (D.view door.old).alone (by_asking child) (D.view door.old).seen (D.view door.new).seen }
+    ensures door { IsSameDoor (D.view door.old) (D.view door.new) }
 {
     let request = request.copy(alloc)?;
     match events::ask(door, child, task, request)? {

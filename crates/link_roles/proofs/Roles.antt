@@ -12,7 +12,7 @@ use Rattle.journal_model.proofs.Looks.{any-append, each_of-append}
 use Rattle.std.proofs.lemmas.List.Folds.{list_any-append}
 use Rattle.host_core.specs.Steps.{is_asked}
 use Rattle.journal_model.specs.Shares.{are_others, are_by, are_own, makes_only, Moved}
-use Rattle.link_roles.specs.Doors.{Passed, Stands, IsSameDoor}
+use Rattle.link_roles.specs.Doors.{Passed, Stands, DoorView, IsSameDoor}
 use Rattle.ann_key.proofs.Booleans.{or_right as right_or}
 use Rattle.journal_model.proofs.Testing.{only_others as others_make}
 use Rattle.std.proofs.lemmas.Bool.{and_parts as both}
@@ -170,8 +170,7 @@ moved_wider {n} {a} {makes} {makes'} {mine} {mine'} wide narrow s kept = record 
 
 -- ---- doors
 
-pub same_both : {D H : Type 0} {opening_of : D → Opening} {number_of : D → ℕ} {seen_of : D → List Entry} {alone_of : D → Bool} {loans_of : D → List ℕ} {home_of : D → H} {x y z : D}
-    → IsSameDoor opening_of number_of seen_of alone_of loans_of home_of x y → IsSameDoor opening_of number_of seen_of alone_of loans_of home_of y z → IsSameDoor opening_of number_of seen_of alone_of loans_of home_of x z
+pub same_both : {H : Type 0} {x y z : DoorView H} → IsSameDoor x y → IsSameDoor y z → IsSameDoor x z
 same_both s t = record {
   opening = t.opening ∙ s.opening;
   number = t.number ∙ s.number;
@@ -182,30 +181,5 @@ same_both s t = record {
 }
 
 -- a rest changes nothing of it
-pub rested : {D H : Type 0} {opening_of : D → Opening} {number_of : D → ℕ} {seen_of : D → List Entry} {alone_of : D → Bool} {loans_of : D → List ℕ} {home_of : D → H} {x y z : D}
-    → opening_of z ≡ opening_of y → number_of z ≡ number_of y → alone_of z ≡ alone_of y → loans_of z ≡ loans_of y → home_of z ≡ home_of y → seen_of z ≡ seen_of y
-    → IsSameDoor opening_of number_of seen_of alone_of loans_of home_of x y → IsSameDoor opening_of number_of seen_of alone_of loans_of home_of x z
-rested {opening_of = opening_of} {seen_of = seen_of} {y = y} {z = z} o n a l e s t = record {
-  opening = o ∙ t.opening;
-  number = n ∙ t.number;
-  alone = a ∙ t.alone;
-  loans = l ∙ t.loans;
-  home = e ∙ t.home;
-  legal = λ h. subst (λ (p : Opening). Legal p (seen_of z)) (sym o) (subst (Legal (opening_of y)) (sym s) (t.legal h));
-}
-
--- ---- what stays
-
-pub any_on : (p : What → Bool) (old more new : List Entry) → new ≡ old ++ more → any p old ≡ true → any p new ≡ true
-any_on p old more new e h = ap (any p) e ∙ any-append p old more ∙ ap (λ (b : Bool). b || any p more) h
-
-pub asked_on : (old more new : List Entry) (c j : ℕ) → new ≡ old ++ more → is_asked old c j ≡ true → is_asked new c j ≡ true
-asked_on old more new c j e a =
-    ap (λ (x : List Entry). is_asked x c j) e ∙ ap (list_any (λ k. k == j)) (each_of-append (asks c) old more)
-    ∙ list_any-append (λ k. k == j) (asked_jobs old c) (asked_jobs more c) ∙ ap (λ (b : Bool). b || list_any (λ k. k == j) (asked_jobs more c)) a
-
-pub started_on : {n : ℕ} {a : Bool} {makes mine : What → Bool} {old new : List Entry} {P Q : Type 0} (c : ℕ) → Moved n a makes mine old new P Q → is_started old c ≡ true → is_started new c ≡ true
-started_on {old = old} {new = new} c s h = any_on (starts c) old s.more new s.is h
-
-pub ended_on : {n : ℕ} {a : Bool} {makes mine : What → Bool} {old new : List Entry} {P Q : Type 0} (c : ℕ) → Moved n a makes mine old new P Q → is_ended old c ≡ true → is_ended new c ≡ true
-ended_on {old = old} {new = new} c s h = any_on (ends c) old s.more new s.is h
+pub rested : {H : Type 0} {x y z : DoorView H} → z ≡ y → IsSameDoor x y → IsSameDoor x z
+rested {x = x} e t = subst (λ w. IsSameDoor x w) (sym e) t

@@ -78,11 +78,25 @@ abbrev pub Takes : Opening → ℕ → Bool → List Entry → List Entry → �
 Takes o number alone old new c line true = Appended o number alone old new (Got c line) (λ past. is_ended past c ≡ false)
 Takes o number alone old new c line false = Ends o number alone old new c Full
 
+-- a door as one value: what the run began with, the number that its entries carry, the journal that it has seen, whether nobody else
+-- steps the core, the names of what it borrows, and what it is a door of
+pub record DoorView (H : Type 0) : Type 0 where
+  pub opening : Opening
+  pub number : ℕ
+  pub seen : List Entry
+  pub alone : Bool
+  pub loans : List ℕ
+  pub home : H
+
 -- it is the same door, and the journal that it has seen is still legal
-pub record IsSameDoor {D H : Type 0} (opening_of : D → Opening) (number_of : D → ℕ) (seen_of : D → List Entry) (alone_of : D → Bool) (loans_of : D → List ℕ) (home_of : D → H) (old new : D) : Type 0 where
-  pub opening : opening_of new ≡ opening_of old
-  pub number : number_of new ≡ number_of old
-  pub alone : alone_of new ≡ alone_of old
-  pub loans : loans_of new ≡ loans_of old
-  pub home : home_of new ≡ home_of old
-  pub legal : Legal (opening_of old) (seen_of old) → Legal (opening_of new) (seen_of new)
+pub record IsSameDoor {H : Type 0} (old new : DoorView H) : Type 0 where
+  pub opening : new.opening ≡ old.opening
+  pub number : new.number ≡ old.number
+  pub alone : new.alone ≡ old.alone
+  pub loans : new.loans ≡ old.loans
+  pub home : new.home ≡ old.home
+  pub legal : Legal old.opening old.seen → Legal new.opening new.seen
+
+-- what holds of a door between two calls, by what the run began with, its number, whether it is alone, and what it has seen before and after
+abbrev pub Between : {H : Type 0} {A : Type 1} → (Opening → ℕ → Bool → List Entry → List Entry → A) → DoorView H → DoorView H → A
+Between R old new = R old.opening old.number old.alone old.seen new.seen

@@ -7,7 +7,7 @@ ghost use Rattle.journal_model.specs.Journal.{is_started, is_ended, has_spoken};
 ghost use Rattle.journal_model.specs.Limits.{longest_line};
 ghost use Rattle.journal_model.specs.Wires.{RestFits, may_hear, is_heard_in_turn};
 ghost use Rattle.wire_line.specs.HeldBytes.{has_line, first_line, TakesLine};
-ghost use Rattle.link_roles.specs.Doors.{IsSameDoor};
+ghost use Rattle.link_roles.specs.Doors.{Between, IsSameDoor};
 ghost use Rattle.journal_model.specs.Shares.{Moved, by_ear, is_heard, is_of_child};
 ghost use Rattle.journal_model.specs.Halves.{EarWired, IsSameEar};
 ghost use Rattle.link_roles.specs.Firsts.{IsFirst};
@@ -48,9 +48,9 @@ impl<O: Source> Model for Ear<O> {
 
     ghost Value = { EarValue };
 
-    ghost view = { λ s. record { child = s.child; given = O.given s.outlet; left = O.left s.outlet; faults = O.faults s.outlet; number = O.number s.outlet; held = s.splitter.bytes } };
+    ghost view = { λ s. record { child = s.child; given = (O.told s.outlet).given; left = (O.told s.outlet).left; faults = (O.told s.outlet).faults; number = (O.told s.outlet).number; held = s.splitter.bytes } };
 
-    ghost invariant = { λ s. (O.is_open s.outlet ≡ true) × (s.splitter.limit ≡ longest_line) };
+    ghost invariant = { λ s. ((O.told s.outlet).is_open ≡ true) × (s.splitter.limit ≡ longest_line) };
 }
 
 /// What a turn of a role came to.
@@ -95,8 +95,8 @@ enum Fill {
 impl<O: Source> Ear<O> {
     /// An ear that has read nothing. It takes no memory.
     pub fn new(alloc: Global, child: u32, outlet: O) -> Ear<O>
-        requires { O.is_open outlet ≡ true }
-        ensures { result ≡ record { child = child; given = O.given outlet; left = O.left outlet; faults = O.faults outlet; number = O.number outlet; held = [] } }
+        requires { (O.told outlet).is_open ≡ true }
+        ensures { result ≡ record { child = child; given = (O.told outlet).given; left = (O.told outlet).left; faults = (O.told outlet).faults; number = (O.told outlet).number; held = [] } }
     {
         Ear {
             alloc,
@@ -119,11 +119,11 @@ impl<O: Source> Ear<O> {
 
     /// Closes the outlet, and hands it out with what was read and not fed. It takes no memory.
     pub fn finish(self) -> (O, Bytes)
-        ensures given { O.given result.0 ≡ self.given }
-        ensures left { O.left result.0 ≡ self.left }
-        ensures faults { O.faults result.0 ≡ self.faults }
-        ensures number { O.number result.0 ≡ self.number }
-        ensures closed { O.is_open result.0 ≡ false }
+        ensures given { (O.told result.0).given ≡ self.given }
+        ensures left { (O.told result.0).left ≡ self.left }
+        ensures faults { (O.told result.0).faults ≡ self.faults }
+        ensures number { (O.told result.0).number ≡ self.number }
+        ensures closed { (O.told result.0).is_open ≡ false }
         ensures rest { result.1 ≡ self.held }
     {
         let Ear {
@@ -175,14 +175,14 @@ impl<O: Source> Ear<O> {
 
     // Feeds the first line, and takes it away. Where it isn't taken, or there is no memory, the line stays and the child has ended.
     fn feed<D: Door>(&mut self, door: &mut D, line: Bytes) -> bool
-        requires started { is_started (D.seen door.old) self.old.child ≡ true }
+        requires started { is_started (D.view door.old).seen self.old.child ≡ true }
         requires line { IsTrue (has_line longest_line self.old.held) × (line ≡ first_line self.old.held) }
-        ensures moved { EarMoved (D.number door.old) (D.alone door.old) (D.seen door.old) (D.seen door.new) self.old self.new }
-        ensures turned { Moved (D.number door.old) (D.alone door.old) (by_ear self.old.child) (is_of_child self.old.child) (D.seen door.old) (D.seen door.new) ((may_hear (D.seen door.old) self.old.child ≡ true) × (is_heard_in_turn (D.seen door.old) self.old.child ≡ true)) (is_heard_in_turn (D.seen door.new) self.old.child ≡ true) }
+        ensures moved { EarMoved (D.view door.old).number (D.view door.old).alone (D.view door.old).seen (D.view door.new).seen self.old self.new }
+        ensures turned { Moved (D.view door.old).number (D.view door.old).alone (by_ear self.old.child) (is_of_child self.old.child) (D.view door.old).seen (D.view door.new).seen ((may_hear (D.view door.old).seen self.old.child ≡ true) × (is_heard_in_turn (D.view door.old).seen self.old.child ≡ true)) (is_heard_in_turn (D.view door.new).seen self.old.child ≡ true) }
         ensures same { IsSameEar self.old self.new }
-        ensures over { IsFalse result → is_ended (D.seen door.new) self.old.child ≡ true }
-        ensures came { IsFeeding (D.opening door.old) (D.number door.old) (D.alone door.old) (D.seen door.old) (D.seen door.new) self.old self.new result }
-        ensures door { IsSameDoor D.opening D.number D.seen D.alone D.loans D.home door.old door.new }
+        ensures over { IsFalse result → is_ended (D.view door.new).seen self.old.child ≡ true }
+        ensures came { Between IsFeeding (D.view door.old) (D.view door.new) self.old self.new result }
+        ensures door { IsSameDoor (D.view door.old) (D.view door.new) }
     {
         let child = self.child();
         match events::got(door, child, line) {
@@ -200,15 +200,15 @@ impl<O: Source> Ear<O> {
 
     // Reads once, where no line stands first. At the end of the output, a fault, or where memory runs out, the child ends.
     fn read<D: Door>(&mut self, door: &mut D) -> Heard
-        requires started { is_started (D.seen door.old) self.old.child ≡ true }
-        requires live { is_ended (D.seen door.old) self.old.child ≡ false }
+        requires started { is_started (D.view door.old).seen self.old.child ≡ true }
+        requires live { is_ended (D.view door.old).seen self.old.child ≡ false }
         requires more { IsTrue (not (has_line longest_line self.old.held)) × (length self.old.held ≤ longest_line) }
-        ensures moved { EarMoved (D.number door.old) (D.alone door.old) (D.seen door.old) (D.seen door.new) self.old self.new }
-        ensures turned { TurnMoved (D.number door.old) (D.alone door.old) (D.seen door.old) (D.seen door.new) self.old.child }
+        ensures moved { EarMoved (D.view door.old).number (D.view door.old).alone (D.view door.old).seen (D.view door.new).seen self.old self.new }
+        ensures turned { TurnMoved (D.view door.old).number (D.view door.old).alone (D.view door.old).seen (D.view door.new).seen self.old.child }
         ensures same { IsSameEar self.old self.new }
-        ensures heard { IsHearing (D.opening door.old) (D.number door.old) (D.alone door.old) (D.seen door.old) (D.seen door.new) self.old self.new result }
-        ensures over { result ≡ Heard.Over → is_ended (D.seen door.new) self.old.child ≡ true }
-        ensures door { IsSameDoor D.opening D.number D.seen D.alone D.loans D.home door.old door.new }
+        ensures heard { Between IsHearing (D.view door.old) (D.view door.new) self.old self.new result }
+        ensures over { result ≡ Heard.Over → is_ended (D.view door.new).seen self.old.child ≡ true }
+        ensures door { IsSameDoor (D.view door.old) (D.view door.new) }
     {
         let child = self.child();
         match self.fill() {
@@ -222,16 +222,16 @@ impl<O: Source> Ear<O> {
 
     // Feeds one line, or reads once where none stands first.
     pub(super) fn hear<D: Door>(&mut self, door: &mut D) -> Heard
-        requires started { is_started (D.seen door.old) self.old.child ≡ true }
-        requires live { is_ended (D.seen door.old) self.old.child ≡ false }
-        requires turn { may_hear (D.seen door.old) self.old.child ≡ true }
-        ensures moved { EarMoved (D.number door.old) (D.alone door.old) (D.seen door.old) (D.seen door.new) self.old self.new }
-        ensures turned { TurnMoved (D.number door.old) (D.alone door.old) (D.seen door.old) (D.seen door.new) self.old.child }
+        requires started { is_started (D.view door.old).seen self.old.child ≡ true }
+        requires live { is_ended (D.view door.old).seen self.old.child ≡ false }
+        requires turn { may_hear (D.view door.old).seen self.old.child ≡ true }
+        ensures moved { EarMoved (D.view door.old).number (D.view door.old).alone (D.view door.old).seen (D.view door.new).seen self.old self.new }
+        ensures turned { TurnMoved (D.view door.old).number (D.view door.old).alone (D.view door.old).seen (D.view door.new).seen self.old.child }
         ensures same { IsSameEar self.old self.new }
-        ensures heard { IsHearing (D.opening door.old) (D.number door.old) (D.alone door.old) (D.seen door.old) (D.seen door.new) self.old self.new result }
-        ensures over { result ≡ Heard.Over → is_ended (D.seen door.new) self.old.child ≡ true }
-        ensures fed { result ≡ Heard.Fed → has_spoken (D.seen door.new) self.old.child ≡ true }
-        ensures door { IsSameDoor D.opening D.number D.seen D.alone D.loans D.home door.old door.new }
+        ensures heard { Between IsHearing (D.view door.old) (D.view door.new) self.old self.new result }
+        ensures over { result ≡ Heard.Over → is_ended (D.view door.new).seen self.old.child ≡ true }
+        ensures fed { result ≡ Heard.Fed → has_spoken (D.view door.new).seen self.old.child ≡ true }
+        ensures door { IsSameDoor (D.view door.old) (D.view door.new) }
     {
         let child = self.child();
         match self.first() {
@@ -256,11 +256,11 @@ impl<O: Source> Ear<O> {
 
     // Feeds one line where one is held whole.
     fn feed_next<D: Door>(&mut self, door: &mut D) -> bool
-        requires started { is_started (D.seen door.old) self.old.child ≡ true }
-        ensures next { IsNextFed self.old self.new (D.seen door.new) result }
-        ensures moved { EarMoved (D.number door.old) (D.alone door.old) (D.seen door.old) (D.seen door.new) self.old self.new }
+        requires started { is_started (D.view door.old).seen self.old.child ≡ true }
+        ensures next { IsNextFed self.old self.new (D.view door.new).seen result }
+        ensures moved { EarMoved (D.view door.old).number (D.view door.old).alone (D.view door.old).seen (D.view door.new).seen self.old self.new }
         ensures same { IsSameEar self.old self.new }
-        ensures door { IsSameDoor D.opening D.number D.seen D.alone D.loans D.home door.old door.new }
+        ensures door { IsSameDoor (D.view door.old) (D.view door.new) }
     {
         let child = self.child();
         match self.first() {
@@ -276,11 +276,11 @@ impl<O: Source> Ear<O> {
 
     // Feeds the lines that are held whole.
     fn feed_all<D: Door>(&mut self, door: &mut D)
-        requires started { is_started (D.seen door.old) self.old.child ≡ true }
-        ensures all { IsAllFed self.old self.new (D.seen door.new) }
-        ensures moved { EarMoved (D.number door.old) (D.alone door.old) (D.seen door.old) (D.seen door.new) self.old self.new }
+        requires started { is_started (D.view door.old).seen self.old.child ≡ true }
+        ensures all { IsAllFed self.old self.new (D.view door.new).seen }
+        ensures moved { EarMoved (D.view door.old).number (D.view door.old).alone (D.view door.old).seen (D.view door.new).seen self.old self.new }
         ensures same { IsSameEar self.old self.new }
-        ensures door { IsSameDoor D.opening D.number D.seen D.alone D.loans D.home door.old door.new }
+        ensures door { IsSameDoor (D.view door.old) (D.view door.new) }
     {
         while self.feed_next(door) {}
     }
@@ -288,14 +288,14 @@ impl<O: Source> Ear<O> {
     /// Where a line of the child is due or may be, feeds all lines that are held whole, or reads once where none is. Where
     /// there is no memory, or the child is at its end, the child ends.
     pub fn turn<D: Door>(&mut self, door: &mut D) -> Turn
-        requires started { is_started (D.seen door.old) self.old.child ≡ true }
-        ensures moved { EarMoved (D.number door.old) (D.alone door.old) (D.seen door.old) (D.seen door.new) self.old self.new }
+        requires started { is_started (D.view door.old).seen self.old.child ≡ true }
+        ensures moved { EarMoved (D.view door.old).number (D.view door.old).alone (D.view door.old).seen (D.view door.new).seen self.old self.new }
         ensures same { IsSameEar self.old self.new }
-        ensures turned { IsTurned self.old self.new (D.seen door.new) result }
-        ensures long { IsLong self.old.held → Grows (D.number door.old) (D.alone door.old) (by_long self.old.child) (D.seen door.old) (D.seen door.new) }
-        ensures rest { result ≡ Turn.Rest → Says (D.opening door.old) (D.number door.old) (D.seen door.new) (Listen self.old.child) Wait }
-        ensures over { result ≡ Turn.Over → Says (D.opening door.old) (D.number door.old) (D.seen door.new) (Listen self.old.child) Over }
-        ensures door { IsSameDoor D.opening D.number D.seen D.alone D.loans D.home door.old door.new }
+        ensures turned { IsTurned self.old self.new (D.view door.new).seen result }
+        ensures long { IsLong self.old.held → Grows (D.view door.old).number (D.view door.old).alone (by_long self.old.child) (D.view door.old).seen (D.view door.new).seen }
+        ensures rest { result ≡ Turn.Rest → Says (D.view door.old).opening (D.view door.old).number (D.view door.new).seen (Listen self.old.child) Wait }
+        ensures over { result ≡ Turn.Over → Says (D.view door.old).opening (D.view door.old).number (D.view door.new).seen (Listen self.old.child) Over }
+        ensures door { IsSameDoor (D.view door.old) (D.view door.new) }
     {
         let child = self.child();
         match events::listen(door, child) {
@@ -307,16 +307,16 @@ impl<O: Source> Ear<O> {
 
     // Feeds all lines that are held whole, or reads once where none is.
     fn hear_all<D: Door>(&mut self, door: &mut D) -> Turn
-        requires started { is_started (D.seen door.old) self.old.child ≡ true }
-        requires live { is_ended (D.seen door.old) self.old.child ≡ false }
-        requires turn { may_hear (D.seen door.old) self.old.child ≡ true }
-        ensures moved { EarMoved (D.number door.old) (D.alone door.old) (D.seen door.old) (D.seen door.new) self.old self.new }
+        requires started { is_started (D.view door.old).seen self.old.child ≡ true }
+        requires live { is_ended (D.view door.old).seen self.old.child ≡ false }
+        requires turn { may_hear (D.view door.old).seen self.old.child ≡ true }
+        ensures moved { EarMoved (D.view door.old).number (D.view door.old).alone (D.view door.old).seen (D.view door.new).seen self.old self.new }
         ensures same { IsSameEar self.old self.new }
-        ensures turned { IsTurned self.old self.new (D.seen door.new) result }
-        ensures long { IsLong self.old.held → Grows (D.number door.old) (D.alone door.old) (by_long self.old.child) (D.seen door.old) (D.seen door.new) }
+        ensures turned { IsTurned self.old self.new (D.view door.new).seen result }
+        ensures long { IsLong self.old.held → Grows (D.view door.old).number (D.view door.old).alone (by_long self.old.child) (D.view door.old).seen (D.view door.new).seen }
         ensures rest { result ≢ Turn.Rest }
-        ensures over { result ≡ Turn.Over → is_ended (D.seen door.new) self.old.child ≡ true }
-        ensures door { IsSameDoor D.opening D.number D.seen D.alone D.loans D.home door.old door.new }
+        ensures over { result ≡ Turn.Over → is_ended (D.view door.new).seen self.old.child ≡ true }
+        ensures door { IsSameDoor (D.view door.old) (D.view door.new) }
     {
         match self.hear(door) {
             Heard::Fed => {
@@ -330,11 +330,11 @@ impl<O: Source> Ear<O> {
 
     // One turn, and a rest where there is nothing to do.
     fn go_on<D: Door>(&mut self, door: &mut D) -> bool
-        requires started { is_started (D.seen door.old) self.old.child ≡ true }
-        ensures moved { EarMoved (D.number door.old) (D.alone door.old) (D.seen door.old) (D.seen door.new) self.old self.new }
+        requires started { is_started (D.view door.old).seen self.old.child ≡ true }
+        ensures moved { EarMoved (D.view door.old).number (D.view door.old).alone (D.view door.old).seen (D.view door.new).seen self.old self.new }
         ensures same { IsSameEar self.old self.new }
-        ensures over { IsFalse result → Says (D.opening door.old) (D.number door.old) (D.seen door.new) (Listen self.old.child) Over }
-        ensures door { IsSameDoor D.opening D.number D.seen D.alone D.loans D.home door.old door.new }
+        ensures over { IsFalse result → Says (D.view door.old).opening (D.view door.old).number (D.view door.new).seen (Listen self.old.child) Over }
+        ensures door { IsSameDoor (D.view door.old) (D.view door.new) }
     {
         match self.turn(door) {
             Turn::Again => true,
@@ -348,11 +348,11 @@ impl<O: Source> Ear<O> {
 
     /// Turns until there is nothing more to do.
     pub fn run<D: Door>(&mut self, door: &mut D)
-        requires started { is_started (D.seen door.old) self.old.child ≡ true }
-        ensures moved { EarMoved (D.number door.old) (D.alone door.old) (D.seen door.old) (D.seen door.new) self.old self.new }
+        requires started { is_started (D.view door.old).seen self.old.child ≡ true }
+        ensures moved { EarMoved (D.view door.old).number (D.view door.old).alone (D.view door.old).seen (D.view door.new).seen self.old self.new }
         ensures same { IsSameEar self.old self.new }
-        ensures over { Says (D.opening door.old) (D.number door.old) (D.seen door.new) (Listen self.old.child) Over }
-        ensures door { IsSameDoor D.opening D.number D.seen D.alone D.loans D.home door.old door.new }
+        ensures over { Says (D.view door.old).opening (D.view door.old).number (D.view door.new).seen (Listen self.old.child) Over }
+        ensures door { IsSameDoor (D.view door.old) (D.view door.new) }
     {
         for _ in 0..u64::MAX {
             if !self.go_on(door) {
@@ -366,15 +366,15 @@ impl<O: Source> Ear<O> {
 
 // Room is taken before the read for all that it may give, so that no byte is lost.
 fn read_into<O: Source>(splitter: &mut Splitter, outlet: &mut O) -> Fill
-    requires open { O.is_open outlet.old ≡ true }
-    ensures open { O.is_open outlet.new ≡ true }
+    requires open { (O.told outlet.old).is_open ≡ true }
+    ensures open { (O.told outlet.new).is_open ≡ true }
     ensures limit { splitter.new.limit ≡ splitter.old.limit }
-    ensures reads { ReadsOn (O.given outlet.old) (O.given outlet.new) splitter.old.bytes splitter.new.bytes }
+    ensures reads { ReadsOn (O.told outlet.old).given (O.told outlet.new).given splitter.old.bytes splitter.new.bytes }
     ensures kept { is_got result ≡ false → splitter.new.bytes ≡ splitter.old.bytes }
     ensures more { result ≡ Fill.Got → GrowsBy 4096 splitter.old.bytes splitter.new.bytes }
-    ensures end { result ≡ Fill.End → IfSome (O.left outlet.new) (λ bytes. bytes ≡ []) }
-    ensures fault { result ≡ Fill.Fault → 0 < O.faults outlet.new }
-    ensures number { O.number outlet.new ≡ O.number outlet.old }
+    ensures end { result ≡ Fill.End → IfSome (O.told outlet.new).left (λ bytes. bytes ≡ []) }
+    ensures fault { result ≡ Fill.Fault → 0 < (O.told outlet.new).faults }
+    ensures number { (O.told outlet.new).number ≡ (O.told outlet.old).number }
 {
     if splitter.reserve(READ_SIZE).is_err() {
         return Fill::NoRoom;

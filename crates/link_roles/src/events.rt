@@ -7,7 +7,7 @@ ghost use Rattle.journal_model.specs.declared.verdict.Why.TheVariants.{Closed};
 ghost use Rattle.link_roles.specs.Alone.{Closes};
 ghost use Rattle.host_core.specs.Steps.{is_asked, takes_no_memory};
 ghost use Rattle.talk_serial.specs.Requests.{message_of, name_of};
-ghost use Rattle.link_roles.specs.Doors.{Stepped, Made, Passed, Ends, Sends, Mutes, Takes, IsSameDoor};
+ghost use Rattle.link_roles.specs.Doors.{Between, Stepped, Made, Passed, Ends, Sends, Mutes, Takes, IsSameDoor};
 ghost use Rattle.link_roles.specs.Replies.{gone_why, is_done, settled_as, fetched_of, asked_of, listening_of};
 ghost use Rattle.link_roles.specs.Events.{IsListening, IsFetched, IsAsked, can_end};
 
@@ -19,9 +19,9 @@ use talk_serial::Request;
 
 /// Makes one event.
 fn step<D: Door>(door: &mut D, event: Event) -> Result<Reply, NoMemory>
-    ensures stepped { Stepped (D.opening door.old) (D.number door.old) (D.alone door.old) (D.seen door.old) (D.seen door.new) event result }
+    ensures stepped { Between Stepped (D.view door.old) (D.view door.new) event result }
     ensures free { takes_no_memory event ≡ true → IsOk result }
-    ensures door { IsSameDoor D.opening D.number D.seen D.alone D.loans D.home door.old door.new }
+    ensures door { IsSameDoor (D.view door.old) (D.view door.new) }
 {
     door.step(event)
 }
@@ -29,8 +29,8 @@ fn step<D: Door>(door: &mut D, event: Event) -> Result<Reply, NoMemory>
 // An event that takes no memory.
 fn make<D: Door>(door: &mut D, event: Event) -> Reply
     requires { takes_no_memory event ≡ true }
-    ensures made { Made (D.opening door.old) (D.number door.old) (D.alone door.old) (D.seen door.old) (D.seen door.new) event result }
-    ensures door { IsSameDoor D.opening D.number D.seen D.alone D.loans D.home door.old door.new }
+    ensures made { Between Made (D.view door.old) (D.view door.new) event result }
+    ensures door { IsSameDoor (D.view door.old) (D.view door.new) }
 {
     match step(door, event) {
         Ok(reply) => reply,
@@ -124,40 +124,40 @@ fn asked_of(reply: Reply) -> Asked
 
 /// What there is to do about the child's output.
 pub fn listen<D: Door>(door: &mut D, child: u32) -> Listening
-    requires started { is_started (D.seen door.old) child ≡ true }
-    ensures listening { IsListening (D.opening door.old) (D.number door.old) (D.seen door.new) child result }
-    ensures passed { Passed (D.number door.old) (D.alone door.old) (D.seen door.old) (D.seen door.new) }
-    ensures door { IsSameDoor D.opening D.number D.seen D.alone D.loans D.home door.old door.new }
+    requires started { is_started (D.view door.old).seen child ≡ true }
+    ensures listening { IsListening (D.view door.old).opening (D.view door.old).number (D.view door.new).seen child result }
+    ensures passed { Passed (D.view door.old).number (D.view door.old).alone (D.view door.old).seen (D.view door.new).seen }
+    ensures door { IsSameDoor (D.view door.old) (D.view door.new) }
 {
     listening_of(make(door, Event::Listen { child }))
 }
 
 /// Why the child ended, if it did.
 pub fn why_ended<D: Door>(door: &mut D, child: u32) -> Option<Why>
-    requires started { is_started (D.seen door.old) child ≡ true }
-    ensures why { result ≡ why_of (D.seen door.new) child }
-    ensures passed { Passed (D.number door.old) (D.alone door.old) (D.seen door.old) (D.seen door.new) }
-    ensures door { IsSameDoor D.opening D.number D.seen D.alone D.loans D.home door.old door.new }
+    requires started { is_started (D.view door.old).seen child ≡ true }
+    ensures why { result ≡ why_of (D.view door.new).seen child }
+    ensures passed { Passed (D.view door.old).number (D.view door.old).alone (D.view door.old).seen (D.view door.new).seen }
+    ensures door { IsSameDoor (D.view door.old) (D.view door.new) }
 {
     gone_why(make(door, Event::Look { child }))
 }
 
 /// How the job was settled, if it was.
 pub fn verdict<D: Door>(door: &mut D, child: u32, job: u64) -> Option<Verdict>
-    requires asked { is_asked (D.seen door.old) child job ≡ true }
-    ensures verdict { result ≡ verdict_of (D.seen door.new) child job }
-    ensures passed { Passed (D.number door.old) (D.alone door.old) (D.seen door.old) (D.seen door.new) }
-    ensures door { IsSameDoor D.opening D.number D.seen D.alone D.loans D.home door.old door.new }
+    requires asked { is_asked (D.view door.old).seen child job ≡ true }
+    ensures verdict { result ≡ verdict_of (D.view door.new).seen child job }
+    ensures passed { Passed (D.view door.old).number (D.view door.old).alone (D.view door.old).seen (D.view door.new).seen }
+    ensures door { IsSameDoor (D.view door.old) (D.view door.new) }
 {
     settled_as(make(door, Event::Lookup { child, job }))
 }
 
 /// What there is to do about the child's input: the next line is with its byte 10.
 pub fn fetch<D: Door>(door: &mut D, child: u32) -> Result<Fetched, NoMemory>
-    requires started { is_started (D.seen door.old) child ≡ true }
-    ensures line { IfOk result (IsFetched (D.opening door.old) (D.number door.old) (D.seen door.new) child) }
-    ensures passed { Passed (D.number door.old) (D.alone door.old) (D.seen door.old) (D.seen door.new) }
-    ensures door { IsSameDoor D.opening D.number D.seen D.alone D.loans D.home door.old door.new }
+    requires started { is_started (D.view door.old).seen child ≡ true }
+    ensures line { IfOk result (IsFetched (D.view door.old).opening (D.view door.old).number (D.view door.new).seen child) }
+    ensures passed { Passed (D.view door.old).number (D.view door.old).alone (D.view door.old).seen (D.view door.new).seen }
+    ensures door { IsSameDoor (D.view door.old) (D.view door.new) }
 {
     match step(door, Event::Fetch { child }) {
         Ok(reply) => Ok(fetched_of(reply)),
@@ -167,11 +167,11 @@ pub fn fetch<D: Door>(door: &mut D, child: u32) -> Result<Fetched, NoMemory>
 
 /// Feeds a line. False where it wasn't taken, and the child has ended.
 pub fn got<D: Door>(door: &mut D, child: u32, line: Bytes) -> Result<bool, NoMemory>
-    requires started { is_started (D.seen door.old) child ≡ true }
+    requires started { is_started (D.view door.old).seen child ≡ true }
     requires line { has_newline line ≡ false }
-    ensures ok { IfOk result (Takes (D.opening door.old) (D.number door.old) (D.alone door.old) (D.seen door.old) (D.seen door.new) child line) }
-    ensures err { OnErr result (Passed (D.number door.old) (D.alone door.old) (D.seen door.old) (D.seen door.new)) }
-    ensures door { IsSameDoor D.opening D.number D.seen D.alone D.loans D.home door.old door.new }
+    ensures ok { IfOk result (Between Takes (D.view door.old) (D.view door.new) child line) }
+    ensures err { OnErr result (Passed (D.view door.old).number (D.view door.old).alone (D.view door.old).seen (D.view door.new).seen) }
+    ensures door { IsSameDoor (D.view door.old) (D.view door.new) }
 {
     match step(door, Event::Got { child, line }) {
         Ok(reply) => Ok(is_done(reply)),
@@ -181,22 +181,22 @@ pub fn got<D: Door>(door: &mut D, child: u32, line: Bytes) -> Result<bool, NoMem
 
 /// Ends the child, where it hadn't ended, for a reason that the link found.
 pub fn stop<D: Door>(door: &mut D, child: u32, why: Why)
-    requires started { is_started (D.seen door.old) child ≡ true }
+    requires started { is_started (D.view door.old).seen child ≡ true }
     requires why { can_end why ≡ true }
-    ensures ends { Ends (D.opening door.old) (D.number door.old) (D.alone door.old) (D.seen door.old) (D.seen door.new) child why }
-    ensures over { is_ended (D.seen door.new) child ≡ true }
-    ensures door { IsSameDoor D.opening D.number D.seen D.alone D.loans D.home door.old door.new }
+    ensures ends { Between Ends (D.view door.old) (D.view door.new) child why }
+    ensures over { is_ended (D.view door.new).seen child ≡ true }
+    ensures door { IsSameDoor (D.view door.old) (D.view door.new) }
 {
     let _done = make(door, Event::Stop { child, why });
 }
 
 /// Ends the child as closed, where nobody else steps the core, and the child has no open job and no busy task.
 pub fn close<D: Door>(door: &mut D, child: u32)
-    requires alone { D.alone door.old ≡ true }
-    requires started { is_started (D.seen door.old) child ≡ true }
-    requires idle { may_stop (D.seen door.old) child Closed ≡ true }
-    ensures closes { Closes (D.number door.old) child (D.seen door.old) (D.seen door.new) }
-    ensures door { IsSameDoor D.opening D.number D.seen D.alone D.loans D.home door.old door.new }
+    requires alone { (D.view door.old).alone ≡ true }
+    requires started { is_started (D.view door.old).seen child ≡ true }
+    requires idle { may_stop (D.view door.old).seen child Closed ≡ true }
+    ensures closes { Closes (D.view door.old).number child (D.view door.old).seen (D.view door.new).seen }
+    ensures door { IsSameDoor (D.view door.old) (D.view door.new) }
 {
     let _done = make(
         door,
@@ -209,17 +209,17 @@ pub fn close<D: Door>(door: &mut D, child: u32)
 
 /// The next line was written.
 pub fn sent<D: Door>(door: &mut D, child: u32)
-    ensures sends { Sends (D.opening door.old) (D.number door.old) (D.alone door.old) (D.seen door.old) (D.seen door.new) child }
-    ensures door { IsSameDoor D.opening D.number D.seen D.alone D.loans D.home door.old door.new }
+    ensures sends { Between Sends (D.view door.old) (D.view door.new) child }
+    ensures door { IsSameDoor (D.view door.old) (D.view door.new) }
 {
     let _done = make(door, Event::Sent { child });
 }
 
 /// The next line couldn't be written.
 pub fn mute<D: Door>(door: &mut D, child: u32)
-    requires started { is_started (D.seen door.old) child ≡ true }
-    ensures mutes { Mutes (D.opening door.old) (D.number door.old) (D.alone door.old) (D.seen door.old) (D.seen door.new) child }
-    ensures door { IsSameDoor D.opening D.number D.seen D.alone D.loans D.home door.old door.new }
+    requires started { is_started (D.view door.old).seen child ≡ true }
+    ensures mutes { Between Mutes (D.view door.old) (D.view door.new) child }
+    ensures door { IsSameDoor (D.view door.old) (D.view door.new) }
 {
     let _done = make(door, Event::Mute { child });
 }
@@ -231,9 +231,9 @@ pub fn ask<D: Door>(
     task: u32,
     request: Request,
 ) -> Result<Asked, NoMemory>
-    ensures asked { IfOk result (IsAsked (D.opening door.old) (D.number door.old) (D.alone door.old) (D.seen door.old) (D.seen door.new) child task (name_of request) (message_of request)) }
-    ensures err { OnErr result (Passed (D.number door.old) (D.alone door.old) (D.seen door.old) (D.seen door.new)) }
-    ensures door { IsSameDoor D.opening D.number D.seen D.alone D.loans D.home door.old door.new }
+    ensures asked { IfOk result (Between IsAsked (D.view door.old) (D.view door.new) child task (name_of request) (message_of request)) }
+    ensures err { OnErr result (Passed (D.view door.old).number (D.view door.old).alone (D.view door.old).seen (D.view door.new).seen) }
+    ensures door { IsSameDoor (D.view door.old) (D.view door.new) }
 {
     match step(
         door,

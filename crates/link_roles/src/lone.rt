@@ -5,7 +5,7 @@ ghost use Rattle.journal_model.specs.Legality.{Legal, said_version};
 ghost use Rattle.journal_model.specs.Projection.{IsNamed};
 ghost use Rattle.host_core.specs.Steps.{is_asked, is_named_well, may_request};
 ghost use Rattle.talk_serial.specs.Requests.{message_of, name_of};
-ghost use Rattle.link_roles.specs.Doors.{IsSameDoor, Passed, Ends};
+ghost use Rattle.link_roles.specs.Doors.{Between, IsSameDoor, Passed, Ends};
 ghost use Rattle.journal_model.specs.declared.verdict.Why.TheVariants.{Memory};
 ghost use Rattle.journal_model.specs.Shares.{Moved, by_link, by_asker, is_of_child};
 ghost use Rattle.link_roles.specs.Asks.{HasAsked, HeardOut, HeardMoved, IsWritten, IsUnheard, IsSettling, HasBegun};
@@ -60,10 +60,10 @@ impl<I: Sink, O: Source> Lone<I, O> {
 impl<I: Sink, O: Source> Lone<I, O> {
     /// A link that has read and written nothing. It takes no memory.
     pub fn new(alloc: Global, child: u32, inlet: I, outlet: O) -> Lone<I, O>
-        requires inlet { I.is_open inlet ≡ true }
-        requires outlet { O.is_open outlet ≡ true }
-        ensures ear { result.ear ≡ record { child = child; given = O.given outlet; left = O.left outlet; faults = O.faults outlet; number = O.number outlet; held = [] } }
-        ensures mouth { result.mouth ≡ record { child = child; taken = I.taken inlet; faults = I.faults inlet; number = I.number inlet } }
+        requires inlet { (I.told inlet).is_open ≡ true }
+        requires outlet { (O.told outlet).is_open ≡ true }
+        ensures ear { result.ear ≡ record { child = child; given = (O.told outlet).given; left = (O.told outlet).left; faults = (O.told outlet).faults; number = (O.told outlet).number; held = [] } }
+        ensures mouth { result.mouth ≡ record { child = child; taken = (I.told inlet).taken; faults = (I.told inlet).faults; number = (I.told inlet).number } }
     {
         Lone {
             ear: Ear::new(alloc, child, outlet),
@@ -90,10 +90,10 @@ impl<I: Sink, O: Source> Lone<I, O> {
 
     /// Why the child ended, if it did. It takes no memory.
     pub fn why_ended<D: Door>(&self, door: &mut D) -> Option<Why>
-        requires started { is_started (D.seen door.old) self.now.ear.child ≡ true }
-        ensures why { result ≡ why_of (D.seen door.new) self.now.ear.child }
-        ensures passed { Passed (D.number door.old) (D.alone door.old) (D.seen door.old) (D.seen door.new) }
-        ensures door { IsSameDoor D.opening D.number D.seen D.alone D.loans D.home door.old door.new }
+        requires started { is_started (D.view door.old).seen self.now.ear.child ≡ true }
+        ensures why { result ≡ why_of (D.view door.new).seen self.now.ear.child }
+        ensures passed { Passed (D.view door.old).number (D.view door.old).alone (D.view door.old).seen (D.view door.new).seen }
+        ensures door { IsSameDoor (D.view door.old) (D.view door.new) }
     {
         events::why_ended(door, self.child())
     }
@@ -109,11 +109,11 @@ enum Settling {
 impl<I: Sink, O: Source> Lone<I, O> {
     // Feeds one line or reads once. True where the child has said a line or has ended.
     fn hear_first<D: Door>(&mut self, door: &mut D) -> bool
-        requires started { is_started (D.seen door.old) self.old.ear.child ≡ true }
-        ensures moved { LinkMoved (D.number door.old) (D.alone door.old) (D.seen door.old) (D.seen door.new) self.old.ear self.new.ear self.old.mouth self.new.mouth }
+        requires started { is_started (D.view door.old).seen self.old.ear.child ≡ true }
+        ensures moved { LinkMoved (D.view door.old).number (D.view door.old).alone (D.view door.old).seen (D.view door.new).seen self.old.ear self.new.ear self.old.mouth self.new.mouth }
         ensures same { IsSameLink self.old.ear self.new.ear self.old.mouth self.new.mouth }
-        ensures begun { IsTrue result → HasBegun (D.seen door.new) self.old.ear.child }
-        ensures door { IsSameDoor D.opening D.number D.seen D.alone D.loans D.home door.old door.new }
+        ensures begun { IsTrue result → HasBegun (D.view door.new).seen self.old.ear.child }
+        ensures door { IsSameDoor (D.view door.old) (D.view door.new) }
     {
         let child = self.child();
         match events::listen(door, child) {
@@ -129,11 +129,11 @@ impl<I: Sink, O: Source> Lone<I, O> {
 
     // Reads until the child has said a line or has ended.
     fn hear_line<D: Door>(&mut self, door: &mut D)
-        requires started { is_started (D.seen door.old) self.old.ear.child ≡ true }
-        ensures moved { LinkMoved (D.number door.old) (D.alone door.old) (D.seen door.old) (D.seen door.new) self.old.ear self.new.ear self.old.mouth self.new.mouth }
+        requires started { is_started (D.view door.old).seen self.old.ear.child ≡ true }
+        ensures moved { LinkMoved (D.view door.old).number (D.view door.old).alone (D.view door.old).seen (D.view door.new).seen self.old.ear self.new.ear self.old.mouth self.new.mouth }
         ensures same { IsSameLink self.old.ear self.new.ear self.old.mouth self.new.mouth }
-        ensures begun { HasBegun (D.seen door.new) self.old.ear.child }
-        ensures door { IsSameDoor D.opening D.number D.seen D.alone D.loans D.home door.old door.new }
+        ensures begun { HasBegun (D.view door.new).seen self.old.ear.child }
+        ensures door { IsSameDoor (D.view door.old) (D.view door.new) }
     {
         for _ in 0..u64::MAX {
             if self.hear_first(door) {
@@ -146,13 +146,13 @@ impl<I: Sink, O: Source> Lone<I, O> {
     /// Reads and feeds the first line alone. None where that line says `VERSION` with number 1; else the child has ended,
     /// and this is why.
     pub fn hear_version<D: Door>(&mut self, door: &mut D) -> Option<Why>
-        requires started { is_started (D.seen door.old) self.old.ear.child ≡ true }
-        requires legal { Legal (D.opening door.old) (D.seen door.old) }
-        ensures why { result ≡ why_of (D.seen door.new) self.old.ear.child }
-        ensures version { IfNone result (said_version (D.seen door.new) self.old.ear.child ≡ true) }
-        ensures moved { LinkMoved (D.number door.old) (D.alone door.old) (D.seen door.old) (D.seen door.new) self.old.ear self.new.ear self.old.mouth self.new.mouth }
+        requires started { is_started (D.view door.old).seen self.old.ear.child ≡ true }
+        requires legal { Legal (D.view door.old).opening (D.view door.old).seen }
+        ensures why { result ≡ why_of (D.view door.new).seen self.old.ear.child }
+        ensures version { IfNone result (said_version (D.view door.new).seen self.old.ear.child ≡ true) }
+        ensures moved { LinkMoved (D.view door.old).number (D.view door.old).alone (D.view door.old).seen (D.view door.new).seen self.old.ear self.new.ear self.old.mouth self.new.mouth }
         ensures same { IsSameLink self.old.ear self.new.ear self.old.mouth self.new.mouth }
-        ensures door { IsSameDoor D.opening D.number D.seen D.alone D.loans D.home door.old door.new }
+        ensures door { IsSameDoor (D.view door.old) (D.view door.new) }
     {
         let child = self.child();
         self.hear_line(door);
@@ -161,12 +161,12 @@ impl<I: Sink, O: Source> Lone<I, O> {
 
     /// Ends a child that hasn't ended, for lack of memory.
     pub fn give_up<D: Door>(&mut self, door: &mut D)
-        requires started { is_started (D.seen door.old) self.old.ear.child ≡ true }
-        ensures moved { LinkMoved (D.number door.old) (D.alone door.old) (D.seen door.old) (D.seen door.new) self.old.ear self.new.ear self.old.mouth self.new.mouth }
+        requires started { is_started (D.view door.old).seen self.old.ear.child ≡ true }
+        ensures moved { LinkMoved (D.view door.old).number (D.view door.old).alone (D.view door.old).seen (D.view door.new).seen self.old.ear self.new.ear self.old.mouth self.new.mouth }
         ensures same { IsSameLink self.old.ear self.new.ear self.old.mouth self.new.mouth }
-        ensures over { is_ended (D.seen door.new) self.old.ear.child ≡ true }
-        ensures ends { Ends (D.opening door.old) (D.number door.old) (D.alone door.old) (D.seen door.old) (D.seen door.new) self.old.ear.child Memory }
-        ensures door { IsSameDoor D.opening D.number D.seen D.alone D.loans D.home door.old door.new }
+        ensures over { is_ended (D.view door.new).seen self.old.ear.child ≡ true }
+        ensures ends { Between Ends (D.view door.old) (D.view door.new) self.old.ear.child Memory }
+        ensures door { IsSameDoor (D.view door.old) (D.view door.new) }
     {
         let child = self.child();
         events::stop(door, child, Why::Memory);
@@ -174,12 +174,12 @@ impl<I: Sink, O: Source> Lone<I, O> {
 
     // How the job was settled, if it was.
     fn look_up<D: Door>(&mut self, door: &mut D, job: u64) -> Option<Verdict>
-        requires asked { is_asked (D.seen door.old) self.old.ear.child job ≡ true }
-        ensures verdict { result ≡ verdict_of (D.seen door.new) self.old.ear.child job }
-        ensures passed { Passed (D.number door.old) (D.alone door.old) (D.seen door.old) (D.seen door.new) }
-        ensures moved { LoneMoved (D.number door.old) (D.alone door.old) (D.seen door.old) (D.seen door.new) self.old.ear self.new.ear self.old.mouth self.new.mouth }
+        requires asked { is_asked (D.view door.old).seen self.old.ear.child job ≡ true }
+        ensures verdict { result ≡ verdict_of (D.view door.new).seen self.old.ear.child job }
+        ensures passed { Passed (D.view door.old).number (D.view door.old).alone (D.view door.old).seen (D.view door.new).seen }
+        ensures moved { LoneMoved (D.view door.old).number (D.view door.old).alone (D.view door.old).seen (D.view door.new).seen self.old.ear self.new.ear self.old.mouth self.new.mouth }
         ensures same { IsSameLink self.old.ear self.new.ear self.old.mouth self.new.mouth }
-        ensures door { IsSameDoor D.opening D.number D.seen D.alone D.loans D.home door.old door.new }
+        ensures door { IsSameDoor (D.view door.old) (D.view door.new) }
     {
         let child = self.child();
         events::verdict(door, child, job)
@@ -187,14 +187,14 @@ impl<I: Sink, O: Source> Lone<I, O> {
 
     // Feeds one line or reads once, where a line of the child is due or may be.
     fn hear_next<D: Door>(&mut self, door: &mut D, job: u64) -> Settling
-        requires started { is_started (D.seen door.old) self.old.ear.child ≡ true }
-        requires asked { is_asked (D.seen door.old) self.old.ear.child job ≡ true }
-        requires legal { Legal (D.opening door.old) (D.seen door.old) }
-        ensures settling { IsSettling (D.seen door.new) self.old.ear.child job result }
-        ensures heard { HeardMoved (D.number door.old) (D.alone door.old) (D.seen door.old) (D.seen door.new) self.old.ear.child job (IsWritten self.old.ear.child (D.seen door.old) × IsUnheard self.old.ear.child job (D.seen door.old)) }
-        ensures moved { LoneHears (D.number door.old) (D.alone door.old) (D.seen door.old) (D.seen door.new) self.old.ear self.new.ear self.old.mouth self.new.mouth }
+        requires started { is_started (D.view door.old).seen self.old.ear.child ≡ true }
+        requires asked { is_asked (D.view door.old).seen self.old.ear.child job ≡ true }
+        requires legal { Legal (D.view door.old).opening (D.view door.old).seen }
+        ensures settling { IsSettling (D.view door.new).seen self.old.ear.child job result }
+        ensures heard { HeardMoved (D.view door.old).number (D.view door.old).alone (D.view door.old).seen (D.view door.new).seen self.old.ear.child job (IsWritten self.old.ear.child (D.view door.old).seen × IsUnheard self.old.ear.child job (D.view door.old).seen) }
+        ensures moved { LoneHears (D.view door.old).number (D.view door.old).alone (D.view door.old).seen (D.view door.new).seen self.old.ear self.new.ear self.old.mouth self.new.mouth }
         ensures same { IsSameLink self.old.ear self.new.ear self.old.mouth self.new.mouth }
-        ensures door { IsSameDoor D.opening D.number D.seen D.alone D.loans D.home door.old door.new }
+        ensures door { IsSameDoor (D.view door.old) (D.view door.new) }
     {
         let child = self.child();
         match events::listen(door, child) {
@@ -211,14 +211,14 @@ impl<I: Sink, O: Source> Lone<I, O> {
     // One step on the way to the job's verdict, where it has none: the next line is written, or one is heard where none is to be
     // written.
     fn settle_next<D: Door>(&mut self, door: &mut D, job: u64) -> Settling
-        requires started { is_started (D.seen door.old) self.old.ear.child ≡ true }
-        requires asked { is_asked (D.seen door.old) self.old.ear.child job ≡ true }
-        requires legal { Legal (D.opening door.old) (D.seen door.old) }
-        ensures settling { IsSettling (D.seen door.new) self.old.ear.child job result }
-        ensures heard { HeardMoved (D.number door.old) (D.alone door.old) (D.seen door.old) (D.seen door.new) self.old.ear.child job (HeardOut self.old.ear.child job (D.seen door.old)) }
-        ensures moved { LoneMoved (D.number door.old) (D.alone door.old) (D.seen door.old) (D.seen door.new) self.old.ear self.new.ear self.old.mouth self.new.mouth }
+        requires started { is_started (D.view door.old).seen self.old.ear.child ≡ true }
+        requires asked { is_asked (D.view door.old).seen self.old.ear.child job ≡ true }
+        requires legal { Legal (D.view door.old).opening (D.view door.old).seen }
+        ensures settling { IsSettling (D.view door.new).seen self.old.ear.child job result }
+        ensures heard { HeardMoved (D.view door.old).number (D.view door.old).alone (D.view door.old).seen (D.view door.new).seen self.old.ear.child job (HeardOut self.old.ear.child job (D.view door.old).seen) }
+        ensures moved { LoneMoved (D.view door.old).number (D.view door.old).alone (D.view door.old).seen (D.view door.new).seen self.old.ear self.new.ear self.old.mouth self.new.mouth }
         ensures same { IsSameLink self.old.ear self.new.ear self.old.mouth self.new.mouth }
-        ensures door { IsSameDoor D.opening D.number D.seen D.alone D.loans D.home door.old door.new }
+        ensures door { IsSameDoor (D.view door.old) (D.view door.new) }
     {
         if let Some(verdict) = self.look_up(door, job) {
             return Settling::Settled(verdict);
@@ -232,13 +232,13 @@ impl<I: Sink, O: Source> Lone<I, O> {
 
     // The verdict of a job that was settled.
     fn settled<D: Door>(&mut self, door: &mut D, job: u64) -> Verdict
-        requires asked { is_asked (D.seen door.old) self.old.ear.child job ≡ true }
-        requires settled { verdict_of (D.seen door.old) self.old.ear.child job ≢ None }
-        ensures verdict { verdict_of (D.seen door.new) self.old.ear.child job ≡ Some result }
-        ensures heard { HeardMoved (D.number door.old) (D.alone door.old) (D.seen door.old) (D.seen door.new) self.old.ear.child job (HeardOut self.old.ear.child job (D.seen door.old)) }
-        ensures moved { LoneMoved (D.number door.old) (D.alone door.old) (D.seen door.old) (D.seen door.new) self.old.ear self.new.ear self.old.mouth self.new.mouth }
+        requires asked { is_asked (D.view door.old).seen self.old.ear.child job ≡ true }
+        requires settled { verdict_of (D.view door.old).seen self.old.ear.child job ≢ None }
+        ensures verdict { verdict_of (D.view door.new).seen self.old.ear.child job ≡ Some result }
+        ensures heard { HeardMoved (D.view door.old).number (D.view door.old).alone (D.view door.old).seen (D.view door.new).seen self.old.ear.child job (HeardOut self.old.ear.child job (D.view door.old).seen) }
+        ensures moved { LoneMoved (D.view door.old).number (D.view door.old).alone (D.view door.old).seen (D.view door.new).seen self.old.ear self.new.ear self.old.mouth self.new.mouth }
         ensures same { IsSameLink self.old.ear self.new.ear self.old.mouth self.new.mouth }
-        ensures door { IsSameDoor D.opening D.number D.seen D.alone D.loans D.home door.old door.new }
+        ensures door { IsSameDoor (D.view door.old) (D.view door.new) }
     {
         match self.look_up(door, job) {
             Some(verdict) => verdict,
@@ -248,14 +248,14 @@ impl<I: Sink, O: Source> Lone<I, O> {
 
     // The verdict of a job, where nothing more is heard of its child: a child that was ended has no open job.
     fn settle_last<D: Door>(&mut self, door: &mut D, job: u64) -> Verdict
-        requires started { is_started (D.seen door.old) self.old.ear.child ≡ true }
-        requires asked { is_asked (D.seen door.old) self.old.ear.child job ≡ true }
-        requires legal { Legal (D.opening door.old) (D.seen door.old) }
-        ensures verdict { verdict_of (D.seen door.new) self.old.ear.child job ≡ Some result }
-        ensures heard { HeardMoved (D.number door.old) (D.alone door.old) (D.seen door.old) (D.seen door.new) self.old.ear.child job (HeardOut self.old.ear.child job (D.seen door.old)) }
-        ensures moved { LoneMoved (D.number door.old) (D.alone door.old) (D.seen door.old) (D.seen door.new) self.old.ear self.new.ear self.old.mouth self.new.mouth }
+        requires started { is_started (D.view door.old).seen self.old.ear.child ≡ true }
+        requires asked { is_asked (D.view door.old).seen self.old.ear.child job ≡ true }
+        requires legal { Legal (D.view door.old).opening (D.view door.old).seen }
+        ensures verdict { verdict_of (D.view door.new).seen self.old.ear.child job ≡ Some result }
+        ensures heard { HeardMoved (D.view door.old).number (D.view door.old).alone (D.view door.old).seen (D.view door.new).seen self.old.ear.child job (HeardOut self.old.ear.child job (D.view door.old).seen) }
+        ensures moved { LoneMoved (D.view door.old).number (D.view door.old).alone (D.view door.old).seen (D.view door.new).seen self.old.ear self.new.ear self.old.mouth self.new.mouth }
         ensures same { IsSameLink self.old.ear self.new.ear self.old.mouth self.new.mouth }
-        ensures door { IsSameDoor D.opening D.number D.seen D.alone D.loans D.home door.old door.new }
+        ensures door { IsSameDoor (D.view door.old) (D.view door.new) }
     {
         if let Some(verdict) = self.look_up(door, job) {
             return verdict;
@@ -266,15 +266,15 @@ impl<I: Sink, O: Source> Lone<I, O> {
 
     // Goes on until the job is settled.
     fn settle<D: Door>(&mut self, door: &mut D, job: u64) -> Verdict
-        requires started { is_started (D.seen door.old) self.old.ear.child ≡ true }
-        requires asked { is_asked (D.seen door.old) self.old.ear.child job ≡ true }
-        requires legal { Legal (D.opening door.old) (D.seen door.old) }
+        requires started { is_started (D.view door.old).seen self.old.ear.child ≡ true }
+        requires asked { is_asked (D.view door.old).seen self.old.ear.child job ≡ true }
+        requires legal { Legal (D.view door.old).opening (D.view door.old).seen }
         ensures small { job < 2 ^ 64 }
-        ensures verdict { verdict_of (D.seen door.new) self.old.ear.child job ≡ Some result }
-        ensures heard { HeardMoved (D.number door.old) (D.alone door.old) (D.seen door.old) (D.seen door.new) self.old.ear.child job (HeardOut self.old.ear.child job (D.seen door.old)) }
-        ensures moved { LoneMoved (D.number door.old) (D.alone door.old) (D.seen door.old) (D.seen door.new) self.old.ear self.new.ear self.old.mouth self.new.mouth }
+        ensures verdict { verdict_of (D.view door.new).seen self.old.ear.child job ≡ Some result }
+        ensures heard { HeardMoved (D.view door.old).number (D.view door.old).alone (D.view door.old).seen (D.view door.new).seen self.old.ear.child job (HeardOut self.old.ear.child job (D.view door.old).seen) }
+        ensures moved { LoneMoved (D.view door.old).number (D.view door.old).alone (D.view door.old).seen (D.view door.new).seen self.old.ear self.new.ear self.old.mouth self.new.mouth }
         ensures same { IsSameLink self.old.ear self.new.ear self.old.mouth self.new.mouth }
-        ensures door { IsSameDoor D.opening D.number D.seen D.alone D.loans D.home door.old door.new }
+        ensures door { IsSameDoor (D.view door.old) (D.view door.new) }
     {
         for _ in 0..u64::MAX {
             match self.settle_next(door, job) {
@@ -294,16 +294,16 @@ impl<I: Sink, O: Source> Lone<I, O> {
         task: u32,
         request: &Request,
     ) -> Result<Verdict, NoMemory>
-        requires started { is_started (D.seen door.old) self.old.ear.child ≡ true }
-        requires legal { Legal (D.opening door.old) (D.seen door.old) }
-        requires may { D.alone door.old ≡ true → may_request (D.seen door.old) (D.number door.old) task self.old.ear.child (message_of request.now) ≡ true }
+        requires started { is_started (D.view door.old).seen self.old.ear.child ≡ true }
+        requires legal { Legal (D.view door.old).opening (D.view door.old).seen }
+        requires may { (D.view door.old).alone ≡ true → may_request (D.view door.old).seen (D.view door.old).number task self.old.ear.child (message_of request.now) ≡ true }
         requires named { is_named_well (name_of request.now) ≡ true }
-        ensures asked { IfOk result (HasAsked (D.opening door.old) (D.number door.old) (D.alone door.old) (by_link self.old.ear.child) (D.seen door.old) (D.seen door.new) self.old.ear.child task (name_of request.now) (message_of request.now) (λ job. HeardOut self.old.ear.child job (D.seen door.new))) }
+        ensures asked { IfOk result (HasAsked (D.view door.old).opening (D.view door.old).number (D.view door.old).alone (by_link self.old.ear.child) (D.view door.old).seen (D.view door.new).seen self.old.ear.child task (name_of request.now) (message_of request.now) (λ job. HeardOut self.old.ear.child job (D.view door.new).seen)) }
         ensures named { IfOk result (IsNamed (message_of request.now)) }
-        ensures none { OnErr result (Passed (D.number door.old) (D.alone door.old) (D.seen door.old) (D.seen door.new)) }
-        ensures moved { Moved (D.number door.old) (D.alone door.old) (by_asker self.old.ear.child) (is_of_child self.old.ear.child) (D.seen door.old) (D.seen door.new) (LoneWired (D.seen door.old) self.old.ear self.old.mouth) (LoneWired (D.seen door.new) self.new.ear self.new.mouth) }
+        ensures none { OnErr result (Passed (D.view door.old).number (D.view door.old).alone (D.view door.old).seen (D.view door.new).seen) }
+        ensures moved { Moved (D.view door.old).number (D.view door.old).alone (by_asker self.old.ear.child) (is_of_child self.old.ear.child) (D.view door.old).seen (D.view door.new).seen (LoneWired (D.view door.old).seen self.old.ear self.old.mouth) (LoneWired (D.view door.new).seen self.new.ear self.new.mouth) }
         ensures same { IsSameLink self.old.ear self.new.ear self.old.mouth self.new.mouth }
-        ensures door { IsSameDoor D.opening D.number D.seen D.alone D.loans D.home door.old door.new }
+        ensures door { IsSameDoor (D.view door.old) (D.view door.new) }
     {
         let child = self.child();
         let request = request.copy(self.ear.alloc())?;

@@ -5,7 +5,7 @@ ghost use Rattle.std.specs.Io.KnownBytes.{Appends};
 ghost use Rattle.host_core.specs.declared.event.Event.TheVariants.{Fetch};
 ghost use Rattle.host_core.specs.declared.event.Reply.TheVariants.{Wait, Over};
 ghost use Rattle.journal_model.specs.Journal.{is_started, is_ended};
-ghost use Rattle.link_roles.specs.Doors.{Ends, IsSameDoor};
+ghost use Rattle.link_roles.specs.Doors.{Between, Ends, IsSameDoor};
 ghost use Rattle.journal_model.specs.Halves.{IsSameMouth};
 ghost use Rattle.link_roles.specs.Moves.{MouthMoved};
 ghost use Rattle.link_roles.specs.Events.{Says, IsNextLine};
@@ -21,29 +21,29 @@ use std::marker::Model;
 
 // Writes the whole line to the inlet.
 fn write<I: Sink>(inlet: &mut I, line: &[u8]) -> Result<(), Failed>
-    requires { I.is_open inlet.old ≡ true }
-    ensures ok { OnOk result (Appends (I.taken inlet.old) (I.taken inlet.new) line.now) }
-    ensures prefix { (n : ℕ) × Appends (I.taken inlet.old) (I.taken inlet.new) (take n line.now) }
-    ensures silent { I.taken inlet.old ≡ None → I.taken inlet.new ≡ None }
-    ensures err { OnErr result (0 < I.faults inlet.new) }
-    ensures open { I.is_open inlet.new ≡ true }
-    ensures number { I.number inlet.new ≡ I.number inlet.old }
+    requires { (I.told inlet.old).is_open ≡ true }
+    ensures ok { OnOk result (Appends (I.told inlet.old).taken (I.told inlet.new).taken line.now) }
+    ensures prefix { (n : ℕ) × Appends (I.told inlet.old).taken (I.told inlet.new).taken (take n line.now) }
+    ensures silent { (I.told inlet.old).taken ≡ None → (I.told inlet.new).taken ≡ None }
+    ensures err { OnErr result (0 < (I.told inlet.new).faults) }
+    ensures open { (I.told inlet.new).is_open ≡ true }
+    ensures number { (I.told inlet.new).number ≡ (I.told inlet.old).number }
 {
     write_all(inlet, line)
 }
 
 // Writes the next line of the child to its inlet, and tells the core what came of it.
 fn send<I: Sink, D: Door>(inlet: &mut I, door: &mut D, child: u32, line: &Bytes)
-    requires open { I.is_open inlet.old ≡ true }
-    requires started { is_started (D.seen door.old) child ≡ true }
-    requires next { IsNextLine (D.seen door.old) child line.now }
-    ensures writing { IsWriting (D.opening door.old) (D.number door.old) (D.alone door.old) (D.seen door.old) (D.seen door.new)
-        (mouth_value child (I.taken inlet.old) (I.faults inlet.old) (I.number inlet.old)) (mouth_value child (I.taken inlet.new) (I.faults inlet.new) (I.number inlet.new)) line.now }
-    ensures moved { MouthMoved (D.number door.old) (D.alone door.old) (D.seen door.old) (D.seen door.new)
-        (mouth_value child (I.taken inlet.old) (I.faults inlet.old) (I.number inlet.old)) (mouth_value child (I.taken inlet.new) (I.faults inlet.new) (I.number inlet.new)) }
-    ensures open { I.is_open inlet.new ≡ true }
-    ensures number { I.number inlet.new ≡ I.number inlet.old }
-    ensures door { IsSameDoor D.opening D.number D.seen D.alone D.loans D.home door.old door.new }
+    requires open { (I.told inlet.old).is_open ≡ true }
+    requires started { is_started (D.view door.old).seen child ≡ true }
+    requires next { IsNextLine (D.view door.old).seen child line.now }
+    ensures writing { Between IsWriting (D.view door.old) (D.view door.new)
+        (mouth_value child (I.told inlet.old).taken (I.told inlet.old).faults (I.told inlet.old).number) (mouth_value child (I.told inlet.new).taken (I.told inlet.new).faults (I.told inlet.new).number) line.now }
+    ensures moved { MouthMoved (D.view door.old).number (D.view door.old).alone (D.view door.old).seen (D.view door.new).seen
+        (mouth_value child (I.told inlet.old).taken (I.told inlet.old).faults (I.told inlet.old).number) (mouth_value child (I.told inlet.new).taken (I.told inlet.new).faults (I.told inlet.new).number) }
+    ensures open { (I.told inlet.new).is_open ≡ true }
+    ensures number { (I.told inlet.new).number ≡ (I.told inlet.old).number }
+    ensures door { IsSameDoor (D.view door.old) (D.view door.new) }
 {
     let bytes = line.view();
     match write(inlet, bytes) {
@@ -55,13 +55,13 @@ fn send<I: Sink, D: Door>(inlet: &mut I, door: &mut D, child: u32, line: &Bytes)
 // Ends the child for lack of memory and closes its inlet, so that it finds its input at an end: an ear may be waiting in a read for
 // what it says. The end is in the journal first.
 fn end_child<I: Sink, D: Door>(inlet: &mut I, door: &mut D, child: u32)
-    requires open { I.is_open inlet.old ≡ true }
-    requires started { is_started (D.seen door.old) child ≡ true }
-    ensures closed { I.is_open inlet.new ≡ false }
-    ensures same { mouth_value child (I.taken inlet.new) (I.faults inlet.new) (I.number inlet.new) ≡ mouth_value child (I.taken inlet.old) (I.faults inlet.old) (I.number inlet.old) }
-    ensures ends { Ends (D.opening door.old) (D.number door.old) (D.alone door.old) (D.seen door.old) (D.seen door.new) child Memory }
-    ensures over { is_ended (D.seen door.new) child ≡ true }
-    ensures door { IsSameDoor D.opening D.number D.seen D.alone D.loans D.home door.old door.new }
+    requires open { (I.told inlet.old).is_open ≡ true }
+    requires started { is_started (D.view door.old).seen child ≡ true }
+    ensures closed { (I.told inlet.new).is_open ≡ false }
+    ensures same { mouth_value child (I.told inlet.new).taken (I.told inlet.new).faults (I.told inlet.new).number ≡ mouth_value child (I.told inlet.old).taken (I.told inlet.old).faults (I.told inlet.old).number }
+    ensures ends { Between Ends (D.view door.old) (D.view door.new) child Memory }
+    ensures over { is_ended (D.view door.new).seen child ≡ true }
+    ensures door { IsSameDoor (D.view door.old) (D.view door.new) }
 {
     events::stop(door, child, Why::Memory);
     inlet.close();
@@ -83,16 +83,16 @@ impl<I: Sink> Model for Mouth<I> {
 
     ghost Value = { MouthValue };
 
-    ghost view = { λ s. record { child = s.child; taken = I.taken s.inlet; faults = I.faults s.inlet; number = I.number s.inlet } };
+    ghost view = { λ s. record { child = s.child; taken = (I.told s.inlet).taken; faults = (I.told s.inlet).faults; number = (I.told s.inlet).number } };
 
-    ghost invariant = { λ s. I.is_open s.inlet ≡ not s.closed };
+    ghost invariant = { λ s. (I.told s.inlet).is_open ≡ not s.closed };
 }
 
 impl<I: Sink> Mouth<I> {
     /// A mouth that has written nothing. It takes no memory.
     pub fn new(child: u32, inlet: I) -> Mouth<I>
-        requires { I.is_open inlet ≡ true }
-        ensures { result ≡ record { child = child; taken = I.taken inlet; faults = I.faults inlet; number = I.number inlet } }
+        requires { (I.told inlet).is_open ≡ true }
+        ensures { result ≡ record { child = child; taken = (I.told inlet).taken; faults = (I.told inlet).faults; number = (I.told inlet).number } }
     {
         Mouth {
             child,
@@ -110,10 +110,10 @@ impl<I: Sink> Mouth<I> {
 
     /// Closes the inlet, where it is open still, and hands it out. It takes no memory.
     pub fn finish(self) -> I
-        ensures taken { I.taken result ≡ self.taken }
-        ensures faults { I.faults result ≡ self.faults }
-        ensures number { I.number result ≡ self.number }
-        ensures closed { I.is_open result ≡ false }
+        ensures taken { (I.told result).taken ≡ self.taken }
+        ensures faults { (I.told result).faults ≡ self.faults }
+        ensures number { (I.told result).number ≡ self.number }
+        ensures closed { (I.told result).is_open ≡ false }
     {
         let Mouth {
             child: _,
@@ -130,11 +130,11 @@ impl<I: Sink> Mouth<I> {
 impl<I: Sink> Mouth<I> {
     // Ends the child for lack of memory, and closes its inlet, unless that was done before.
     fn give_up<D: Door>(&mut self, door: &mut D)
-        requires started { is_started (D.seen door.old) self.old.child ≡ true }
+        requires started { is_started (D.view door.old).seen self.old.child ≡ true }
         ensures same { self.new ≡ self.old }
-        ensures ends { Ends (D.opening door.old) (D.number door.old) (D.alone door.old) (D.seen door.old) (D.seen door.new) self.old.child Memory }
-        ensures over { is_ended (D.seen door.new) self.old.child ≡ true }
-        ensures door { IsSameDoor D.opening D.number D.seen D.alone D.loans D.home door.old door.new }
+        ensures ends { Between Ends (D.view door.old) (D.view door.new) self.old.child Memory }
+        ensures over { is_ended (D.view door.new).seen self.old.child ≡ true }
+        ensures door { IsSameDoor (D.view door.old) (D.view door.new) }
     {
         if self.closed {
             events::stop(door, self.child, Why::Memory);
@@ -146,13 +146,13 @@ impl<I: Sink> Mouth<I> {
 
     /// Writes the next line to the child, where there is one. Where there is no memory the child ends, and its inlet is closed.
     pub fn turn<D: Door>(&mut self, door: &mut D) -> Turn
-        requires started { is_started (D.seen door.old) self.old.child ≡ true }
-        ensures moved { MouthMoved (D.number door.old) (D.alone door.old) (D.seen door.old) (D.seen door.new) self.old self.new }
+        requires started { is_started (D.view door.old).seen self.old.child ≡ true }
+        ensures moved { MouthMoved (D.view door.old).number (D.view door.old).alone (D.view door.old).seen (D.view door.new).seen self.old self.new }
         ensures same { IsSameMouth self.old self.new }
-        ensures turned { IsSpeaking (D.opening door.old) (D.number door.old) (D.alone door.old) (D.seen door.old) (D.seen door.new) self.old self.new result }
-        ensures rest { result ≡ Turn.Rest → Says (D.opening door.old) (D.number door.old) (D.seen door.new) (Fetch self.old.child) Wait }
-        ensures over { result ≡ Turn.Over → Says (D.opening door.old) (D.number door.old) (D.seen door.new) (Fetch self.old.child) Over }
-        ensures door { IsSameDoor D.opening D.number D.seen D.alone D.loans D.home door.old door.new }
+        ensures turned { Between IsSpeaking (D.view door.old) (D.view door.new) self.old self.new result }
+        ensures rest { result ≡ Turn.Rest → Says (D.view door.old).opening (D.view door.old).number (D.view door.new).seen (Fetch self.old.child) Wait }
+        ensures over { result ≡ Turn.Over → Says (D.view door.old).opening (D.view door.old).number (D.view door.new).seen (Fetch self.old.child) Over }
+        ensures door { IsSameDoor (D.view door.old) (D.view door.new) }
     {
         if self.closed {
             self.give_up(door);
@@ -174,11 +174,11 @@ impl<I: Sink> Mouth<I> {
 
     // One turn, and a rest where there is nothing to do.
     fn go_on<D: Door>(&mut self, door: &mut D) -> bool
-        requires started { is_started (D.seen door.old) self.old.child ≡ true }
-        ensures moved { MouthMoved (D.number door.old) (D.alone door.old) (D.seen door.old) (D.seen door.new) self.old self.new }
+        requires started { is_started (D.view door.old).seen self.old.child ≡ true }
+        ensures moved { MouthMoved (D.view door.old).number (D.view door.old).alone (D.view door.old).seen (D.view door.new).seen self.old self.new }
         ensures same { IsSameMouth self.old self.new }
-        ensures over { IsFalse result → Says (D.opening door.old) (D.number door.old) (D.seen door.new) (Fetch self.old.child) Over }
-        ensures door { IsSameDoor D.opening D.number D.seen D.alone D.loans D.home door.old door.new }
+        ensures over { IsFalse result → Says (D.view door.old).opening (D.view door.old).number (D.view door.new).seen (Fetch self.old.child) Over }
+        ensures door { IsSameDoor (D.view door.old) (D.view door.new) }
     {
         match self.turn(door) {
             Turn::Again => true,
@@ -192,11 +192,11 @@ impl<I: Sink> Mouth<I> {
 
     /// Turns until there is nothing more to do. Where there is no memory the child ends, and its inlet is closed.
     pub fn run<D: Door>(&mut self, door: &mut D)
-        requires started { is_started (D.seen door.old) self.old.child ≡ true }
-        ensures moved { MouthMoved (D.number door.old) (D.alone door.old) (D.seen door.old) (D.seen door.new) self.old self.new }
+        requires started { is_started (D.view door.old).seen self.old.child ≡ true }
+        ensures moved { MouthMoved (D.view door.old).number (D.view door.old).alone (D.view door.old).seen (D.view door.new).seen self.old self.new }
         ensures same { IsSameMouth self.old self.new }
-        ensures over { Says (D.opening door.old) (D.number door.old) (D.seen door.new) (Fetch self.old.child) Over }
-        ensures door { IsSameDoor D.opening D.number D.seen D.alone D.loans D.home door.old door.new }
+        ensures over { Says (D.view door.old).opening (D.view door.old).number (D.view door.new).seen (Fetch self.old.child) Over }
+        ensures door { IsSameDoor (D.view door.old) (D.view door.new) }
     {
         for _ in 0..u64::MAX {
             if !self.go_on(door) {

@@ -1,4 +1,5 @@
 -- The begin of a run, the tasks that are left at its end, and what it leaves.
+use Rattle.ann_outside.specs.Told.{DeskTold, ProgramsTold}
 use Rattle.std.proofs.Common.{◌≡◌, ◌⊎◌, ℕ, ◌+◌, ◌<◌, ◌≤◌, List, [], ◌∷◌, ◌++◌, refl, sym, ap, subst, ◌∙◌, append_assoc, append-nil, length, Bool, true, false, not, ◌==◌, cond, Some, None, Option, arith, inl, inr}
 use Rattle.std.specs.Prelude.{◌&&◌, ◌||◌}
 use Rattle.std.specs.List.{list_all, list_any}
@@ -21,11 +22,11 @@ use Rattle.host_core.specs.Steps.{are_all_claimed, unclaimed}
 use Rattle.child_start.specs.Cores.{IsSameCore}
 use Rattle.task_run.specs.declared.setup.Setup.{Setup}
 use Rattle.task_run.specs.TaskRuns.{failed_start}
-use Rattle.lone_work.specs.Works.{DeskTells, ends_closed}
+use Rattle.lone_work.specs.Works.{ends_closed}
 use Rattle.lone_work.proofs.Working.{ends_behind}
 use Rattle.link_roles.specs.Wires.{WireValue}
 use Rattle.child_end.specs.Wires.{AreWires, IsWire, came, came_in}
-use Rattle.child_end.specs.Programs.{AddsAll, HaveStarted as HaveStartedSo, Leaves, ProgramsValue, is_failed_start, told}
+use Rattle.child_end.specs.Programs.{AddsAll, HaveStarted as HaveStartedSo, Leaves, is_failed_start, told}
 use Rattle.lone_rounds.specs.Starting.{AllOffer, AreSpent, children, is_any_start, is_elsewhere, is_offered, is_ready_untagged, started_in}
 use Rattle.lone_rounds.specs.Rounds.{AllLostWell, AllStandNext, EndsClosed, RanAlone, ZeroAnswers, ends_for_memory, is_of_run, last_again, left_answer, or_unserved, start_untaken}
 use Rattle.lone_rounds.specs.Stints.{AnswersLeft, AreLinked, AreUpTo, Between, IsLinked, IsOver, Kept, MayHaveAsked, OneStart, Spaced, Stint, TasksDone, answered_so, ear_of, main_entry, mouth_of}
@@ -46,7 +47,7 @@ use Rattle.child_end.proofs.Across.{adds_both, adds_none, adds_one}
 
 -- ---- the begin
 
-pub between_begin : (o : Opening) (setup : Setup) (may : Bool) (limit : ℕ) (journal : List Entry) (desk : DeskTells) → journal ≡ [] → Between o setup may limit 0 may journal desk desk
+pub between_begin : (o : Opening) (setup : Setup) (may : Bool) (limit : ℕ) (journal : List Entry) (desk : DeskTold) → journal ≡ [] → Between o setup may limit 0 may journal desk desk
 between_begin o setup may limit journal desk none = subst (λ (j : List Entry). Between o setup may limit 0 may j desk desk) (sym none) record {
   spaced = record {
     legal = record { stands = tt; nothing_due = refl };
@@ -68,7 +69,7 @@ between_begin o setup may limit journal desk none = subst (λ (j : List Entry). 
   last = λ all. record { past = []; closings = []; is = refl; answered = refl; closed = refl };
 }
 
-pub kept_begin : (program : List ℕ) (journal : List Entry) (before : ProgramsValue) (wires : List WireValue) → journal ≡ [] → wires ≡ [] → Kept program journal before before wires
+pub kept_begin : (program : List ℕ) (journal : List Entry) (before : ProgramsTold) (wires : List WireValue) → journal ≡ [] → wires ≡ [] → Kept program journal before before wires
 kept_begin program journal before wires none bare =
     subst (λ (j : List Entry). Kept program j before before wires) (sym none) (subst (Kept program [] before before) (sym bare) record {
       linked = tt;
@@ -124,7 +125,7 @@ module _ (answer : ℕ → Answer) where
   same_count : (past more : List Entry) → any is_any_start more ≡ false → count is_any_start (past ++ more) ≡ count is_any_start past
   same_count past more none = count-append is_any_start past more ∙ (let n = count_none is_any_start more none in omega (arith, n))
 
-  left_done : (o : Opening) (setup : Setup) (limit : ℕ) (journal : List Entry) (desk : DeskTells) → ((t : ℕ) → IsOfNoCall (answer t)) → (past : List Entry) (ts : List ℕ) → journal ≡ past ++ answered_so answer ts
+  left_done : (o : Opening) (setup : Setup) (limit : ℕ) (journal : List Entry) (desk : DeskTold) → ((t : ℕ) → IsOfNoCall (answer t)) → (past : List Entry) (ts : List ℕ) → journal ≡ past ++ answered_so answer ts
       → count is_any_start past ≡ limit → AreSpent past → ((t : ℕ) → answer t ≡ left_answer past t) → failed_start past (start_untaken past) ≡ None → TasksDone o setup limit journal past (answered_so answer ts) desk desk
   left_done o setup limit journal desk quiet past [] is all spent says none = done_nothing o setup limit journal past desk
   left_done o setup limit journal desk quiet past (t ∷ ts) is all spent says none =
@@ -197,14 +198,14 @@ module _ {o : Opening} {may : Bool} {made : ℕ} {offer : Bool} {old new : List 
       starts_same : count is_start new ≡ count is_start old
       starts_same = ap (count is_start) a.is ∙ count-append is_start old more ∙ (let n = count_none is_start more (left_none (left_answer old) is_start (λ t. refl) (λ t. refl) a.tasks) in omega (arith, n))
 
-  pub kept_left : {program : List ℕ} {start after : ProgramsValue} {wires : List WireValue} → Kept program old start after wires → Kept program new start after wires
+  pub kept_left : {program : List ℕ} {start after : ProgramsTold} {wires : List WireValue} → Kept program old start after wires → Kept program new start after wires
   kept_left k = kept_still k b.few new more a.is none (left_apart (left_answer old) a.tasks)
 
   -- the tasks that were left are done by any desk, with no call
-  pub done_left : (setup : Setup) (limit : ℕ) (desk : DeskTells) → made ≡ limit → TasksDone o setup limit (old ++ more) old more desk desk
+  pub done_left : (setup : Setup) (limit : ℕ) (desk : DeskTold) → made ≡ limit → TasksDone o setup limit (old ++ more) old more desk desk
   done_left setup limit desk all = left_done (left_answer old) o setup limit (old ++ more) desk (left_quiet o old b.legal) old a.tasks refl (b.starts ∙ all) spent (λ t. refl) b.untaken
 
-module _ {o : Opening} {setup : Setup} {may : Bool} {limit made : ℕ} {offer : Bool} {old new : List Entry} {desk0 desk : DeskTells} (b : Between o setup may limit made offer old desk0 desk)
+module _ {o : Opening} {setup : Setup} {may : Bool} {limit made : ℕ} {offer : Bool} {old new : List Entry} {desk0 desk : DeskTold} (b : Between o setup may limit made offer old desk0 desk)
     (all : made ≡ limit) (spent : AreSpent old) (a : AnswersLeft o old new (left_answer old)) (legal : Legal o new) where
   abbrev left : List Entry
   left = answered_so (left_answer old) a.tasks
@@ -232,7 +233,7 @@ module _ {o : Opening} {setup : Setup} {may : Bool} {limit made : ℕ} {offer : 
 
 -- ---- what a run leaves
 
-pub ran_alone : {o : Opening} {setup : Setup} {may : Bool} {limit made : ℕ} {offer : Bool} {journal : List Entry} {desk desk' : DeskTells} → made ≤ limit → Between o setup may limit made offer journal desk desk' → RanAlone o setup may limit journal desk desk'
+pub ran_alone : {o : Opening} {setup : Setup} {may : Bool} {limit made : ℕ} {offer : Bool} {journal : List Entry} {desk desk' : DeskTold} → made ≤ limit → Between o setup may limit made offer journal desk desk' → RanAlone o setup may limit journal desk desk'
 ran_alone {o} {setup} {may} {limit} {made} {offer} {journal} le b = record {
   legal = b.spaced.legal;
   main = b.main;
@@ -260,7 +261,7 @@ wires_of starts journal n (None ∷ cs) ws h = wires_of starts journal (n + 1) c
 wires_of starts journal n (Some c ∷ cs) [] h = absurd h
 wires_of starts journal n (Some c ∷ cs) (w ∷ ws) h = (h.0, wire_of starts journal (n + 1) w h.1, wires_of starts journal (n + 1) cs ws h.2)
 
-pub leaves_kept : (W : Type 0) {program : List ℕ} {journal : List Entry} {before after : ProgramsValue} {wires : List WireValue} → Kept program journal before after wires → Leaves W program journal before after wires
+pub leaves_kept : (W : Type 0) {program : List ℕ} {journal : List Entry} {before after : ProgramsTold} {wires : List WireValue} → Kept program journal before after wires → Leaves W program journal before after wires
 leaves_kept W {program} {journal} {before} {after} {wires} k = record {
   wired = wires_of before.starts journal 0 (came journal) wires k.linked;
   started = inl k.started;
@@ -268,7 +269,7 @@ leaves_kept W {program} {journal} {before} {after} {wires} k = record {
 }
 
 -- where no memory was found to start one more
-pub leaves_or : (W : Type 0) {program : List ℕ} {journal : List Entry} {before mid after : ProgramsValue} {wires : List WireValue} → W → Kept program journal before mid wires → MayHaveAsked program mid after
+pub leaves_or : (W : Type 0) {program : List ℕ} {journal : List Entry} {before mid after : ProgramsTold} {wires : List WireValue} → W → Kept program journal before mid wires → MayHaveAsked program mid after
     → Leaves W program journal before after wires
 leaves_or W {program} {journal} {before} {mid} {after} {wires} w k (asked, later) = record {
   wired = wires_of before.starts journal 0 (came journal) wires k.linked;
@@ -314,7 +315,7 @@ pub cores_both : {a b c : CoreValue} → IsSameCore a b → IsSameCore b c → I
 cores_both h k = record { opening = k.opening ∙ h.opening; legal = λ l. k.legal (h.legal l) }
 
 -- one start more, of a core under another name
-pub next_start : (o p : Opening) (setup : Setup) (may : Bool) (limit made : ℕ) (offer next : Bool) (program : List ℕ) (old new : List Entry) (desk0 desk desk' : DeskTells) (start before after : ProgramsValue) (wires wires' : List WireValue) → p ≡ o
+pub next_start : (o p : Opening) (setup : Setup) (may : Bool) (limit made : ℕ) (offer next : Bool) (program : List ℕ) (old new : List Entry) (desk0 desk desk' : DeskTold) (start before after : ProgramsTold) (wires wires' : List WireValue) → p ≡ o
     → Between o setup may limit made offer old desk0 desk → Kept program old start before wires → OneStart p setup limit offer next program old new desk desk' before after wires wires' → Legal o new
     → Between o setup may limit (made + 1) next new desk0 desk' × Kept program new start after wires'
 next_start o p setup may limit made offer next program old new desk0 desk desk' start before after wires wires' same_opening b k (first, stint, objects) legal =

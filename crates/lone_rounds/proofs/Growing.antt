@@ -1,4 +1,5 @@
 -- A run between two starts, and what one start more makes of it.
+use Rattle.ann_outside.specs.Told.{DeskTold}
 use Rattle.std.proofs.Common.{◌≡◌, ◌⊎◌, ℕ, suc, ◌+◌, ◌≤◌, List, [], ◌∷◌, ◌++◌, refl, sym, ap, subst, ◌∙◌, length, Bool, true, false, not, ◌==◌, cond, None, Option, arith, inl, inr}
 use Rattle.std.specs.Prelude.{◌&&◌, filter}
 use Rattle.std.specs.List.{list_all, list_any, cons_option}
@@ -14,7 +15,6 @@ use Rattle.journal_model.proofs.Looks.{any-append, each_of-append}
 use Rattle.journal_model.proofs.Testing.{all-each, all-join}
 use Rattle.host_core.specs.Steps.{are_all_claimed}
 use Rattle.task_run.specs.declared.setup.Setup.{Setup}
-use Rattle.lone_work.specs.Works.{DeskTells}
 use Rattle.gathering.specs.Tasks.{claimed_turn, turns_by}
 use Rattle.child_end.specs.Wires.{came, came_in}
 use Rattle.lone_rounds.specs.Starting.{AllOffer, AreSpent, OffersWell, children, is_any_start, is_elsewhere, is_offered, is_ready_untagged, is_spent, started_in}
@@ -185,14 +185,14 @@ module _ {o : Opening} {offer next : Bool} {first : What} {old new : List Entry}
 
 -- ---- by the main thread alone
 
-module _ {o : Opening} {setup : Setup} {limit : ℕ} {offer next : Bool} {first : What} {old new : List Entry} {desk desk' : DeskTells} (t : Stint o setup limit offer next first old new desk desk') where
+module _ {o : Opening} {setup : Setup} {limit : ℕ} {offer next : Bool} {first : What} {old new : List Entry} {desk desk' : DeskTold} (t : Stint o setup limit offer next first old new desk desk') where
   abbrev s : Stretch o offer next first old new
   s = t.stretch
 
   abbrev its_tail : List Entry
   its_tail = main_entry first ∷ s.later
 
-  module _ {may : Bool} {made : ℕ} {desk0 : DeskTells} (b : Between o setup may limit made offer old desk0 desk) (legal : Legal o new) where
+  module _ {may : Bool} {made : ℕ} {desk0 : DeskTold} (b : Between o setup may limit made offer old desk0 desk) (legal : Legal o new) where
     pub between_next : Between o setup may limit (made + 1) next new desk0 desk'
     between_next = record {
       spaced = spaced_next s b.spaced legal;

@@ -1,4 +1,5 @@
 -- The wires and the programs of a run, as its journal grows.
+use Rattle.ann_outside.specs.Told.{ProgramsTold}
 use Rattle.std.proofs.Common.{◌≡◌, ◌⊎◌, ℕ, suc, ◌+◌, ◌≤◌, List, [], ◌∷◌, ◌++◌, refl, sym, ap, subst, ◌∙◌, append-nil, length, length-append, Bool, true, false, Some, None, Option, arith, inl, inr}
 use Rattle.std.specs.Prelude.{◌-◌, ◌^◌, min}
 use Rattle.std.specs.List.{cons_option}
@@ -17,7 +18,7 @@ use Rattle.child_start.specs.Greetings.{AreNumbered}
 use Rattle.link_roles.specs.Wires.{IsLeft, WireValue}
 use Rattle.child_end.specs.Wires.{IsHeld, IsLaid, IsOfStart, came, came_in}
 use Rattle.child_end.proofs.Held.{held_apart}
-use Rattle.child_end.specs.Programs.{AddsAll, ProgramsValue, RoseBy, is_failed_start, told, told_in}
+use Rattle.child_end.specs.Programs.{AddsAll, RoseBy, is_failed_start, told, told_in}
 use Rattle.lone_rounds.specs.Starting.{is_any_start}
 use Rattle.lone_rounds.specs.Stints.{AreLinked, AreUpTo, IsLinked, Kept, StartsOne, ear_of, main_entry, mouth_of}
 use Rattle.lone_rounds.proofs.Tests.{each_without, none_came}
@@ -49,7 +50,7 @@ stays_none (Some xs) None s = absurd s
 stays_none (Some xs) (Some ys) s = s ∙ sym (append-nil xs)
 
 -- the program is named otherwise
-pub may_ask : {p q : List ℕ} (before after : ProgramsValue) → p ≡ q → Stays before.starts after.starts ⊎ ((b : Bool) × AddsOne before.starts after.starts (p, b)) → Stays before.starts after.starts ⊎ ((b : Bool) × AddsOne before.starts after.starts (q, b))
+pub may_ask : {p q : List ℕ} (before after : ProgramsTold) → p ≡ q → Stays before.starts after.starts ⊎ ((b : Bool) × AddsOne before.starts after.starts (p, b)) → Stays before.starts after.starts ⊎ ((b : Bool) × AddsOne before.starts after.starts (q, b))
 may_ask before after e (inl s) = inl s
 may_ask before after e (inr (b, a)) = inr (b, subst (λ (x : List ℕ). AddsOne before.starts after.starts (x, b)) e a)
 
@@ -145,7 +146,7 @@ module _ (journal : List Entry) (ear : EarValue) (mouth : MouthValue) (wire : Wi
   left_linked h = subst (λ (x : EarValue). IsHeld journal x (mouth_of wire)) (sym ear_is) (subst (λ (x : MouthValue). IsHeld journal ear x) (sym mouth_is) h)
 
 -- one child was started, and its link is closed
-pub starts_child : (program : List ℕ) (journal : List Entry) (c : ℕ) (offer : Bool) (before : ProgramsValue) (mid : Option Starts) (after : ProgramsValue) (faults : ℕ) (ear : EarValue) (mouth : MouthValue) (wires wires' : List WireValue)
+pub starts_child : (program : List ℕ) (journal : List Entry) (c : ℕ) (offer : Bool) (before : ProgramsTold) (mid : Option Starts) (after : ProgramsTold) (faults : ℕ) (ear : EarValue) (mouth : MouthValue) (wires wires' : List WireValue)
     → AddsOne before.starts mid (program, true) → Stays mid after.starts → before.faults ≤ faults → faults ≤ after.faults → AreNumbered mid ear mouth → ear.child ≡ c → mouth.child ≡ ear.child
     → IsHeld journal ear mouth → IsLaid ear mouth wires wires' → StartsOne program journal (Start c 0 offer) before after wires wires'
 starts_child program journal c offer before mid after faults ear mouth wires wires' adds stays le le' numbered its one linked (wire, laid, is) = record {
@@ -167,14 +168,14 @@ starts_child program journal c offer before mid after faults ear mouth wires wir
 }
 
 -- the halves of a link that did something
-pub starts_kept : (program : List ℕ) (journal : List Entry) (c : ℕ) (offer : Bool) (before : ProgramsValue) (mid : Option Starts) (after : ProgramsValue) (faults : ℕ) (e ear : EarValue) (m mouth : MouthValue) (wires wires' : List WireValue)
+pub starts_kept : (program : List ℕ) (journal : List Entry) (c : ℕ) (offer : Bool) (before : ProgramsTold) (mid : Option Starts) (after : ProgramsTold) (faults : ℕ) (e ear : EarValue) (m mouth : MouthValue) (wires wires' : List WireValue)
     → AddsOne before.starts mid (program, true) → Stays mid after.starts → before.faults ≤ faults → faults ≤ after.faults → AreNumbered mid e m → IsSameEar e ear → IsSameMouth m mouth → e.child ≡ c → mouth.child ≡ ear.child
     → IsHeld journal ear mouth → IsLaid ear mouth wires wires' → StartsOne program journal (Start c 0 offer) before after wires wires'
 starts_kept program journal c offer before mid after faults e ear m mouth wires wires' adds stays le le' numbered se sm its one linked laid =
     starts_child program journal c offer before mid after faults ear mouth wires wires' adds stays le le' (numbered_on mid e ear m mouth se sm numbered) (se.0 ∙ its) one linked laid
 
 -- no child was started
-pub starts_none : (program : List ℕ) (journal : List Entry) (before after : ProgramsValue) (wires wires' : List WireValue) → AddsOne before.starts after.starts (program, false) → Rose before.faults after.faults → before.faults ≤ after.faults
+pub starts_none : (program : List ℕ) (journal : List Entry) (before after : ProgramsTold) (wires wires' : List WireValue) → AddsOne before.starts after.starts (program, false) → Rose before.faults after.faults → before.faults ≤ after.faults
     → wires' ≡ wires → StartsOne program journal (NoStart 0) before after wires wires'
 starts_none program journal before after wires wires' adds rose le same = record {
   adds = adds_one before.starts after.starts (program, false) adds;
@@ -187,9 +188,9 @@ starts_none program journal before after wires wires' adds rose le same = record
 
 -- ---- all that is kept
 
-module _ {program : List ℕ} {old : List Entry} {start before : ProgramsValue} {wires : List WireValue} (k : Kept program old start before wires) (up_to : AreUpTo (count is_start old) (came old)) where
+module _ {program : List ℕ} {old : List Entry} {start before : ProgramsTold} {wires : List WireValue} (k : Kept program old start before wires) (up_to : AreUpTo (count is_start old) (came old)) where
   -- after one start more
-  pub kept_next : (new : List Entry) (first : What) (later : List Entry) (after : ProgramsValue) (wires' : List WireValue) → new ≡ old ++ main_entry first ∷ later → any is_any_start later ≡ false
+  pub kept_next : (new : List Entry) (first : What) (later : List Entry) (after : ProgramsTold) (wires' : List WireValue) → new ≡ old ++ main_entry first ∷ later → any is_any_start later ≡ false
       → ((d : ℕ) → d ≤ count is_start old → any (is_of_child d) (main_entry first ∷ later) ≡ false) → StartsOne program new first before after wires wires' → Kept program new start after wires'
   kept_next new first later after wires' is none apart s = record {
     linked = subst (AreLinked start.starts new 0 (came new)) (sym s.laid) (subst (λ (cs : List (Option ℕ)). AreLinked start.starts new 0 cs (wires ++ s.new)) (sym came_new)

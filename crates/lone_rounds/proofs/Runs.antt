@@ -1,4 +1,5 @@
 -- The tasks that are done, as the journal grows.
+use Rattle.ann_outside.specs.Told.{DeskTold}
 use Rattle.std.proofs.Common.{◌≡◌, ℕ, ◌<◌, List, [], ◌∷◌, ◌++◌, refl, sym, ap, subst, ◌∙◌, append_assoc, false, inl, inr}
 use Rattle.std.specs.Prelude.{Ok, All}
 use Rattle.std.proofs.lemmas.List.Elements.{All-nil, All-cons}
@@ -13,7 +14,7 @@ use Rattle.task_run.specs.declared.setup.Setup.{Setup}
 use Rattle.task_run.specs.Ran.{may_follow_refusal}
 use Rattle.task_run.proofs.Causes.{from_nothing}
 use Rattle.task_run.specs.TaskRuns.{failed_start}
-use Rattle.lone_work.specs.Works.{AllRan, DeskTells, RanFor, TaskDone, all_calls, turns_of}
+use Rattle.lone_work.specs.Works.{AllRan, RanFor, TaskDone, all_calls, turns_of}
 use Rattle.lone_work.proofs.Working.{calls_both, caused_both, run_lasts, turns_both}
 use Rattle.gathering.specs.Tasks.{turns_by}
 use Rattle.gathering.proofs.Turning.{turns_by-append}
@@ -66,10 +67,10 @@ module _ (o : Opening) (setup : Setup) (limit : ℕ) where
 
 -- ---- one stretch after another
 
-pub done_nothing : (o : Opening) (setup : Setup) (limit : ℕ) (journal past : List Entry) (desk : DeskTells) → TasksDone o setup limit journal past [] desk desk
+pub done_nothing : (o : Opening) (setup : Setup) (limit : ℕ) (journal past : List Entry) (desk : DeskTold) → TasksDone o setup limit journal past [] desk desk
 done_nothing o setup limit journal past desk = record { done = []; claimed = refl; ran = tt; log_is = gained_nothing desk.log; caused = refl }
 
-pub done_join : (o : Opening) (setup : Setup) (limit : ℕ) (journal past xs ys : List Entry) (a b d : DeskTells) → TasksDone o setup limit journal past xs a b → TasksDone o setup limit journal (past ++ xs) ys b d
+pub done_join : (o : Opening) (setup : Setup) (limit : ℕ) (journal past xs ys : List Entry) (a b d : DeskTold) → TasksDone o setup limit journal past xs a b → TasksDone o setup limit journal (past ++ xs) ys b d
     → TasksDone o setup limit journal past (xs ++ ys) a d
 done_join o setup limit journal past xs ys a b d s k = record {
   done = s.done ++ k.done;
@@ -81,7 +82,7 @@ done_join o setup limit journal past xs ys a b d s k = record {
 }
 
 -- where the journal has grown since the first
-pub done_both : (o : Opening) (setup : Setup) (limit : ℕ) (journal more past xs ys : List Entry) (a b d : DeskTells)
+pub done_both : (o : Opening) (setup : Setup) (limit : ℕ) (journal more past xs ys : List Entry) (a b d : DeskTold)
     → TasksDone o setup limit journal past xs a b → TasksDone o setup limit (journal ++ more) (past ++ xs) ys b d → TasksDone o setup limit (journal ++ more) past (xs ++ ys) a d
 done_both o setup limit journal more past xs ys a b d s k =
     done_join o setup limit (journal ++ more) past xs ys a b d
@@ -94,7 +95,7 @@ done_both o setup limit journal more past xs ys a b d s k =
     }) k
 
 -- a stretch that claims the same
-pub done_same : (o : Opening) (setup : Setup) (limit : ℕ) (journal past past' xs ys : List Entry) (a b : DeskTells) → turns_by 0 past' ys ≡ turns_by 0 past xs
+pub done_same : (o : Opening) (setup : Setup) (limit : ℕ) (journal past past' xs ys : List Entry) (a b : DeskTold) → turns_by 0 past' ys ≡ turns_by 0 past xs
     → TasksDone o setup limit journal past xs a b → TasksDone o setup limit journal past' ys a b
 done_same o setup limit journal past past' xs ys a b e k = record {
   done = k.done;
@@ -111,7 +112,7 @@ abbrev pub IsOfNoCall : Answer → Type 0
 IsOfNoCall answer = may_follow_refusal (Ok answer) ≡ false
 
 -- the task was claimed after past and answered so
-pub done_zero : (o : Opening) (setup : Setup) (limit : ℕ) (journal past rest : List Entry) (t : ℕ) (answer : Answer) (desk : DeskTells)
+pub done_zero : (o : Opening) (setup : Setup) (limit : ℕ) (journal past rest : List Entry) (t : ℕ) (answer : Answer) (desk : DeskTold)
     → journal ≡ past ++ main_entry (Claim t 0) ∷ main_entry (Answered t answer) ∷ rest → ZeroAnswers limit past (failed_start past (start_untaken past)) t answer → IsOfNoCall answer
     → TasksDone o setup limit journal past (main_entry (Claim t 0) ∷ main_entry (Answered t answer) ∷ []) desk desk
 done_zero o setup limit journal past rest t answer desk is answers quiet = record {

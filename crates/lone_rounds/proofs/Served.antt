@@ -1,4 +1,5 @@
 -- A child that got ready: it does tasks until it is gone or all are claimed.
+use Rattle.ann_outside.specs.Told.{DeskTold}
 use Rattle.std.proofs.Common.{◌≡◌, ◌⊎◌, ℕ, ◌+◌, ◌≤◌, List, [], ◌∷◌, ◌++◌, refl, sym, ap, subst, ◌∙◌, append_assoc, append-nil, length, Bool, true, false, not, ◌==◌, cond, Some, None, Option, arith, inl, inr}
 use Rattle.std.specs.Prelude.{◌&&◌, ◌||◌, is_some, filter}
 use Rattle.std.specs.List.{list_all}
@@ -25,7 +26,7 @@ use Rattle.child_start.specs.Greetings.{Greeted, IsReady, is_of_greeting}
 use Rattle.child_start.proofs.Begun.{later_unstarted}
 use Rattle.task_run.specs.declared.setup.Setup.{Setup}
 use Rattle.task_run.specs.TaskRuns.{gone_answer, or_refusal, refusal_of, unready_answer}
-use Rattle.lone_work.specs.Works.{DeskTells, by_worker, ends_closed}
+use Rattle.lone_work.specs.Works.{by_worker, ends_closed}
 use Rattle.gathering.specs.Tasks.{turns_by}
 use Rattle.gathering.proofs.Turning.{turns_by-append}
 use Rattle.lone_rounds.specs.Starting.{is_any_start, is_ready_untagged, is_spent, is_unclosed}
@@ -145,7 +146,7 @@ untagged true true = refl
 untagged true false = refl
 untagged false b = refl
 
-module _ (o : Opening) (setup : Setup) (limit : ℕ) (offer tagged : Bool) (old g new : List Entry) (c : ℕ) (desk desk' : DeskTells)
+module _ (o : Opening) (setup : Setup) (limit : ℕ) (offer tagged : Bool) (old g new : List Entry) (c : ℕ) (desk desk' : DeskTold)
     (legal : Legal o old) (left : are_all_claimed o old ≡ false) (greeted : Greeted old g 0 offer c) (legal' : Legal o g) (ready : IsReady g c) (tag : tagged ≡ is_tagged g c) (s : HasServed o setup c g new desk desk') where
   abbrev first : Entry
   first = main_entry (Start c 0 offer)

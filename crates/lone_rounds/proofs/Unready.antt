@@ -1,4 +1,5 @@
 -- A start that gave no child that is ready: one task is answered by what came of it.
+use Rattle.ann_outside.specs.Told.{DeskTold}
 use Rattle.std.proofs.Common.{◌≡◌, ◌⊎◌, ℕ, List, [], ◌∷◌, ◌++◌, refl, sym, ap, subst, ◌∙◌, append_assoc, append-nil, Bool, true, false, not, Some, None, Option, inl, inr}
 use Rattle.std.specs.Prelude.{◌&&◌, ◌||◌, is_some, option_and_then, option_map}
 use Rattle.std.specs.List.{list_all}
@@ -23,7 +24,6 @@ use Rattle.host_core.specs.Steps.{are_all_claimed}
 use Rattle.child_start.specs.Greetings.{Greeted, HasEnded, IsRefused, IsUnsent, is_of_greeting, is_refusal}
 use Rattle.task_run.specs.declared.setup.Setup.{Setup}
 use Rattle.task_run.specs.TaskRuns.{ended_answer, failed_start, gone_answer, or_refusal, refusal_of, refused_at, unready_answer}
-use Rattle.lone_work.specs.Works.{DeskTells}
 use Rattle.gathering.specs.Tasks.{turns_by}
 use Rattle.gathering.proofs.Turning.{turns_by-append}
 use Rattle.lone_rounds.specs.Starting.{is_ready_untagged, is_spent, is_unclosed}
@@ -115,7 +115,7 @@ no_turn c (Start child slot offer) h = absurd cc
 no_turn c (NoStart slot) h = absurd cc
 no_turn c w h = refl
 
-module _ (o : Opening) (setup : Setup) (limit : ℕ) (offer : Bool) (old g new : List Entry) (c : ℕ) (answer : Answer) (desk : DeskTells)
+module _ (o : Opening) (setup : Setup) (limit : ℕ) (offer : Bool) (old g new : List Entry) (c : ℕ) (answer : Answer) (desk : DeskTold)
     (left : are_all_claimed o old ≡ false) (rest : (t : ℕ) → is_busy old t ≡ false) (greeted : Greeted old g 0 offer c) (unready : IsUnready g c answer) where
   abbrev first : Entry
   first = main_entry (Start c 0 offer)
@@ -190,7 +190,7 @@ module _ (o : Opening) (setup : Setup) (limit : ℕ) (offer : Bool) (old g new :
 
 -- ---- no child was started
 
-module _ (o : Opening) (setup : Setup) (limit : ℕ) (offer : Bool) (old g new : List Entry) (desk : DeskTells)
+module _ (o : Opening) (setup : Setup) (limit : ℕ) (offer : Bool) (old g new : List Entry) (desk : DeskTold)
     (left : are_all_claimed o old ≡ false) (rest : (t : ℕ) → is_busy old t ≡ false) (failed : g ≡ old ++ main_entry (NoStart 0) ∷ []) where
   fault_left : are_all_claimed o g ≡ false
   fault_left = ap (are_all_claimed o) failed ∙ claimed_same o old (main_entry (NoStart 0) ∷ []) refl refl ∙ left

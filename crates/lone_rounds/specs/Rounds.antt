@@ -1,4 +1,5 @@
 -- What a run leaves that is made by one thread, over one child at a time.
+use Rattle.ann_outside.specs.Told.{DeskTold}
 use Rattle.std.specs.Prelude.{ℕ, ◌≡◌, ◌⊎◌, ◌<◌, ◌≤◌, ◌==◌, ◌||◌, not, if◌then◌else◌, Bool, true, false, List, [], ◌∷◌, ◌++◌, All, Option, Some, None, option_and_then, Result, MatchResult}
 use Rattle.std.specs.List.{list_all, last_or}
 use Rattle.ann_key.specs.declared.bytes.NoMemory.{NoMemory}
@@ -18,7 +19,7 @@ use Rattle.task_run.specs.declared.setup.Setup.{Setup}
 use Rattle.task_run.specs.TaskRuns.{failed_start}
 use Rattle.gathering.specs.JournalRuns.{JournalRun}
 use Rattle.child_start.specs.Greetings.{is_greeting_line}
-use Rattle.lone_work.specs.Works.{DeskTells, TaskDone, CausedInTurn, all_calls, ends_closed, turns_of}
+use Rattle.lone_work.specs.Works.{TaskDone, CausedInTurn, all_calls, ends_closed, turns_of}
 use Rattle.gathering.specs.Tasks.{turns_by}
 use Rattle.lone_rounds.specs.Starting.{AllOffer, AreEnded, AreSpent, is_any_start, is_elsewhere}
 
@@ -154,7 +155,7 @@ is_of_run w = true
 -- The journal is legal and all its entries are the main thread's. Each child was started in its turn, and has ended. A request of no task
 -- is lost in a greeting alone. No task is left unanswered that was claimed. Each turn of a task that was claimed was run, one after the
 -- other, and the desk made the calls of these runs, in their order, and no others.
-pub record RanAlone (o : Opening) (setup : Setup) (may : Bool) (limit : ℕ) (journal : List Entry) (desk desk' : DeskTells) : Type 0 where
+pub record RanAlone (o : Opening) (setup : Setup) (may : Bool) (limit : ℕ) (journal : List Entry) (desk desk' : DeskTold) : Type 0 where
   pub legal : Legal o journal
   pub main : are_by 0 journal ≡ true
   pub starts : AreStarts o may limit journal

@@ -1,4 +1,5 @@
 -- What one start and what follows it comes to, and how a run stands between two starts.
+use Rattle.ann_outside.specs.Told.{DeskTold, ProgramsTold}
 use Rattle.std.specs.Prelude.{ℕ, ◌≡◌, ◌⊎◌, ◌≤◌, ◌+◌, ◌==◌, ◌&&◌, not, Bool, true, false, List, [], ◌∷◌, ◌++◌, Option, Some, None, Result, MatchResult}
 use Rattle.std.specs.List.{list_all, list_any}
 use Rattle.ann_key.specs.declared.bytes.NoMemory.{NoMemory}
@@ -18,11 +19,11 @@ use Rattle.host_core.specs.Steps.{are_all_claimed}
 use Rattle.link_roles.specs.Alone.{Closes}
 use Rattle.gathering.specs.Tasks.{IsThrough, turns_by}
 use Rattle.task_run.specs.declared.setup.Setup.{Setup}
-use Rattle.lone_work.specs.Works.{CanWork, DeskTells, TaskDone, Worked, CausedInTurn, all_calls, turns_of}
+use Rattle.lone_work.specs.Works.{CanWork, TaskDone, Worked, CausedInTurn, all_calls, turns_of}
 use Rattle.task_run.specs.declared.turn.TaskTurn.{TaskTurn}
 use Rattle.link_roles.specs.Wires.{WireValue}
 use Rattle.child_end.specs.Wires.{IsHeld, IsOfStart, came}
-use Rattle.child_end.specs.Programs.{ProgramsValue, AddsAll, RoseBy, is_failed_start, told}
+use Rattle.child_end.specs.Programs.{AddsAll, RoseBy, is_failed_start, told}
 use Rattle.lone_rounds.specs.Starting.{AllOffer, AreEnded, AreSpent, children, is_any_start, is_elsewhere, is_offered, is_ready_untagged, is_spent}
 use Rattle.lone_rounds.specs.Rounds.{AllLostWell, AllStandNext, EndsClosed, HasRun, NoneUntaken, ends_for_memory, is_of_run}
 
@@ -65,7 +66,7 @@ abbrev pub TurnsAway : Opening → ℕ → List Entry → List Entry → Answer 
 TurnsAway o c old new answer = (mid : List Entry) × ((b : Bool) × AnswersOne o old mid (λ t. answer) b) × Closes 0 c mid new
 
 -- tasks were done over the child until it was gone or all were claimed, and it was closed
-pub record HasServed (o : Opening) (setup : Setup) (c : ℕ) (old new : List Entry) (desk desk' : DeskTells) : Type 0 where
+pub record HasServed (o : Opening) (setup : Setup) (c : ℕ) (old new : List Entry) (desk desk' : DeskTold) : Type 0 where
   pub mid : List Entry
   pub worked : Worked o setup 0 c old mid desk desk'
   pub can : CanWork o c mid
@@ -81,7 +82,7 @@ AllHaveRun o setup limit journal (r ∷ rs) = HasRun o setup limit journal r × 
 
 -- The turns of tasks that the main thread claims among the entries, which stand after past, are run in the journal, one after the other,
 -- and the desk made the calls of these runs.
-pub record TasksDone (o : Opening) (setup : Setup) (limit : ℕ) (journal past entries : List Entry) (desk desk' : DeskTells) : Type 0 where
+pub record TasksDone (o : Opening) (setup : Setup) (limit : ℕ) (journal past entries : List Entry) (desk desk' : DeskTold) : Type 0 where
   pub done : List TaskDone
   pub claimed : turns_of done ≡ turns_by 0 past entries
   pub ran : AllHaveRun o setup limit journal done
@@ -134,7 +135,7 @@ pub record Stretch (o : Opening) (offer next : Bool) (first : What) (old new : L
   pub offers : next ≡ (offer && not (list_any (is_ready_untagged new) (children (main_entry first ∷ []))))
 
 -- the same, where the main thread made it, did the tasks and closed the child
-pub record Stint (o : Opening) (setup : Setup) (limit : ℕ) (offer next : Bool) (first : What) (old new : List Entry) (desk desk' : DeskTells) : Type 0 where
+pub record Stint (o : Opening) (setup : Setup) (limit : ℕ) (offer next : Bool) (first : What) (old new : List Entry) (desk desk' : DeskTold) : Type 0 where
   pub stretch : Stretch o offer next first old new
   pub main : are_by 0 stretch.later ≡ true
   pub done : TasksDone o setup limit new (old ++ main_entry first ∷ []) stretch.later desk desk'
@@ -165,7 +166,7 @@ AreLinked starts journal n (Some c ∷ cs) (wire ∷ wires) = (wire.child ≡ c)
 AreLinked starts journal n _ _ = ⊥
 
 -- the programs were asked for this one once more, and the wires are those of its child, or none; a fault was counted if it failed
-pub record StartsOne (program : List ℕ) (journal : List Entry) (first : What) (before after : ProgramsValue) (wires wires' : List WireValue) : Type 0 where
+pub record StartsOne (program : List ℕ) (journal : List Entry) (first : What) (before after : ProgramsTold) (wires wires' : List WireValue) : Type 0 where
   pub adds : AddsAll before.starts after.starts (told program (main_entry first ∷ []))
   pub new : List WireValue
   pub laid : wires' ≡ wires ++ new
@@ -174,17 +175,17 @@ pub record StartsOne (program : List ℕ) (journal : List Entry) (first : What) 
   pub later : before.faults ≤ after.faults
 
 -- one start, in the journal and of the objects
-abbrev pub OneStart : Opening → Setup → ℕ → Bool → Bool → List ℕ → List Entry → List Entry → DeskTells → DeskTells → ProgramsValue → ProgramsValue → List WireValue → List WireValue → Type 0
+abbrev pub OneStart : Opening → Setup → ℕ → Bool → Bool → List ℕ → List Entry → List Entry → DeskTold → DeskTold → ProgramsTold → ProgramsTold → List WireValue → List WireValue → Type 0
 OneStart o setup limit offer next program old new desk desk' before after wires wires' =
     (first : What) × Stint o setup limit offer next first old new desk desk' × StartsOne program new first before after wires wires'
 
 -- the programs were not asked, or once for nothing
-abbrev pub MayHaveAsked : List ℕ → ProgramsValue → ProgramsValue → Type 0
+abbrev pub MayHaveAsked : List ℕ → ProgramsTold → ProgramsTold → Type 0
 MayHaveAsked program before after =
     (Stays before.starts after.starts ⊎ ((b : Bool) × AddsOne before.starts after.starts (program, b))) × (before.faults ≤ after.faults)
 
 -- no memory was found to start a child: nothing was noted or done, though the programs may have been asked
-pub record Unstarted (program : List ℕ) (old new : List Entry) (desk desk' : DeskTells) (before after : ProgramsValue) (wires wires' : List WireValue) : Type 0 where
+pub record Unstarted (program : List ℕ) (old new : List Entry) (desk desk' : DeskTold) (before after : ProgramsTold) (wires wires' : List WireValue) : Type 0 where
   pub journal : new ≡ old
   pub desk_is : desk' ≡ desk
   pub wires_are : wires' ≡ wires
@@ -216,31 +217,31 @@ pub record Spaced (o : Opening) (may : Bool) (made : ℕ) (offer : Bool) (journa
   pub few : AreUpTo (count is_start journal) (came journal)
 
 -- the same, where the main thread made all of it; each task that was claimed is done
-pub record Between (o : Opening) (setup : Setup) (may : Bool) (limit made : ℕ) (offer : Bool) (journal : List Entry) (desk desk' : DeskTells) : Type 0 where
+pub record Between (o : Opening) (setup : Setup) (may : Bool) (limit made : ℕ) (offer : Bool) (journal : List Entry) (desk desk' : DeskTold) : Type 0 where
   pub spaced : Spaced o may made offer journal
   pub main : are_by 0 journal ≡ true
   pub done : TasksDone o setup limit journal [] journal desk desk'
   pub last : are_all_claimed o journal ≡ true → EndsClosed journal
 
 -- the programs were asked for what the journal says, each of its children has its wire, and a fault was counted for each that failed
-pub record Kept (program : List ℕ) (journal : List Entry) (before after : ProgramsValue) (wires : List WireValue) : Type 0 where
+pub record Kept (program : List ℕ) (journal : List Entry) (before after : ProgramsTold) (wires : List WireValue) : Type 0 where
   pub linked : AreLinked before.starts journal 0 (came journal) wires
   pub started : AddsAll before.starts after.starts (told program journal)
   pub faults : RoseBy (count is_failed_start journal) before.faults after.faults
   pub later : before.faults ≤ after.faults
 
 -- the same, where they may have been asked once more for lack of memory
-abbrev pub KeptOr : List ℕ → List Entry → ProgramsValue → ProgramsValue → List WireValue → Result (Unit {0}) NoMemory → Type 0
+abbrev pub KeptOr : List ℕ → List Entry → ProgramsTold → ProgramsTold → List WireValue → Result (Unit {0}) NoMemory → Type 0
 KeptOr program journal before after wires result =
     MatchResult result
     (λ _. Kept program journal before after wires)
-    (λ _. (mid : ProgramsValue) × Kept program journal before mid wires × MayHaveAsked program mid after)
+    (λ _. (mid : ProgramsTold) × Kept program journal before mid wires × MayHaveAsked program mid after)
 
 -- all starts are made, or all tasks claimed
 abbrev pub IsOver : Opening → ℕ → ℕ → List Entry → Type 0
 IsOver o limit made journal = (made ≡ limit) ⊎ (are_all_claimed o journal ≡ true)
 
 -- The children were started, one after the other, until that, or until no memory was found to start one.
-abbrev pub HasStarted : Opening → Setup → Bool → ℕ → List Entry → DeskTells → DeskTells → Result (Unit {0}) NoMemory → Type 0
+abbrev pub HasStarted : Opening → Setup → Bool → ℕ → List Entry → DeskTold → DeskTold → Result (Unit {0}) NoMemory → Type 0
 HasStarted o setup may limit journal desk desk' result =
     (made : ℕ) × (offer : Bool) × Between o setup may limit made offer journal desk desk' × (made ≤ limit) × MatchResult result (λ _. IsOver o limit made journal) (λ _. Unit {0})

@@ -1,8 +1,8 @@
 ghost use Rattle.std.specs.Prelude.{◌≡◌, ◌≤◌, ◌<◌, [], IfOk, IsErr, vec_capacity, false};
 ghost use Rattle.annex_model.specs.Lines.{has_newline};
 ghost use Rattle.child_start.specs.Cores.{IsSameCore};
-ghost use Rattle.child_end.specs.Programs.{Leaves, programs_value};
-ghost use Rattle.lone_work.specs.Works.{AreTasks, desk_tells};
+ghost use Rattle.child_end.specs.Programs.{Leaves};
+ghost use Rattle.lone_work.specs.Works.{AreTasks};
 ghost use Rattle.lone_rounds.specs.Rounds.{EndsClosed, IsWhole, RanAlone};
 
 use crate::plan::Plan;
@@ -36,11 +36,11 @@ where
     requires folder { has_newline plan.now.setup.work ≡ false }
     requires room { plan.now.starts ≤ vec_capacity wires.old }
     requires none { wires.old.items ≡ [] }
-    ensures ran { RanAlone core.old.opening plan.now.setup plan.now.offers plan.now.starts core.new.journal (desk_tells (K.log desk.old) (K.counts desk.old)) (desk_tells (K.log desk.new) (K.counts desk.new)) }
+    ensures ran { RanAlone core.old.opening plan.now.setup plan.now.offers plan.now.starts core.new.journal (K.told desk.old) (K.told desk.new) }
     ensures last { IfOk result (λ _. EndsClosed core.new.journal) }
     ensures whole { IsWhole core.old.opening core.new.journal result }
-    ensures leaves { Leaves (IsErr result) plan.now.program core.new.journal (programs_value (P.starts programs.old) (P.faults programs.old))
-        (programs_value (P.starts programs.new) (P.faults programs.new)) wires.new.items }
+    ensures leaves { Leaves (IsErr result) plan.now.program core.new.journal (P.told programs.old)
+        (P.told programs.new) wires.new.items }
     ensures core { IsSameCore core.old core.new }
 {
     start_children(alloc, programs, plan, tasks, core, desk, wires)?;

@@ -7,7 +7,7 @@ ghost use Rattle.link_roles.specs.Writings.{LoneWired};
 ghost use Rattle.gathering.specs.Tasks.{IsThrough};
 ghost use Rattle.link_roles.specs.Alone.{KeepsLink};
 ghost use Rattle.child_start.specs.Cores.{IsSameCore};
-ghost use Rattle.lone_work.specs.Works.{AreTasks, CanWork, Worked, desk_tells};
+ghost use Rattle.lone_work.specs.Works.{AreTasks, CanWork, Worked};
 ghost use Rattle.lone_rounds.specs.Stints.{HasServed, TurnsAway};
 
 use crate::zero::answer_one;
@@ -33,7 +33,7 @@ fn work_over<I: Sink, O: Source, K: Desk>(
     requires tasks { (core.old.opening.tasks ≡ tasks.now) × AreTasks tasks.now }
     requires folder { has_newline setup.now.work ≡ false }
     requires can { CanWork core.old.opening link.old.ear.child core.old.journal }
-    ensures worked { Worked core.old.opening setup.now 0 link.old.ear.child core.old.journal core.new.journal (desk_tells (K.log desk.old) (K.counts desk.old)) (desk_tells (K.log desk.new) (K.counts desk.new)) }
+    ensures worked { Worked core.old.opening setup.now 0 link.old.ear.child core.old.journal core.new.journal (K.told desk.old) (K.told desk.new) }
     ensures can { CanWork core.old.opening link.old.ear.child core.new.journal }
     ensures through { IsThrough core.old.opening core.new.journal link.old.ear.child }
     ensures link { KeepsLink core.old.journal core.new.journal link.old.ear link.new.ear link.old.mouth link.new.mouth }
@@ -56,7 +56,7 @@ pub fn serve<I: Sink, O: Source, K: Desk>(
     requires tasks { (core.old.opening.tasks ≡ tasks.now) × AreTasks tasks.now }
     requires folder { has_newline setup.now.work ≡ false }
     requires can { CanWork core.old.opening link.old.ear.child core.old.journal }
-    ensures serves { HasServed core.old.opening setup.now link.old.ear.child core.old.journal core.new.journal (desk_tells (K.log desk.old) (K.counts desk.old)) (desk_tells (K.log desk.new) (K.counts desk.new)) }
+    ensures serves { HasServed core.old.opening setup.now link.old.ear.child core.old.journal core.new.journal (K.told desk.old) (K.told desk.new) }
     ensures link { KeepsLink core.old.journal core.new.journal link.old.ear link.new.ear link.old.mouth link.new.mouth }
     ensures core { IsSameCore core.old core.new }
 {

@@ -6,8 +6,7 @@ ghost use Rattle.journal_model.specs.Legality.{Legal, count, is_busy, is_start};
 ghost use Rattle.host_core.specs.Steps.{are_all_claimed};
 ghost use Rattle.task_run.specs.TaskRuns.{refused_at};
 ghost use Rattle.child_start.specs.Cores.{IsSameCore};
-ghost use Rattle.child_end.specs.Programs.{programs_value};
-ghost use Rattle.lone_work.specs.Works.{AreTasks, desk_tells};
+ghost use Rattle.lone_work.specs.Works.{AreTasks};
 ghost use Rattle.lone_rounds.specs.Stints.{HasStarted, KeptOr, OneStart, Unstarted};
 
 use crate::plan::Plan;
@@ -66,12 +65,12 @@ where
     requires room { vec_len wires.old < vec_capacity wires.old }
     ensures starts { MatchResult result
         (λ next. OneStart core.old.opening plan.now.setup plan.now.starts offer next plan.now.program core.old.journal core.new.journal
-        (desk_tells (K.log desk.old) (K.counts desk.old)) (desk_tells (K.log desk.new) (K.counts desk.new))
-        (programs_value (P.starts programs.old) (P.faults programs.old)) (programs_value (P.starts programs.new) (P.faults programs.new))
+        (K.told desk.old) (K.told desk.new)
+        (P.told programs.old) (P.told programs.new)
         wires.old.items wires.new.items)
-        (λ _. Unstarted plan.now.program core.old.journal core.new.journal (desk_tells (K.log desk.old) (K.counts desk.old))
-        (desk_tells (K.log desk.new) (K.counts desk.new)) (programs_value (P.starts programs.old) (P.faults programs.old))
-        (programs_value (P.starts programs.new) (P.faults programs.new)) wires.old.items wires.new.items) }
+        (λ _. Unstarted plan.now.program core.old.journal core.new.journal (K.told desk.old)
+        (K.told desk.new) (P.told programs.old)
+        (P.told programs.new) wires.old.items wires.new.items) }
     ensures room { (vec_len wires.new ≤ vec_len wires.old + 1) × (vec_capacity wires.new ≡ vec_capacity wires.old) }
     ensures core { IsSameCore core.old core.new }
 {
@@ -134,9 +133,9 @@ where
     requires folder { has_newline plan.now.setup.work ≡ false }
     requires room { plan.now.starts ≤ vec_capacity wires.old }
     requires none { wires.old.items ≡ [] }
-    ensures started { HasStarted core.old.opening plan.now.setup plan.now.offers plan.now.starts core.new.journal (desk_tells (K.log desk.old) (K.counts desk.old)) (desk_tells (K.log desk.new) (K.counts desk.new)) result }
-    ensures kept { KeptOr plan.now.program core.new.journal (programs_value (P.starts programs.old) (P.faults programs.old))
-        (programs_value (P.starts programs.new) (P.faults programs.new)) wires.new.items result }
+    ensures started { HasStarted core.old.opening plan.now.setup plan.now.offers plan.now.starts core.new.journal (K.told desk.old) (K.told desk.new) result }
+    ensures kept { KeptOr plan.now.program core.new.journal (P.told programs.old)
+        (P.told programs.new) wires.new.items result }
     ensures core { IsSameCore core.old core.new }
 {
     let mut offer = plan.offers;

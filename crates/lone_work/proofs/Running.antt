@@ -1,4 +1,5 @@
 -- A task that was claimed, run and answered, or left to be run again, has its run in the journal.
+use Rattle.ann_outside.specs.Told.{DeskTold}
 use Rattle.std.proofs.Common.{◌≡◌, ℕ, ◌+◌, List, [], ◌∷◌, ◌++◌, refl, sym, ap, subst, ◌∙◌, Bool, true, false, not, ◌==◌, cond, Some, None, Option, arith, append_assoc, append-nil, length}
 use Rattle.std.specs.Prelude.{◌||◌, map, Result, Ok, Err, is_some}
 use Rattle.std.specs.List.{cons_option}
@@ -35,7 +36,7 @@ use Rattle.lone_work.proofs.Noted.{notes_for, notings-append, notings_from-appen
 use Rattle.lone_work.proofs.Serving.{gives_none, held_on, idle_on, server_claims, server_closes}
 use Rattle.gathering.specs.JournalRuns.{JournalRun}
 use Rattle.gathering.proofs.Lasting.{run_shut}
-use Rattle.lone_work.specs.Works.{LoneBegun, CanWork, DeskTells, LoneDoes, RanFor}
+use Rattle.lone_work.specs.Works.{LoneBegun, CanWork, LoneDoes, RanFor}
 use Rattle.std.proofs.lemmas.Bool.{and_parts as both}
 use Rattle.ann_key.proofs.Booleans.{or_left}
 use Rattle.task_run.proofs.Across.{prepared_on}
@@ -259,7 +260,7 @@ causes_answered old new (Err e) h = record {
   untold = λ is. h.untold refl;
 }
 
-module _ (o : Opening) (setup : Setup) (task : Task) (n c : ℕ) (u : TaskTurn) (old ran new : List Entry) (desk desk' : DeskTells) (result : Result Answer NoMemory) where
+module _ (o : Opening) (setup : Setup) (task : Task) (n c : ℕ) (u : TaskTurn) (old ran new : List Entry) (desk desk' : DeskTold) (result : Result Answer NoMemory) where
   pub does : {P Q : Type 0} (b : LoneBegun o n c u old) → task_of o u.task ≡ Some task → (s : ServesOn o n true c u.task old ran P Q)
       → Ran task u setup (known_layouts o old u.task) (askings old u.task) (askings ran u.task) (notings old u.task) (notings ran u.task) desk.log desk'.log result → HasTaskCauses desk.counts desk'.counts result
       → (again : Bool) → new ≡ ran ++ entry n (closing again u.task (answered result)) ∷ [] → LoneDoes o setup n c u old new desk desk'

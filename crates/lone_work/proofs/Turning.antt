@@ -1,4 +1,5 @@
 -- What a turn asks for and comes to, where its door and its link are the same under other names.
+use Rattle.ann_outside.specs.Told.{DeskTold}
 use Rattle.std.proofs.Common.{◌≡◌, ℕ, ◌+◌, ◌-◌, ◌<◌, ◌≤◌, List, [], ◌∷◌, ◌++◌, refl, sym, ap, subst, ◌∙◌, Bool, true, false, ◌==◌, Some, arith, length, append_assoc, zero, suc}
 use Rattle.std.specs.Prelude.{slice_get, Result}
 use Rattle.ann_key.specs.declared.bytes.NoMemory.{NoMemory}
@@ -26,7 +27,7 @@ use Rattle.lone_work.specs.AtTasks.{AtTask, notings}
 use Rattle.lone_work.specs.KnownLayouts.{known_layouts}
 use Rattle.lone_work.specs.Servings.{Serves, ServesOn}
 use Rattle.journal_model.specs.Shares.{is_of_child}
-use Rattle.lone_work.specs.Works.{AreTasks, LoneBegun, CanWork, DeskTells, LoneDoes, Worked}
+use Rattle.lone_work.specs.Works.{AreTasks, LoneBegun, CanWork, LoneDoes, Worked}
 use Rattle.lone_work.proofs.Claiming.{found_between}
 use Rattle.lone_work.proofs.Running.{does, again as again_can}
 use Rattle.gathering.specs.Tasks.{IsThrough}
@@ -68,7 +69,7 @@ begun_now {o} {p} {n} {m} {c} {d} {u} {seen} eo en ec b =
 
 -- ---- one task
 
-module _ (o : Opening) (setup : Setup) (task : Task) (n c : ℕ) (u : TaskTurn) (a : Bool) (old ran new : List Entry) (desk desk' : DeskTells) (result : Result Answer NoMemory) (answer : Answer) (m : ℕ) (again : Bool)
+module _ (o : Opening) (setup : Setup) (task : Task) (n c : ℕ) (u : TaskTurn) (a : Bool) (old ran new : List Entry) (desk desk' : DeskTold) (result : Result Answer NoMemory) (answer : Answer) (m : ℕ) (again : Bool)
     {P Q : Type 0} (lone : a ≡ true) (b : LoneBegun o n c u old) (s : ServesOn o n a c u.task old ran P Q) (same : m ≡ n) (is : answer ≡ answered result)
     (given : new ≡ ran ++ record { by = m; what = closing again u.task answer } ∷ []) where
   on : ServesOn o n true c u.task old ran P Q
@@ -102,7 +103,7 @@ module _ (n c t : ℕ) (a : Bool) (o : Opening) (old ran new : List Entry) (e e'
 
 -- ---- a turn
 
-module _ (o p : Opening) (setup : Setup) (n k c d : ℕ) (u : TaskTurn) (old mid new : List Entry) (desk desk' : DeskTells) (eo : p ≡ o) (en : k ≡ n) (ec : d ≡ c)
+module _ (o p : Opening) (setup : Setup) (n k c d : ℕ) (u : TaskTurn) (old mid new : List Entry) (desk desk' : DeskTold) (eo : p ≡ o) (en : k ≡ n) (ec : d ≡ c)
     (b : LoneBegun o n c u mid) (from : b.past ≡ old) (done : LoneDoes p setup k d u mid new desk desk') where
   its : LoneDoes o setup n c u mid new desk desk'
   its = subst (λ (w : Opening). LoneDoes w setup n c u mid new desk desk') eo (subst (λ (w : ℕ). LoneDoes p setup w c u mid new desk desk') en (subst (λ (w : ℕ). LoneDoes p setup k w u mid new desk desk') ec done))
@@ -134,7 +135,7 @@ module _ (old new : List Entry) (is : new ≡ old) where
   pub link_still : (e : EarValue) (m : MouthValue) → KeepsLink old new e e m m
   link_still e m = record { wired = λ w. subst (λ (x : List Entry). LoneWired x e m) (sym is) w; same_ear = (refl, refl); same_mouth = (refl, refl) }
 
-  pub worked_none : (o : Opening) (setup : Setup) (n c : ℕ) (desk : DeskTells) → Worked o setup n c old new desk desk
+  pub worked_none : (o : Opening) (setup : Setup) (n c : ℕ) (desk : DeskTold) → Worked o setup n c old new desk desk
   worked_none o setup n c desk = subst (λ (x : List Entry). Worked o setup n c old x desk desk) (sym is) (worked_still o setup n c old desk)
 
   pub can_still : {o p : Opening} {c : ℕ} → p ≡ o → CanWork o c old → CanWork p c new
@@ -145,7 +146,7 @@ module _ (old new : List Entry) (is : new ≡ old) where
 
 -- ---- turn by turn
 
-module _ (o p : Opening) (setup : Setup) (n k c d : ℕ) (x y z : List Entry) (a b e : DeskTells) (eo : p ≡ o) (en : k ≡ n) (ec : d ≡ c) where
+module _ (o p : Opening) (setup : Setup) (n k c d : ℕ) (x y z : List Entry) (a b e : DeskTold) (eo : p ≡ o) (en : k ≡ n) (ec : d ≡ c) where
   pub worked_then : Worked o setup n c x y a b → Worked p setup k d y z b e → Worked o setup n c x z a e
   worked_then s t =
       worked_both o setup n c x y z a b e s

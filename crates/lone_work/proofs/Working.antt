@@ -1,4 +1,5 @@
 -- What a worker did, task by task.
+use Rattle.ann_outside.specs.Told.{DeskTold}
 use Rattle.std.proofs.Common.{◌≡◌, ℕ, ◌<◌, List, [], ◌∷◌, ◌++◌, refl, sym, ap, subst, ◌∙◌, Bool, true, false, not, ◌==◌, cond, Some, None, Option, arith, append_assoc, append-nil}
 use Rattle.std.specs.Prelude.{◌&&◌, ◌||◌, if◌then◌else◌, map}
 use Rattle.std.specs.List.{list_all, list_any, cons_option}
@@ -25,7 +26,7 @@ use Rattle.lone_work.specs.Servings.{by_server}
 use Rattle.gathering.specs.Tasks.{claimed_turn, turns_by}
 use Rattle.gathering.proofs.Lasting.{run_stays}
 use Rattle.gathering.proofs.Turning.{turns_by-append}
-use Rattle.lone_work.specs.Works.{AllRan, CausedInTurn, DeskTells, LoneDoes, RanFor, TaskDone, Worked, all_calls, by_worker, ends_closed, is_closing, turns_of}
+use Rattle.lone_work.specs.Works.{AllRan, CausedInTurn, LoneDoes, RanFor, TaskDone, Worked, all_calls, by_worker, ends_closed, is_closing, turns_of}
 use Rattle.std.proofs.lemmas.Bool.{and_parts as both, eqb-true as same_number}
 use Rattle.ann_key.proofs.Booleans.{left_false as either_left, right_false as either_right, or_neither as neither}
 use Rattle.ann_key.proofs.Numbers.{same_number as same}
@@ -101,7 +102,7 @@ runs_last o setup n c past more (r ∷ runs) h = (
 -- ---- one thing after another
 
 module _ (o : Opening) (setup : Setup) (n c : ℕ) where
-  pub worked_still : (seen : List Entry) (desk : DeskTells) → Worked o setup n c seen seen desk desk
+  pub worked_still : (seen : List Entry) (desk : DeskTold) → Worked o setup n c seen seen desk desk
   worked_still seen desk = record {
     more = [];
     is = sym (append-nil seen);
@@ -115,7 +116,7 @@ module _ (o : Opening) (setup : Setup) (n c : ℕ) where
     caused = refl;
   }
 
-  pub worked_both : (x y z : List Entry) (a b d : DeskTells) → Worked o setup n c x y a b → Worked o setup n c y z b d → Worked o setup n c x z a d
+  pub worked_both : (x y z : List Entry) (a b d : DeskTold) → Worked o setup n c x y a b → Worked o setup n c y z b d → Worked o setup n c x z a d
   worked_both x y z a b d s k = record {
     more = s.more ++ k.more;
     is = k.is ∙ ap (λ (l : List Entry). l ++ k.more) s.is ∙ append_assoc x s.more k.more;
@@ -175,7 +176,7 @@ pub closing_claims : (past : List Entry) (renewed : Bool) (t : ℕ) (answer : An
 closing_claims past true t answer = refl
 closing_claims past false t answer = refl
 
-module _ (o : Opening) (setup : Setup) (n c : ℕ) (u : TaskTurn) (past old new : List Entry) (desk desk' : DeskTells) where
+module _ (o : Opening) (setup : Setup) (n c : ℕ) (u : TaskTurn) (past old new : List Entry) (desk desk' : DeskTold) where
   pub worked_one : (u.task == 0) ≡ false → turn_of_task past u.task ≡ u.turn → old ≡ past ++ entry n (Claim u.task c) ∷ [] → LoneDoes o setup n c u old new desk desk' → Worked o setup n c past new desk desk'
   worked_one some turn is d = record {
     more = one ++ (d.within ++ last);

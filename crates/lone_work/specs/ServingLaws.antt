@@ -5,6 +5,7 @@ use Rattle.journal_model.specs.declared.entry.Entry.{Entry}
 use Rattle.journal_model.specs.declared.opening.Opening.{Opening}
 use Rattle.journal_model.specs.Halves.{EarValue, MouthValue}
 use Rattle.link_roles.specs.Writings.{LoneWired}
+use Rattle.link_roles.specs.Doors.{DoorView}
 use Rattle.link_roles.proofs.Roles.{moved_both, moved_still, same_both}
 use Rattle.lone_work.specs.Servings.{AskerGoes, Serves, ServesOn}
 
@@ -23,32 +24,29 @@ module _ (o : Opening) (n : ℕ) (a : Bool) (c t : ℕ) (o' : Opening) (m : ℕ)
       (subst (λ (w : Bool). ServesOn o' m w c t y z Q R) ea
       (subst (λ (w : ℕ). ServesOn o' m b w t y z Q R) ec (subst (λ (w : ℕ). ServesOn o' m b d w y z Q R) et k))))
 
-module _ {D H : Type 0} (opening_of : D → Opening) (number_of : D → ℕ) (seen_of : D → List Entry) (alone_of : D → Bool) (loans_of : D → List ℕ) (home_of : D → H) where
-  pub goes_still : (door : D) (ear : EarValue) (mouth : MouthValue) (t : ℕ) → Serves (opening_of door) (number_of door) (alone_of door) ear.child t (seen_of door)
-      → AskerGoes opening_of number_of seen_of alone_of loans_of home_of door door ear ear mouth mouth t t
-  goes_still door ear mouth t s = record {
-    door = record { opening = refl; number = refl; alone = refl; loans = refl; home = refl; legal = λ h. h };
-    link = ((refl, refl), (refl, refl));
-    task = refl;
-    on = record { serves = s; moved = moved_still refl (λ p. p) };
+pub goes_still : {H : Type 0} (door : DoorView H) (ear : EarValue) (mouth : MouthValue) (t : ℕ) → Serves door.opening door.number door.alone ear.child t door.seen
+    → AskerGoes door door ear ear mouth mouth t t
+goes_still door ear mouth t s = record {
+  door = record { opening = refl; number = refl; alone = refl; loans = refl; home = refl; legal = λ h. h };
+  link = ((refl, refl), (refl, refl));
+  task = refl;
+  on = record { serves = s; moved = moved_still refl (λ p. p) };
+}
+
+module _ {H : Type 0} (x y : DoorView H) (e f : EarValue) (m w : MouthValue) (t u : ℕ) where
+  pub goes_ready : AskerGoes x y e f m w t u → Serves y.opening y.number y.alone f.child u y.seen
+  goes_ready s =
+      serves_so x.opening x.number x.alone e.child t y.opening y.number y.alone f.child u s.door.opening s.door.number s.door.alone s.link.0.0 s.task y.seen s.on.serves
+
+  pub goes_behind : (z : DoorView H) (g : EarValue) (v : MouthValue) (k : ℕ) → AskerGoes x y e f m w t u → AskerGoes y z f g w v u k → AskerGoes x z e g m v t k
+  goes_behind z g v k s r = record {
+    door = same_both s.door r.door;
+    link = ((r.link.0.0 ∙ s.link.0.0, r.link.0.1 ∙ s.link.0.1), (r.link.1.0 ∙ s.link.1.0, r.link.1.1 ∙ s.link.1.1));
+    task = r.task ∙ s.task;
+    on = record { serves = next.serves; moved = moved_both refl refl s.on.moved next.moved };
   }
-
-  module _ (x y : D) (e f : EarValue) (m w : MouthValue) (t u : ℕ) where
-    pub goes_ready : AskerGoes opening_of number_of seen_of alone_of loans_of home_of x y e f m w t u → Serves (opening_of y) (number_of y) (alone_of y) f.child u (seen_of y)
-    goes_ready s =
-        serves_so (opening_of x) (number_of x) (alone_of x) e.child t (opening_of y) (number_of y) (alone_of y) f.child u
-        s.door.opening s.door.number s.door.alone s.link.0.0 s.task (seen_of y) s.on.serves
-
-    pub goes_behind : (z : D) (g : EarValue) (v : MouthValue) (k : ℕ) → AskerGoes opening_of number_of seen_of alone_of loans_of home_of x y e f m w t u
-        → AskerGoes opening_of number_of seen_of alone_of loans_of home_of y z f g w v u k → AskerGoes opening_of number_of seen_of alone_of loans_of home_of x z e g m v t k
-    goes_behind z g v k s r = record {
-      door = same_both s.door r.door;
-      link = ((r.link.0.0 ∙ s.link.0.0, r.link.0.1 ∙ s.link.0.1), (r.link.1.0 ∙ s.link.1.0, r.link.1.1 ∙ s.link.1.1));
-      task = r.task ∙ s.task;
-      on = record { serves = next.serves; moved = moved_both refl refl s.on.moved next.moved };
-    }
-      where
-        next : ServesOn (opening_of x) (number_of x) (alone_of x) e.child t (seen_of y) (seen_of z) (LoneWired (seen_of y) f w) (LoneWired (seen_of z) g v)
-        next =
-            on_so (opening_of x) (number_of x) (alone_of x) e.child t (opening_of y) (number_of y) (alone_of y) f.child u
-            s.door.opening s.door.number s.door.alone s.link.0.0 s.task (seen_of y) (seen_of z) (LoneWired (seen_of y) f w) (LoneWired (seen_of z) g v) r.on
+    where
+      next : ServesOn x.opening x.number x.alone e.child t y.seen z.seen (LoneWired y.seen f w) (LoneWired z.seen g v)
+      next =
+          on_so x.opening x.number x.alone e.child t y.opening y.number y.alone f.child u s.door.opening s.door.number s.door.alone s.link.0.0 s.task y.seen z.seen
+          (LoneWired y.seen f w) (LoneWired z.seen g v) r.on

@@ -11,7 +11,7 @@ use Rattle.journal_model.specs.Legality.{is_prepared, is_busy_with}
 use Rattle.journal_model.specs.Shares.{Moved, by_link, is_of_child}
 use Rattle.journal_model.specs.Halves.{EarValue, MouthValue}
 use Rattle.link_roles.specs.Writings.{LoneWired}
-use Rattle.link_roles.specs.Doors.{IsSameDoor}
+use Rattle.link_roles.specs.Doors.{DoorView, IsSameDoor}
 use Rattle.link_roles.specs.Moves.{IsSameLink}
 use Rattle.lone_work.specs.AtTasks.{AtTask}
 use Rattle.lone_work.specs.KnownLayouts.{IsBook}
@@ -56,9 +56,8 @@ is_said_in_text None = true
 is_said_in_text (Some name) = is_utf8 name
 
 -- what an asker over a link and a door made of both: they are the same, and it serves the same task still
-pub record AskerGoes {D H : Type 0} (opening_of : D → Opening) (number_of : D → ℕ) (seen_of : D → List Entry) (alone_of : D → Bool) (loans_of : D → List ℕ) (home_of : D → H)
-    (old new : D) (ear ear' : EarValue) (mouth mouth' : MouthValue) (t u : ℕ) : Type 0 where
-  pub door : IsSameDoor opening_of number_of seen_of alone_of loans_of home_of old new
+pub record AskerGoes {H : Type 0} (old new : DoorView H) (ear ear' : EarValue) (mouth mouth' : MouthValue) (t u : ℕ) : Type 0 where
+  pub door : IsSameDoor old new
   pub link : IsSameLink ear ear' mouth mouth'
   pub task : u ≡ t
-  pub on : ServesOn (opening_of old) (number_of old) (alone_of old) ear.child t (seen_of old) (seen_of new) (LoneWired (seen_of old) ear mouth) (LoneWired (seen_of new) ear' mouth')
+  pub on : ServesOn old.opening old.number old.alone ear.child t old.seen new.seen (LoneWired old.seen ear mouth) (LoneWired new.seen ear' mouth')

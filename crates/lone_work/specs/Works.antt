@@ -1,4 +1,5 @@
 -- How a worker stands between two tasks and in one, and what it leaves.
+use Rattle.ann_outside.specs.Told.{DeskTold}
 use Rattle.std.specs.Prelude.{ℕ, ◌≡◌, ◌<◌, ◌==◌, ◌&&◌, not, Bool, true, false, List, [], ◌∷◌, ◌++◌, map, Option, Some, None, Ok}
 use Rattle.std.specs.List.{list_all}
 use Rattle.task_text.specs.declared.task.Task.{Task}
@@ -65,14 +66,6 @@ ClaimsNext o number c old new None = (new ≡ old) × IsThrough o old c
 
 -- ---- what was done
 
--- what a desk tells that a worker may change: its log, and its counts
-pub record DeskTells : Type 0 where
-  pub log : Option Log
-  pub counts : Counts
-
-abbrev pub desk_tells : Option Log → Counts → DeskTells
-desk_tells log counts = record { log = log; counts = counts }
-
 -- a run of a task: which turn of it, the calls of its desk, its answer, and the desk's counts then
 pub record TaskDone : Type 0 where
   pub task : ℕ
@@ -131,7 +124,7 @@ ends_closed (e ∷ f ∷ more) = ends_closed (f ∷ more)
 
 -- The journal has grown by what a worker of c makes, by this number, of which the last closes a run. Each turn that was claimed was
 -- run and then closed so, one after the other, and the desk made the calls of these runs, in their order, and no others.
-pub record Worked (o : Opening) (setup : Setup) (number c : ℕ) (old new : List Entry) (desk desk' : DeskTells) : Type 0 where
+pub record Worked (o : Opening) (setup : Setup) (number c : ℕ) (old new : List Entry) (desk desk' : DeskTold) : Type 0 where
   pub more : List Entry
   pub is : new ≡ old ++ more
   pub only : list_all (λ e. by_worker c e.what) more ≡ true
@@ -146,7 +139,7 @@ pub record Worked (o : Opening) (setup : Setup) (number c : ℕ) (old new : List
 -- ---- one task
 
 -- the task was asked and noted for, and then answered as it ran, or is to be run again
-pub record LoneDoes (o : Opening) (setup : Setup) (number c : ℕ) (u : TaskTurn) (old new : List Entry) (desk desk' : DeskTells) : Type 0 where
+pub record LoneDoes (o : Opening) (setup : Setup) (number c : ℕ) (u : TaskTurn) (old new : List Entry) (desk desk' : DeskTold) : Type 0 where
   pub within : List Entry
   pub renewed : Bool
   pub answer : Answer

@@ -23,10 +23,10 @@ fn task_in(reply: Reply) -> Option<TaskTurn>
 
 /// Claims the next task for the child, for the turn of it that comes next. None where all are claimed, or the child is gone.
 pub(crate) fn claim<D: Door>(door: &mut D, child: u32) -> Option<TaskTurn>
-    requires alone { D.alone door.old ≡ true }
-    requires can { CanWork (D.opening door.old) child (D.seen door.old) }
-    ensures claims { ClaimsNext (D.opening door.old) (D.number door.old) child (D.seen door.old) (D.seen door.new) result }
-    ensures door { IsSameDoor D.opening D.number D.seen D.alone D.loans D.home door.old door.new }
+    requires alone { (D.view door.old).alone ≡ true }
+    requires can { CanWork (D.view door.old).opening child (D.view door.old).seen }
+    ensures claims { ClaimsNext (D.view door.old).opening (D.view door.old).number child (D.view door.old).seen (D.view door.new).seen result }
+    ensures door { IsSameDoor (D.view door.old) (D.view door.new) }
 {
     match door.step(Event::Claim { child }) {
         Ok(reply) => task_in(reply),
@@ -36,10 +36,10 @@ pub(crate) fn claim<D: Door>(door: &mut D, child: u32) -> Option<TaskTurn>
 
 /// Gives the answer of a task that the door's number holds, which may be run again in its place.
 pub(crate) fn give<D: Door>(door: &mut D, task: u32, answer: Answer)
-    requires alone { D.alone door.old ≡ true }
-    requires at { AtTask (D.opening door.old) (D.number door.old) task (D.seen door.old) }
-    ensures given { D.seen door.new ≡ D.seen door.old ++ record { by = D.number door.old; what = closing (is_run_again (D.opening door.old) (D.seen door.old) task answer) task answer } ∷ [] }
-    ensures door { IsSameDoor D.opening D.number D.seen D.alone D.loans D.home door.old door.new }
+    requires alone { (D.view door.old).alone ≡ true }
+    requires at { AtTask (D.view door.old).opening (D.view door.old).number task (D.view door.old).seen }
+    ensures given { (D.view door.new).seen ≡ (D.view door.old).seen ++ record { by = (D.view door.old).number; what = closing (is_run_again (D.view door.old).opening (D.view door.old).seen task answer) task answer } ∷ [] }
+    ensures door { IsSameDoor (D.view door.old) (D.view door.new) }
 {
     let _done = door.step(Event::Answer { task, answer });
 }

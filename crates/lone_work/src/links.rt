@@ -24,16 +24,16 @@ pub fn ask_by_link<I: Sink, O: Source, D: Door>(
     task: u32,
     request: &Request,
 ) -> Result<Verdict, NoMemory>
-    requires at { AtTask (D.opening door.old) (D.number door.old) task (D.seen door.old) }
-    requires started { is_started (D.seen door.old) link.old.ear.child ≡ true }
-    requires may { D.alone door.old ≡ true → may_request (D.seen door.old) (D.number door.old) task link.old.ear.child (message_of request.now) ≡ true }
+    requires at { AtTask (D.view door.old).opening (D.view door.old).number task (D.view door.old).seen }
+    requires started { is_started (D.view door.old).seen link.old.ear.child ≡ true }
+    requires may { (D.view door.old).alone ≡ true → may_request (D.view door.old).seen (D.view door.old).number task link.old.ear.child (message_of request.now) ≡ true }
     requires named { is_named_well (name_of request.now) ≡ true }
-    ensures asked { AskedFor (D.opening door.old) (D.number door.old) task (D.seen door.old) (D.seen door.new) (name_of request.now) (message_of request.now) result }
+    ensures asked { AskedFor (D.view door.old).opening (D.view door.old).number task (D.view door.old).seen (D.view door.new).seen (name_of request.now) (message_of request.now) result }
     ensures named { IfOk result (IsNamed (message_of request.now)) }
-    ensures turn { D.alone door.old ≡ true → HasTurn (D.seen door.old) link.old.ear.child task → HasTurn (D.seen door.new) link.old.ear.child task }
-    ensures moved { Moved (D.number door.old) (D.alone door.old) (by_server link.old.ear.child task) (is_of_child link.old.ear.child) (D.seen door.old) (D.seen door.new) (LoneWired (D.seen door.old) link.old.ear link.old.mouth) (LoneWired (D.seen door.new) link.new.ear link.new.mouth) }
+    ensures turn { (D.view door.old).alone ≡ true → HasTurn (D.view door.old).seen link.old.ear.child task → HasTurn (D.view door.new).seen link.old.ear.child task }
+    ensures moved { Moved (D.view door.old).number (D.view door.old).alone (by_server link.old.ear.child task) (is_of_child link.old.ear.child) (D.view door.old).seen (D.view door.new).seen (LoneWired (D.view door.old).seen link.old.ear link.old.mouth) (LoneWired (D.view door.new).seen link.new.ear link.new.mouth) }
     ensures same { IsSameLink link.old.ear link.new.ear link.old.mouth link.new.mouth }
-    ensures door { IsSameDoor D.opening D.number D.seen D.alone D.loans D.home door.old door.new }
+    ensures door { IsSameDoor (D.view door.old) (D.view door.new) }
 {
     match link.ask(door, task, request) {
         Ok(verdict) => Ok(verdict),

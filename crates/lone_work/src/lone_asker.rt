@@ -52,27 +52,24 @@ impl<'l, 'd, I: Sink, O: Source, D: Door> Asker for LoneAsker<'l, 'd, I, O, D> {
     ghost use Rattle.lone_work.specs.Servings.{Serves, AskerGoes};
     ghost use Rattle.lone_work.specs.ServingLaws.{goes_still, goes_ready, goes_behind};
 
-    ghost pairs = { λ s. askings (D.seen s.door.now) s.task };
+    ghost told = { λ s. record {
+      pairs = askings (D.view s.door.now).seen s.task;
+      notes = notings (D.view s.door.now).seen s.task;
+      task = s.task;
+      may_note = can_note (task_of (D.view s.door.now).opening s.task);
+      current = known_layouts (D.view s.door.now).opening (D.view s.door.now).seen s.task;
+      loans = s.link.ghost_name ∷ s.door.ghost_name ∷ (D.view s.door.now).loans;
+    } };
 
-    ghost notes = { λ s. notings (D.seen s.door.now) s.task };
+    ghost ready = { λ s. Serves (D.view s.door.now).opening (D.view s.door.now).number (D.view s.door.now).alone s.link.now.ear.child s.task (D.view s.door.now).seen };
 
-    ghost task = { λ s. s.task };
+    ghost goes_on = { λ a b. AskerGoes (D.view a.door.now) (D.view b.door.now) a.link.now.ear b.link.now.ear a.link.now.mouth b.link.now.mouth a.task b.task };
 
-    ghost may_note = { λ s. can_note (task_of (D.opening s.door.now) s.task) };
+    ghost stays = { λ a h. goes_still (D.view a.door.now) a.link.now.ear a.link.now.mouth a.task h };
 
-    ghost current = { λ s. known_layouts (D.opening s.door.now) (D.seen s.door.now) s.task };
+    ghost is_ready = { λ a b s. goes_ready (D.view a.door.now) (D.view b.door.now) a.link.now.ear b.link.now.ear a.link.now.mouth b.link.now.mouth a.task b.task s };
 
-    ghost loans = { λ s. s.link.ghost_name ∷ s.door.ghost_name ∷ D.loans s.door.now };
-
-    ghost ready = { λ s. Serves (D.opening s.door.now) (D.number s.door.now) (D.alone s.door.now) s.link.now.ear.child s.task (D.seen s.door.now) };
-
-    ghost goes_on = { λ a b. AskerGoes D.opening D.number D.seen D.alone D.loans D.home a.door.now b.door.now a.link.now.ear b.link.now.ear a.link.now.mouth b.link.now.mouth a.task b.task };
-
-    ghost stays = { λ a h. goes_still D.opening D.number D.seen D.alone D.loans D.home a.door.now a.link.now.ear a.link.now.mouth a.task h };
-
-    ghost is_ready = { λ a b s. goes_ready D.opening D.number D.seen D.alone D.loans D.home a.door.now b.door.now a.link.now.ear b.link.now.ear a.link.now.mouth b.link.now.mouth a.task b.task s };
-
-    ghost goes_both = { λ a b d s r. goes_behind D.opening D.number D.seen D.alone D.loans D.home a.door.now b.door.now a.link.now.ear b.link.now.ear a.link.now.mouth b.link.now.mouth a.task b.task d.door.now d.link.now.ear d.link.now.mouth d.task s r };
+    ghost goes_both = { λ a b d s r. goes_behind (D.view a.door.now) (D.view b.door.now) a.link.now.ear b.link.now.ear a.link.now.mouth b.link.now.mouth a.task b.task (D.view d.door.now) d.link.now.ear d.link.now.mouth d.task s r };
 
     fn ask(&mut self, alloc: Global, number: u32, request: &Request) -> Result<Verdict, NoMemory> {
         let _file = file_of(request);

@@ -27,12 +27,12 @@ fn is_done(reply: Reply) -> bool
 /// Notes that the remote has so many chunks of that size of the task's content. The door's number holds the task, which stores
 /// or drops.
 pub fn note<D: Door>(door: &mut D, task: u32, chunk: u64, count: u64) -> Result<(), NoMemory>
-    requires at { AtTask (D.opening door.old) (D.number door.old) task (D.seen door.old) }
-    requires may { may_note (task_of (D.opening door.old) task) ≡ true }
+    requires at { AtTask (D.view door.old).opening (D.view door.old).number task (D.view door.old).seen }
+    requires may { may_note (task_of (D.view door.old).opening task) ≡ true }
     requires chunk { 0 < chunk }
-    ensures noted { NotedFor (D.opening door.old) (D.number door.old) task (D.seen door.old) (D.seen door.new) chunk count result }
-    ensures grows { Grows (D.number door.old) (D.alone door.old) (by_noting task) (D.seen door.old) (D.seen door.new) }
-    ensures door { IsSameDoor D.opening D.number D.seen D.alone D.loans D.home door.old door.new }
+    ensures noted { NotedFor (D.view door.old).opening (D.view door.old).number task (D.view door.old).seen (D.view door.new).seen chunk count result }
+    ensures grows { Grows (D.view door.old).number (D.view door.old).alone (by_noting task) (D.view door.old).seen (D.view door.new).seen }
+    ensures door { IsSameDoor (D.view door.old) (D.view door.new) }
 {
     let reply = door.step(Event::Note { task, chunk, count })?;
     if is_done(reply) {
@@ -55,13 +55,13 @@ fn layouts_in(alloc: Global, reply: Reply) -> Layouts
 /// The layouts in which the remote is known to have the task's key, by all notes so far. The door's number holds the task. None
 /// of their chunks is empty, in a run that began with a book.
 pub fn layouts<D: Door>(door: &mut D, alloc: Global, task: u32) -> Result<Layouts, NoMemory>
-    requires at { AtTask (D.opening door.old) (D.number door.old) task (D.seen door.old) }
-    ensures known { IfOk result (λ layouts. layouts ≡ known_layouts (D.opening door.old) (D.seen door.old) task) }
-    ensures sizes { IsBook (D.opening door.old).notes → are_layouts (known_layouts (D.opening door.old) (D.seen door.old) task) ≡ true }
-    ensures stays { known_layouts (D.opening door.old) (D.seen door.new) task ≡ known_layouts (D.opening door.old) (D.seen door.old) task }
-    ensures same { SameTask (D.opening door.old) (D.number door.old) task (D.seen door.old) (D.seen door.new) }
-    ensures grows { Grows (D.number door.old) (D.alone door.old) never (D.seen door.old) (D.seen door.new) }
-    ensures door { IsSameDoor D.opening D.number D.seen D.alone D.loans D.home door.old door.new }
+    requires at { AtTask (D.view door.old).opening (D.view door.old).number task (D.view door.old).seen }
+    ensures known { IfOk result (λ layouts. layouts ≡ known_layouts (D.view door.old).opening (D.view door.old).seen task) }
+    ensures sizes { IsBook (D.view door.old).opening.notes → are_layouts (known_layouts (D.view door.old).opening (D.view door.old).seen task) ≡ true }
+    ensures stays { known_layouts (D.view door.old).opening (D.view door.new).seen task ≡ known_layouts (D.view door.old).opening (D.view door.old).seen task }
+    ensures same { SameTask (D.view door.old).opening (D.view door.old).number task (D.view door.old).seen (D.view door.new).seen }
+    ensures grows { Grows (D.view door.old).number (D.view door.old).alone never (D.view door.old).seen (D.view door.new).seen }
+    ensures door { IsSameDoor (D.view door.old) (D.view door.new) }
 {
     let reply = door.step(Event::Layouts { task })?;
     Ok(layouts_in(alloc, reply))

@@ -12,7 +12,7 @@ ghost use Rattle.link_roles.specs.Alone.{KeepsLink};
 ghost use Rattle.lone_work.specs.AtTasks.{notings};
 ghost use Rattle.lone_work.specs.KnownLayouts.{known_layouts};
 ghost use Rattle.lone_work.specs.Servings.{Serves, ServesOn};
-ghost use Rattle.lone_work.specs.Works.{AreTasks, LoneBegun, CanWork, LoneDoes, desk_tells};
+ghost use Rattle.lone_work.specs.Works.{AreTasks, LoneBegun, CanWork, LoneDoes};
 
 use crate::LoneAsker;
 use crate::events::give;
@@ -55,14 +55,14 @@ fn run_over<I: Sink, O: Source, D: Door, K: Desk>(
 ) -> Result<Answer, NoMemory>
     requires task { IsTask task.now }
     requires folder { has_newline setup.now.work ≡ false }
-    requires named { task_of (D.opening door.old) turn.task ≡ Some task.now }
-    requires serves { Serves (D.opening door.old) (D.number door.old) (D.alone door.old) link.old.ear.child turn.task (D.seen door.old) }
-    ensures ran { Ran task.now turn setup.now (known_layouts (D.opening door.old) (D.seen door.old) turn.task) (askings (D.seen door.old) turn.task) (askings (D.seen door.new) turn.task) (notings (D.seen door.old) turn.task) (notings (D.seen door.new) turn.task) (K.log desk.old) (K.log desk.new) result }
-    ensures causes { HasTaskCauses (K.counts desk.old) (K.counts desk.new) result }
-    ensures on { ServesOn (D.opening door.old) (D.number door.old) (D.alone door.old) link.old.ear.child turn.task (D.seen door.old) (D.seen door.new)
-        (LoneWired (D.seen door.old) link.old.ear link.old.mouth) (LoneWired (D.seen door.new) link.new.ear link.new.mouth) }
+    requires named { task_of (D.view door.old).opening turn.task ≡ Some task.now }
+    requires serves { Serves (D.view door.old).opening (D.view door.old).number (D.view door.old).alone link.old.ear.child turn.task (D.view door.old).seen }
+    ensures ran { Ran task.now turn setup.now (known_layouts (D.view door.old).opening (D.view door.old).seen turn.task) (askings (D.view door.old).seen turn.task) (askings (D.view door.new).seen turn.task) (notings (D.view door.old).seen turn.task) (notings (D.view door.new).seen turn.task) (K.told desk.old).log (K.told desk.new).log result }
+    ensures causes { HasTaskCauses (K.told desk.old).counts (K.told desk.new).counts result }
+    ensures on { ServesOn (D.view door.old).opening (D.view door.old).number (D.view door.old).alone link.old.ear.child turn.task (D.view door.old).seen (D.view door.new).seen
+        (LoneWired (D.view door.old).seen link.old.ear link.old.mouth) (LoneWired (D.view door.new).seen link.new.ear link.new.mouth) }
     ensures same { IsSameLink link.old.ear link.new.ear link.old.mouth link.new.mouth }
-    ensures door { IsSameDoor D.opening D.number D.seen D.alone D.loans D.home door.old door.new }
+    ensures door { IsSameDoor (D.view door.old) (D.view door.new) }
 {
     let mut asker = LoneAsker {
         link,
@@ -82,14 +82,14 @@ pub(crate) fn do_task<I: Sink, O: Source, D: Door, K: Desk>(
     door: &mut D,
     desk: &mut K,
 )
-    requires alone { D.alone door.old ≡ true }
-    requires tasks { ((D.opening door.old).tasks ≡ tasks.now) × AreTasks tasks.now }
+    requires alone { (D.view door.old).alone ≡ true }
+    requires tasks { ((D.view door.old).opening.tasks ≡ tasks.now) × AreTasks tasks.now }
     requires folder { has_newline setup.now.work ≡ false }
-    requires begun { LoneBegun (D.opening door.old) (D.number door.old) link.old.ear.child turn (D.seen door.old) }
-    ensures does { LoneDoes (D.opening door.old) setup.now (D.number door.old) link.old.ear.child turn (D.seen door.old) (D.seen door.new) (desk_tells (K.log desk.old) (K.counts desk.old)) (desk_tells (K.log desk.new) (K.counts desk.new)) }
-    ensures can { CanWork (D.opening door.new) link.new.ear.child (D.seen door.new) }
-    ensures link { KeepsLink (D.seen door.old) (D.seen door.new) link.old.ear link.new.ear link.old.mouth link.new.mouth }
-    ensures door { IsSameDoor D.opening D.number D.seen D.alone D.loans D.home door.old door.new }
+    requires begun { LoneBegun (D.view door.old).opening (D.view door.old).number link.old.ear.child turn (D.view door.old).seen }
+    ensures does { LoneDoes (D.view door.old).opening setup.now (D.view door.old).number link.old.ear.child turn (D.view door.old).seen (D.view door.new).seen (K.told desk.old) (K.told desk.new) }
+    ensures can { CanWork (D.view door.new).opening link.new.ear.child (D.view door.new).seen }
+    ensures link { KeepsLink (D.view door.old).seen (D.view door.new).seen link.old.ear link.new.ear link.old.mouth link.new.mouth }
+    ensures door { IsSameDoor (D.view door.old) (D.view door.new) }
 {
     let task = task_at(tasks, turn.task);
     let outcome = run_over(alloc, task, turn, setup, link, door, desk);

@@ -5,7 +5,7 @@ ghost use Rattle.journal_model.specs.Room.{claims_left};
 ghost use Rattle.gathering.specs.Tasks.{IsThrough};
 ghost use Rattle.link_roles.specs.Alone.{KeepsLink};
 ghost use Rattle.link_roles.specs.Doors.{IsSameDoor};
-ghost use Rattle.lone_work.specs.Works.{AreTasks, CanWork, Worked, desk_tells};
+ghost use Rattle.lone_work.specs.Works.{AreTasks, CanWork, Worked};
 
 use crate::events::claim;
 use crate::task::do_task;
@@ -24,16 +24,16 @@ fn turn<I: Sink, O: Source, D: Door, K: Desk>(
     door: &mut D,
     desk: &mut K,
 ) -> bool
-    requires alone { D.alone door.old ≡ true }
-    requires tasks { ((D.opening door.old).tasks ≡ tasks.now) × AreTasks tasks.now }
+    requires alone { (D.view door.old).alone ≡ true }
+    requires tasks { ((D.view door.old).opening.tasks ≡ tasks.now) × AreTasks tasks.now }
     requires folder { has_newline setup.now.work ≡ false }
-    requires can { CanWork (D.opening door.old) link.old.ear.child (D.seen door.old) }
-    ensures worked { Worked (D.opening door.old) setup.now (D.number door.old) link.old.ear.child (D.seen door.old) (D.seen door.new) (desk_tells (K.log desk.old) (K.counts desk.old)) (desk_tells (K.log desk.new) (K.counts desk.new)) }
-    ensures can { CanWork (D.opening door.new) link.new.ear.child (D.seen door.new) }
-    ensures fewer { IsTrue result → claims_left (D.opening door.new) (D.seen door.new) < claims_left (D.opening door.old) (D.seen door.old) }
-    ensures through { IsFalse result → IsThrough (D.opening door.old) (D.seen door.new) link.old.ear.child }
-    ensures link { KeepsLink (D.seen door.old) (D.seen door.new) link.old.ear link.new.ear link.old.mouth link.new.mouth }
-    ensures door { IsSameDoor D.opening D.number D.seen D.alone D.loans D.home door.old door.new }
+    requires can { CanWork (D.view door.old).opening link.old.ear.child (D.view door.old).seen }
+    ensures worked { Worked (D.view door.old).opening setup.now (D.view door.old).number link.old.ear.child (D.view door.old).seen (D.view door.new).seen (K.told desk.old) (K.told desk.new) }
+    ensures can { CanWork (D.view door.new).opening link.new.ear.child (D.view door.new).seen }
+    ensures fewer { IsTrue result → claims_left (D.view door.new).opening (D.view door.new).seen < claims_left (D.view door.old).opening (D.view door.old).seen }
+    ensures through { IsFalse result → IsThrough (D.view door.old).opening (D.view door.new).seen link.old.ear.child }
+    ensures link { KeepsLink (D.view door.old).seen (D.view door.new).seen link.old.ear link.new.ear link.old.mouth link.new.mouth }
+    ensures door { IsSameDoor (D.view door.old) (D.view door.new) }
 {
     let child = link.child();
     match claim(door, child) {
@@ -54,15 +54,15 @@ pub fn work<I: Sink, O: Source, D: Door, K: Desk>(
     door: &mut D,
     desk: &mut K,
 )
-    requires alone { D.alone door.old ≡ true }
-    requires tasks { ((D.opening door.old).tasks ≡ tasks.now) × AreTasks tasks.now }
+    requires alone { (D.view door.old).alone ≡ true }
+    requires tasks { ((D.view door.old).opening.tasks ≡ tasks.now) × AreTasks tasks.now }
     requires folder { has_newline setup.now.work ≡ false }
-    requires can { CanWork (D.opening door.old) link.old.ear.child (D.seen door.old) }
-    ensures worked { Worked (D.opening door.old) setup.now (D.number door.old) link.old.ear.child (D.seen door.old) (D.seen door.new) (desk_tells (K.log desk.old) (K.counts desk.old)) (desk_tells (K.log desk.new) (K.counts desk.new)) }
-    ensures can { CanWork (D.opening door.new) link.new.ear.child (D.seen door.new) }
-    ensures through { IsThrough (D.opening door.old) (D.seen door.new) link.old.ear.child }
-    ensures link { KeepsLink (D.seen door.old) (D.seen door.new) link.old.ear link.new.ear link.old.mouth link.new.mouth }
-    ensures door { IsSameDoor D.opening D.number D.seen D.alone D.loans D.home door.old door.new }
+    requires can { CanWork (D.view door.old).opening link.old.ear.child (D.view door.old).seen }
+    ensures worked { Worked (D.view door.old).opening setup.now (D.view door.old).number link.old.ear.child (D.view door.old).seen (D.view door.new).seen (K.told desk.old) (K.told desk.new) }
+    ensures can { CanWork (D.view door.new).opening link.new.ear.child (D.view door.new).seen }
+    ensures through { IsThrough (D.view door.old).opening (D.view door.new).seen link.old.ear.child }
+    ensures link { KeepsLink (D.view door.old).seen (D.view door.new).seen link.old.ear link.new.ear link.old.mouth link.new.mouth }
+    ensures door { IsSameDoor (D.view door.old) (D.view door.new) }
 {
     'turns: loop {
         if !turn(alloc, tasks, setup, link, door, desk) {

@@ -1,10 +1,10 @@
 -- The journals that a mirror lends: those of its children, or those of its logs.
+use Rattle.ann_outside.specs.Told.{ProgramsTold}
 use Rattle.std.proofs.Common.{◌≡◌, ◌∙◌, ◌⊎◌, inl, inr, ◌==◌, ℕ, zero, suc, ◌<◌, ◌≤◌, List, [], ◌∷◌, ◌++◌, refl, sym, ap, subst, Bool, true, false, Option, Some, None, length, map, slice_index_or, arith}
 use Rattle.std.specs.List.{slice_get}
 use Rattle.std.proofs.lemmas.Bool.{eqb-true}
 use Rattle.std.proofs.lemmas.List.{nil_from_length}
 use Rattle.journal_model.specs.declared.entry.Entry.{Entry}
-use Rattle.child_end.specs.Programs.{ProgramsValue}
 use Rattle.mirror_children.specs.Children.{ChildValue}
 use Rattle.mirror_starts.specs.Stops.{LogValue}
 use Rattle.mirror_starts.specs.Outcomes.{MirrorValue}
@@ -32,7 +32,7 @@ child_past [] n past = refl
 child_past (x ∷ cs) zero past = absurd (omega (arith, past))
 child_past (x ∷ cs) (suc n) past = child_past cs n (omega (arith, past))
 
-module _ (m : MirrorValue) (programs : ProgramsValue) (cs : List ChildValue) (logs : List LogValue) (n : ℕ) (view : record { programs = programs; children = cs; logs = logs } ≡ m) where
+module _ (m : MirrorValue) (programs : ProgramsTold) (cs : List ChildValue) (logs : List LogValue) (n : ℕ) (view : record { programs = programs; children = cs; logs = logs } ≡ m) where
   -- without children they are those of the logs
   pub lent_log : (journal : Option (List Entry)) → cs ≡ [] → journal ≡ slice_get (map (λ (l : LogValue). l.journal) logs) n → journal ≡ slice_get (journals_of m) n
   lent_log journal none is =

@@ -1,10 +1,10 @@
 -- What prepare and finish of a mirror leave.
+use Rattle.ann_outside.specs.Told.{ProgramsTold}
 use Rattle.std.specs.Prelude.{ℕ, ◌≡◌, ◌⊎◌, ◌≤◌, List, [], ◌∷◌, ◌++◌, map, Option, Some, None, Result, Ok, Err, IfOk, IsErr, codes}
 use Rattle.ann_key.specs.declared.bytes.NoMemory.{NoMemory}
 use Rattle.ann_outside.specs.Causes.{Stays}
 use Rattle.journal_model.specs.declared.entry.Entry.{Entry}
 use Rattle.link_roles.specs.Wires.{WireValue}
-use Rattle.child_end.specs.Programs.{ProgramsValue}
 use Rattle.kit_core.specs.declared.call.Said.{Said}
 use Rattle.kit_core.specs.declared.call.Said.TheVariants.{Yes}
 use Rattle.mirror_plan.specs.declared.plan.Plan.{Plan}
@@ -53,7 +53,7 @@ Prepares values old new (Err e) = IsCutShort (plans_in values) old new
 
 -- the programs, the journals of the last prepare, and a wire for each start in them
 pub record EndedValue : Type 0 where
-  pub programs : ProgramsValue
+  pub programs : ProgramsTold
   pub journals : List (List Entry)
   pub wires : List WireValue
 

@@ -4,7 +4,6 @@ ghost use Rattle.ann_key.specs.KeyRefs.{text_of};
 ghost use Rattle.annex_model.specs.Lines.{has_newline};
 ghost use Rattle.annex_model.specs.Messages.{is_sent_key, Transfer, Checkpresent, Remove};
 ghost use Rattle.kit_core.specs.Calls.{are_lines, is_line_said};
-ghost use Rattle.child_end.specs.Programs.{programs_value};
 ghost use Rattle.mirror_plan.specs.Settings.{names};
 ghost use Rattle.std.specs.Option.{option_copied};
 ghost use Rattle.mirror_children.specs.Rule.{RulesAll, RulesCheck, RulesRetrieve};
@@ -36,12 +35,11 @@ pub struct MirrorRemote<P: Programs> {
 }
 
 impl<P: Programs> Model for MirrorRemote<P> {
-    ghost use Rattle.child_end.specs.Programs.{programs_value};
     ghost use Rattle.mirror_starts.specs.Outcomes.{IsKept, MirrorValue, mirror_value};
 
     ghost Value = { MirrorValue };
 
-    ghost view = { λ m. mirror_value (programs_value (P.starts m.programs) (P.faults m.programs)) m.children.items m.stopped.logs };
+    ghost view = { λ m. mirror_value (P.told m.programs) m.children.items m.stopped.logs };
 
     ghost invariant = { λ m. IsKept m.children.items m.stopped.spare m.stopped.logs };
 }
@@ -56,12 +54,11 @@ pub struct Ended<P: Programs> {
 
 impl<P: Programs> Model for Ended<P> {
     ghost use Rattle.std.specs.Prelude.{map};
-    ghost use Rattle.child_end.specs.Programs.{programs_value};
     ghost use Rattle.mirror_remote.specs.Mirrors.{EndedValue};
 
     ghost Value = { EndedValue };
 
-    ghost view = { λ e. record { programs = programs_value (P.starts e.programs) (P.faults e.programs); journals = map (λ j. j.entries) e.journals.items; wires = e.wires.items } };
+    ghost view = { λ e. record { programs = P.told e.programs; journals = map (λ j. j.entries) e.journals.items; wires = e.wires.items } };
 }
 
 impl<P: Programs> MirrorRemote<P>
@@ -72,7 +69,7 @@ where
 {
     /// A mirror that isn't prepared. It takes no memory.
     pub fn new(alloc: Global, programs: P) -> MirrorRemote<P>
-        ensures { result ≡ record { programs = programs_value (P.starts programs) (P.faults programs); children = []; logs = [] } }
+        ensures { result ≡ record { programs = P.told programs; children = []; logs = [] } }
     {
         MirrorRemote {
             alloc,

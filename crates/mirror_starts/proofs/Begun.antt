@@ -1,4 +1,5 @@
 -- Children that are started one after the other, and stopped.
+use Rattle.ann_outside.specs.Told.{ProgramsTold}
 use Rattle.std.proofs.Common.{◌≡◌, ◌⊎◌, inl, inr, ◌∙◌, ℕ, zero, suc, ◌+◌, ◌-◌, ◌<◌, ◌≤◌, List, [], ◌∷◌, ◌++◌, refl, sym, ap, subst, Bool, true, false, Option, Some, None, append_assoc, append-nil, length, take, drop, get_or, add-one, arith}
 use Rattle.std.specs.Prelude.{Result, Ok, Err}
 use Rattle.std.proofs.lemmas.List.{map-append}
@@ -15,7 +16,7 @@ use Rattle.host_core.specs.CoreValue.{CoreValue}
 use Rattle.link_roles.specs.Writings.{LoneWired}
 use Rattle.child_start.specs.Cores.{IsSameCore}
 use Rattle.child_start.specs.Greetings.{Greeted, HasEnded, IsReady, IsRefused, IsUnsent}
-use Rattle.child_end.specs.Programs.{AddsAll, ProgramsValue}
+use Rattle.child_end.specs.Programs.{AddsAll}
 use Rattle.mirror_plan.specs.declared.plan.Plan.{Plan}
 use Rattle.mirror_starts.specs.declared.beginning.Cause.{Cause}
 use Rattle.mirror_starts.specs.declared.beginning.Stand.{Stand}
@@ -92,7 +93,7 @@ unstarted_as p old new empty opens keeps grown =
     record { opening = keeps.opening ∙ opens; only = only; unwired = unwired (log_of new) only (keeps.legal (nothing_legal old.opening old.journal empty)) }
 
 -- the child that was greeted comes after the others
-pub met_begins : (p : Plan) (before after : ProgramsValue) (cs cs' : List ChildValue) (c : ChildValue) (stand : Stand) (r : Result (Unit {0}) Cause) → cs' ≡ cs ++ c ∷ [] → IsGreetedAs p c → AddsOne before.starts after.starts (p.program, true)
+pub met_begins : (p : Plan) (before after : ProgramsTold) (cs cs' : List ChildValue) (c : ChildValue) (stand : Stand) (r : Result (Unit {0}) Cause) → cs' ≡ cs ++ c ∷ [] → IsGreetedAs p c → AddsOne before.starts after.starts (p.program, true)
     → StandsAs p stand c → StoodAs stand p.number r → BeginsAs p before after cs cs' r
 met_begins p before after cs cs' c Ready (Ok u) are greeted starts s h = (record { child = c; are = are; greeted = greeted; starts = starts }, s.0, s.1)
 met_begins p before after cs cs' c Ready (Err e) are greeted starts s h = absurd cc

@@ -1,10 +1,11 @@
 -- One more of the plans, whose children are started in turn.
+use Rattle.ann_outside.specs.Told.{ProgramsTold}
 use Rattle.std.proofs.Common.{◌≡◌, ◌⊎◌, inl, inr, ◌∙◌, ℕ, suc, ◌+◌, ◌<◌, ◌≤◌, List, [], ◌∷◌, ◌++◌, sym, subst, Bool, false, append_assoc, length, length-append, ap, take, drop, get_or}
 use Rattle.std.specs.Prelude.{Err}
 use Rattle.std.proofs.lemmas.List.{take_all}
 use Rattle.ann_outside.specs.Causes.{AddsOne, Rose}
 use Rattle.host_core.specs.CoreValue.{CoreValue}
-use Rattle.child_end.specs.Programs.{AddsAll, ProgramsValue}
+use Rattle.child_end.specs.Programs.{AddsAll}
 use Rattle.mirror_plan.specs.declared.plan.Plan.{Plan}
 use Rattle.mirror_children.specs.Children.{ChildValue, IsServing}
 use Rattle.mirror_starts.specs.declared.beginning.Cause.{Cause}
@@ -15,11 +16,11 @@ use Rattle.mirror_starts.proofs.Begun.{greeted_next, plan_at_place, ready_next, 
 use Rattle.child_end.proofs.Across.{adds_both, adds_none, adds_one, adds_stay as adds_stays}
 
 -- no plan, and no child
-pub none_begun : (before : ProgramsValue) (cs : List ChildValue) → cs ≡ [] → BegunAll [] before before cs
+pub none_begun : (before : ProgramsTold) (cs : List ChildValue) → cs ≡ [] → BegunAll [] before before cs
 none_begun before cs none = subst (BegunAll [] before before) (sym none) record { ready = tt; greeted = tt; serving = tt; starts = adds_none before.starts }
 
 -- the first plans' children are ready, and the next plan is this one
-module _ (plans : List Plan) (i : ℕ) (p : Plan) (cs cs' : List ChildValue) (before mid after : ProgramsValue) (begun : BegunAll (take i plans) before mid cs) (within : i < length plans) (here : p ≡ get_or plans i p) where
+module _ (plans : List Plan) (i : ℕ) (p : Plan) (cs cs' : List ChildValue) (before mid after : ProgramsTold) (begun : BegunAll (take i plans) before mid cs) (within : i < length plans) (here : p ≡ get_or plans i p) where
   are : plans ≡ take i plans ++ p ∷ drop (suc i) plans
   are = plan_at_place plans i p within (sym here)
 
@@ -105,5 +106,5 @@ pub joined_length : (cs cs' : List ChildValue) (c : ChildValue) → cs' ≡ cs +
 joined_length cs cs' c e = ap (λ (xs : List ChildValue). length xs) e ∙ length-append cs (c ∷ [])
 
 -- each child is ready
-pub all_begun : (plans : List Plan) (i : ℕ) (cs : List ChildValue) (before after : ProgramsValue) → length plans ≤ i → BegunAll (take i plans) before after cs → BegunAll plans before after cs
+pub all_begun : (plans : List Plan) (i : ℕ) (cs : List ChildValue) (before after : ProgramsTold) → length plans ≤ i → BegunAll (take i plans) before after cs → BegunAll plans before after cs
 all_begun plans i cs before after past begun = subst (λ (ps : List Plan). BegunAll ps before after cs) (take_all i plans past) begun

@@ -1,9 +1,10 @@
 -- What preparing comes to, once the children that are to be stopped were.
+use Rattle.ann_outside.specs.Told.{ProgramsTold}
 use Rattle.std.proofs.Common.{◌≡◌, ◌⊎◌, inl, inr, ◌∙◌, ℕ, ◌≤◌, List, [], ◌∷◌, ◌++◌, refl, sym, ap, subst, Bool, false, Option, Some, None, append_assoc, append-nil, arith}
 use Rattle.ann_outside.specs.Causes.{Rose, Stays}
 use Rattle.ann_outside.specs.Starts.{Starts}
 use Rattle.host_core.specs.CoreValue.{CoreValue}
-use Rattle.child_end.specs.Programs.{AddsAll, ProgramsValue}
+use Rattle.child_end.specs.Programs.{AddsAll}
 use Rattle.mirror_plan.specs.declared.plan.Plan.{Plan}
 use Rattle.mirror_children.specs.Children.{ChildValue}
 use Rattle.mirror_starts.specs.Stops.{log_of, LogValue, StoppedValue, StopsAll}
@@ -32,7 +33,7 @@ unfolding told
 adds before after front (inl h) = h
 adds before after front (inr (program, b, h)) = h
 
-module _ (plans : List Plan) (old new : MirrorValue) (mid : ProgramsValue) (cs : List ChildValue) (before after : StoppedValue) (fresh : before.logs ≡ []) (left : new.logs ≡ after.logs) (none : new.children ≡ [])
+module _ (plans : List Plan) (old new : MirrorValue) (mid : ProgramsTold) (cs : List ChildValue) (before after : StoppedValue) (fresh : before.logs ≡ []) (left : new.logs ≡ after.logs) (none : new.children ≡ [])
     (stops : StopsAll cs before after) (stays : Stays mid.starts new.programs.starts) (later : mid.faults ≤ new.programs.faults) where
   -- the child of some plan isn't ready, and all were stopped
   pub stuck_to : (n : ℕ) → BegunTo plans n old.programs mid cs → IsStuck plans n old new
@@ -74,7 +75,7 @@ stays_refl None = tt
 stays_refl (Some x) = refl
 
 -- the program of some plan couldn't be started, and all others were stopped
-pub stuck_up_to : (plans : List Plan) (n : ℕ) (core : CoreValue) (old new : MirrorValue) (mid : ProgramsValue) (cs : List ChildValue) (before after : StoppedValue) → before.logs ≡ [] → new.children ≡ []
+pub stuck_up_to : (plans : List Plan) (n : ℕ) (core : CoreValue) (old new : MirrorValue) (mid : ProgramsTold) (cs : List ChildValue) (before after : StoppedValue) → before.logs ≡ [] → new.children ≡ []
     → StopsAll cs before after → new.logs ≡ after.logs ++ log_of core ∷ [] → Stays mid.starts new.programs.starts → mid.faults ≤ new.programs.faults
     → BegunUpTo plans n core old.programs mid cs → IsStuck plans n old new
 stuck_up_to plans n core old new mid cs before after fresh none stops logs stays later b =
@@ -121,8 +122,8 @@ pub nothing_done : (old new : MirrorValue) → old.programs ≡ new.programs →
 nothing_done old new same none empty = record {
   children = none;
   logs = empty;
-  starts = subst (λ (p : ProgramsValue). Stays old.programs.starts p.starts) same (stays_refl old.programs.starts);
-  later = subst (λ (p : ProgramsValue). old.programs.faults ≤ p.faults) same (omega arith);
+  starts = subst (λ (p : ProgramsTold). Stays old.programs.starts p.starts) same (stays_refl old.programs.starts);
+  later = subst (λ (p : ProgramsTold). old.programs.faults ≤ p.faults) same (omega arith);
 }
 
 -- a mirror that is stuck and finds no memory to say so is cut short

@@ -1,9 +1,9 @@
 -- What is left once the children that were begun are stopped, and what that comes to.
+use Rattle.ann_outside.specs.Told.{ProgramsTold}
 use Rattle.std.proofs.Common.{◌≡◌, inl, inr, ◌∙◌, ℕ, suc, ◌+◌, ◌≤◌, ◌<◌, List, [], ◌∷◌, ◌++◌, refl, sym, ap, subst, length, length-append, arith}
 use Rattle.std.specs.Prelude.{Err}
 use Rattle.ann_outside.specs.Causes.{Stays}
 use Rattle.host_core.specs.CoreValue.{CoreValue}
-use Rattle.child_end.specs.Programs.{ProgramsValue}
 use Rattle.mirror_plan.specs.declared.plan.Plan.{Plan}
 use Rattle.mirror_children.specs.Children.{ChildValue, AreLinked}
 use Rattle.mirror_starts.specs.declared.beginning.Cause.{Cause}
@@ -53,7 +53,7 @@ front_fits front back plans cs are greeted =
     let whole : length plans ≡ length front + length back = ap (λ (ps : List Plan). length ps) are ∙ length-append front back in
     omega (arith, many, whole)
 
-module _ (plans : List Plan) (s : StoppedValue) (fresh : IsFreshFor plans s) (before after : ProgramsValue) (cs : List ChildValue) where
+module _ (plans : List Plan) (s : StoppedValue) (fresh : IsFreshFor plans s) (before after : ProgramsTold) (cs : List ChildValue) where
   -- the last one isn't ready
   module _ (n : ℕ) (b : BegunTo plans n before after cs) where
     to_linked : AreLinked cs
@@ -100,7 +100,7 @@ fresh_sound : (plans : List Plan) (s : StoppedValue) → IsFreshFor plans s → 
 fresh_sound plans s f = subst AreSoundLogs (sym f.logs) tt
 
 -- each is ready
-pub ready_kept : (plans : List Plan) (s : StoppedValue) (before after : ProgramsValue) (cs : List ChildValue) → IsFreshFor plans s → BegunAll plans before after cs → IsKept cs s.spare s.logs
+pub ready_kept : (plans : List Plan) (s : StoppedValue) (before after : ProgramsTold) (cs : List ChildValue) → IsFreshFor plans s → BegunAll plans before after cs → IsKept cs s.spare s.logs
 ready_kept plans s before after cs f b =
     (b.serving, (let many = ready_many plans cs b.ready in let spare = f.spare in omega (arith, many, spare)), inr f.logs, fresh_sound plans s f)
 
@@ -113,7 +113,7 @@ nothing_kept cs spare logs none empty =
     subst (λ (xs : List ChildValue). IsKept xs spare logs) (sym none) (none_kept spare logs (subst AreSoundLogs (sym empty) tt))
 
 -- all were stopped
-pub begun_sound : (plans : List Plan) (s t : StoppedValue) (before after : ProgramsValue) (cs : List ChildValue) → IsFreshFor plans s → (cause : Cause) → BeginsAllAs plans before after cs (Err cause) → StopsBegun cs s t cause → AreSoundLogs t.logs
+pub begun_sound : (plans : List Plan) (s t : StoppedValue) (before after : ProgramsTold) (cs : List ChildValue) → IsFreshFor plans s → (cause : Cause) → BeginsAllAs plans before after cs (Err cause) → StopsBegun cs s t cause → AreSoundLogs t.logs
 begun_sound plans s t before after cs f (Unready n) b stops = stops_sound cs s t stops (fresh_sound plans s f)
 begun_sound plans s t before after cs f (Unstarted n core) b (mid, stops, are) =
     subst AreSoundLogs (sym are) (sound_next mid.logs (log_of core) (stops_sound cs s mid stops (fresh_sound plans s f)) b.none.unwired.0)
@@ -121,16 +121,16 @@ begun_sound plans s t before after cs f NoMemory b stops = stops_sound cs s t st
 
 -- ---- what it comes to
 
-pub ready_settles : (plans : List Plan) (s : StoppedValue) (before after : ProgramsValue) (cs old : List ChildValue) (logs : List LogValue) → IsFreshFor plans s → BegunAll plans before after cs
+pub ready_settles : (plans : List Plan) (s : StoppedValue) (before after : ProgramsTold) (cs old : List ChildValue) (logs : List LogValue) → IsFreshFor plans s → BegunAll plans before after cs
     → AreAllReady plans (mirror_value before old logs) (mirror_value after cs s.logs)
 ready_settles plans s before after cs old logs f b = record { ready = b.ready; none = f.logs; starts = b.starts }
 
 -- no room was found, so nothing was done
-pub roomless_settles : (plans : List Plan) (programs : ProgramsValue) (old cs : List ChildValue) (was logs : List LogValue) → cs ≡ [] → logs ≡ [] → StartsAs plans (mirror_value programs old was) (mirror_value programs cs logs) Lacking
+pub roomless_settles : (plans : List Plan) (programs : ProgramsTold) (old cs : List ChildValue) (was logs : List LogValue) → cs ≡ [] → logs ≡ [] → StartsAs plans (mirror_value programs old was) (mirror_value programs cs logs) Lacking
 roomless_settles plans programs old cs was logs none empty = cut_none plans (mirror_value programs old was) (mirror_value programs cs logs) (nothing_done (mirror_value programs old was) (mirror_value programs cs logs) refl none empty)
 
 -- they were stopped
-pub begun_settles : (plans : List Plan) (s t : StoppedValue) (before mid after : ProgramsValue) (cs old : List ChildValue) (logs : List LogValue) → IsFreshFor plans s → Stays mid.starts after.starts → mid.faults ≤ after.faults
+pub begun_settles : (plans : List Plan) (s t : StoppedValue) (before mid after : ProgramsTold) (cs old : List ChildValue) (logs : List LogValue) → IsFreshFor plans s → Stays mid.starts after.starts → mid.faults ≤ after.faults
     → (cause : Cause) → BeginsAllAs plans before mid cs (Err cause) → StopsBegun cs s t cause → StartsAs plans (mirror_value before old logs) (mirror_value after [] t.logs) (standing_of cause)
 begun_settles plans s t before mid after cs old logs f stays later (Unready n) b stops =
     stuck_to plans (mirror_value before old logs) (mirror_value after [] t.logs) mid cs s t f.logs refl refl stops stays later n b

@@ -1,4 +1,5 @@
 -- What starting the children comes to, before any of them is stopped.
+use Rattle.ann_outside.specs.Told.{ProgramsTold}
 use Rattle.std.specs.Prelude.{ℕ, ◌≡◌, ◌⊎◌, ◌<◌, ◌≤◌, Bool, true, false, List, [], ◌∷◌, ◌++◌, length, Result, Ok, Err, IsOk}
 use Rattle.ann_outside.specs.declared.Sink.{Ghosts as SinkGhosts}
 use Rattle.ann_outside.specs.declared.Source.{Ghosts as SourceGhosts}
@@ -8,7 +9,7 @@ use Rattle.journal_model.specs.declared.verdict.Why.TheVariants.{Memory}
 use Rattle.journal_model.specs.declared.entry.What.TheVariants.{NoStart}
 use Rattle.host_core.specs.CoreValue.{CoreValue}
 use Rattle.child_start.specs.Greetings.{Greeted}
-use Rattle.child_end.specs.Programs.{AddsAll, ProgramsValue}
+use Rattle.child_end.specs.Programs.{AddsAll}
 use Rattle.mirror_plan.specs.declared.plan.Plan.{Plan}
 use Rattle.mirror_children.specs.Children.{child_value, ChildValue, AreLinked, AreServing, IsLinked, IsServing}
 use Rattle.mirror_starts.specs.declared.beginning.Cause.{Cause}
@@ -36,7 +37,7 @@ AreGreetedAs (p ∷ ps) (c ∷ cs) = IsGreetedAs p c × AreGreetedAs ps cs
 AreGreetedAs _ _ = ⊥
 
 -- the plan's program was started, and its child was greeted and comes after the others
-pub record Joins (p : Plan) (before after : ProgramsValue) (old new : List ChildValue) : Type 0 where
+pub record Joins (p : Plan) (before after : ProgramsTold) (old new : List ChildValue) : Type 0 where
   pub child : ChildValue
   pub are : new ≡ old ++ child ∷ []
   pub greeted : IsGreetedAs p child
@@ -49,7 +50,7 @@ pub record HasNotStarted (p : Plan) (core : CoreValue) : Type 0 where
   pub unwired : IsUnwired (log_of core)
 
 -- one more start may have been made for nothing
-abbrev pub MayHaveStarted : ProgramsValue → ProgramsValue → List ℕ → Type 0
+abbrev pub MayHaveStarted : ProgramsTold → ProgramsTold → List ℕ → Type 0
 MayHaveStarted before after program = Stays before.starts after.starts ⊎ ((b : Bool) × AddsOne before.starts after.starts (program, b))
 
 -- by why it ended
@@ -64,7 +65,7 @@ StandsAs p StandsUnready c = IsUnready c.journal
 StandsAs p StandsStarved c = Unit {0}
 
 -- what came of greeting the plan's child, whose core this is then
-abbrev pub MeetsAs : {I O S : Type 0} {sinks : SinkGhosts I} {sources : SourceGhosts O} → Plan → ProgramsValue → ProgramsValue → CoreValue → Met I O S sinks sources → Type 0
+abbrev pub MeetsAs : {I O S : Type 0} {sinks : SinkGhosts I} {sources : SourceGhosts O} → Plan → ProgramsTold → ProgramsTold → CoreValue → Met I O S sinks sources → Type 0
 MeetsAs p before after core (MetChild link stub stand) =
     IsGreetedAs p (child_value p.number core link.ear link.mouth) × AddsOne before.starts after.starts (p.program, true) × StandsAs p stand (child_value p.number core link.ear link.mouth)
 MeetsAs p before after core MetUnstarted = HasNotStarted p core × AddsOne before.starts after.starts (p.program, false) × Rose before.faults after.faults
@@ -77,7 +78,7 @@ StoodAs StandsUnready n result = result ≡ Err (Unready n)
 StoodAs StandsStarved n result = result ≡ Err NoMemory
 
 -- the plan's child is ready, or it isn't, for this cause
-abbrev pub BeginsAs : Plan → ProgramsValue → ProgramsValue → List ChildValue → List ChildValue → Result (Unit {0}) Cause → Type 0
+abbrev pub BeginsAs : Plan → ProgramsTold → ProgramsTold → List ChildValue → List ChildValue → Result (Unit {0}) Cause → Type 0
 BeginsAs p before after old new (Ok u) = (j : Joins p before after old new) × IsReadyAs p j.child × IsServing j.child
 BeginsAs p before after old new (Err (Unready n)) = (n ≡ p.number) × ((j : Joins p before after old new) × IsUnready j.child.journal)
 BeginsAs p before after old new (Err (Unstarted n core)) = (n ≡ p.number) × (new ≡ old) × HasNotStarted p core × AddsOne before.starts after.starts (p.program, false) × Rose before.faults after.faults
@@ -92,13 +93,13 @@ pub record Stands (plans front : List Plan) (p : Plan) (cs : List ChildValue) : 
   pub ready : AreReadyAs front cs
   pub greeted : AreGreetedAs front cs
 
-pub record BegunAll (plans : List Plan) (before after : ProgramsValue) (cs : List ChildValue) : Type 0 where
+pub record BegunAll (plans : List Plan) (before after : ProgramsTold) (cs : List ChildValue) : Type 0 where
   pub ready : AreReadyAs plans cs
   pub greeted : AreGreetedAs plans cs
   pub serving : AreServing cs
   pub starts : AddsAll before.starts after.starts (starts_of plans)
 
-pub record BegunTo (plans : List Plan) (n : ℕ) (before after : ProgramsValue) (cs : List ChildValue) : Type 0 where
+pub record BegunTo (plans : List Plan) (n : ℕ) (before after : ProgramsTold) (cs : List ChildValue) : Type 0 where
   pub front : List Plan
   pub plan : Plan
   pub first : List ChildValue
@@ -110,7 +111,7 @@ pub record BegunTo (plans : List Plan) (n : ℕ) (before after : ProgramsValue) 
   pub cause : IsUnready child.journal
   pub starts : AddsAll before.starts after.starts (starts_of (front ++ plan ∷ []))
 
-pub record BegunUpTo (plans : List Plan) (n : ℕ) (core : CoreValue) (before after : ProgramsValue) (cs : List ChildValue) : Type 0 where
+pub record BegunUpTo (plans : List Plan) (n : ℕ) (core : CoreValue) (before after : ProgramsTold) (cs : List ChildValue) : Type 0 where
   pub front : List Plan
   pub plan : Plan
   pub stands : Stands plans front plan cs
@@ -119,7 +120,7 @@ pub record BegunUpTo (plans : List Plan) (n : ℕ) (core : CoreValue) (before af
   pub rose : Rose before.faults after.faults
   pub starts : AddsAll before.starts after.starts (starts_of front ++ (plan.program, false) ∷ [])
 
-pub record BegunSome (plans : List Plan) (before after : ProgramsValue) (cs : List ChildValue) : Type 0 where
+pub record BegunSome (plans : List Plan) (before after : ProgramsTold) (cs : List ChildValue) : Type 0 where
   pub front : List Plan
   pub back : List Plan
   pub are : plans ≡ front ++ back
@@ -127,7 +128,7 @@ pub record BegunSome (plans : List Plan) (before after : ProgramsValue) (cs : Li
   pub starts : AddsAll before.starts after.starts (starts_of front)
       ⊎ ((program : List ℕ) × (b : Bool) × AddsAll before.starts after.starts (starts_of front ++ (program, b) ∷ []))
 
-abbrev pub BeginsAllAs : List Plan → ProgramsValue → ProgramsValue → List ChildValue → Result (Unit {0}) Cause → Type 0
+abbrev pub BeginsAllAs : List Plan → ProgramsTold → ProgramsTold → List ChildValue → Result (Unit {0}) Cause → Type 0
 BeginsAllAs plans before after cs (Ok u) = BegunAll plans before after cs
 BeginsAllAs plans before after cs (Err (Unready n)) = BegunTo plans n before after cs
 BeginsAllAs plans before after cs (Err (Unstarted n core)) = BegunUpTo plans n core before after cs

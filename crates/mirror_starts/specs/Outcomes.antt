@@ -1,8 +1,9 @@
 -- What starting the children of all plans comes to.
+use Rattle.ann_outside.specs.Told.{ProgramsTold}
 use Rattle.std.specs.Prelude.{ℕ, ◌≡◌, ◌⊎◌, ◌≤◌, false, List, [], ◌∷◌, ◌++◌, length}
 use Rattle.ann_outside.specs.Causes.{Rose, Stays}
 use Rattle.ann_outside.specs.Starts.{Starts}
-use Rattle.child_end.specs.Programs.{AddsAll, ProgramsValue}
+use Rattle.child_end.specs.Programs.{AddsAll}
 use Rattle.mirror_plan.specs.declared.plan.Plan.{Plan}
 use Rattle.mirror_children.specs.Children.{ChildValue, AreServing}
 use Rattle.mirror_starts.specs.declared.starting.Standing.{Standing}
@@ -14,11 +15,11 @@ use Rattle.mirror_starts.specs.Readiness.{AreReadyAs, AreStoppedAs, AreLeftAs, A
 
 -- The programs; the children of the last prepare, where it said Yes; and what it left of its children, where it didn't.
 pub record MirrorValue : Type 0 where
-  pub programs : ProgramsValue
+  pub programs : ProgramsTold
   pub children : List ChildValue
   pub logs : List LogValue
 
-abbrev pub mirror_value : ProgramsValue → List ChildValue → List LogValue → MirrorValue
+abbrev pub mirror_value : ProgramsTold → List ChildValue → List LogValue → MirrorValue
 mirror_value programs children logs = record { programs = programs; children = children; logs = logs }
 
 -- Its children serve, there is room to stop them, they are not there together with logs, and the logs are sound.

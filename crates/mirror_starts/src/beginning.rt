@@ -1,6 +1,5 @@
 // Starting the children of a mirror, one for each plan.
 ghost use Rattle.std.specs.Prelude.{◌≡◌, ◌≤◌, ◌<◌, ◌+◌, [], length, vec_capacity, vec_len};
-ghost use Rattle.child_end.specs.Programs.{programs_value};
 ghost use Rattle.mirror_starts.specs.Openings.{mirror_opening};
 ghost use Rattle.mirror_starts.specs.Beginnings.{stand_of_end, BeginsAs, BeginsAllAs, MeetsAs, StoodAs};
 
@@ -63,8 +62,8 @@ where
     P::Outlet: Drop,
     requires empty { core.old.journal ≡ [] }
     requires opening { core.old.opening ≡ mirror_opening plan.now.registers }
-    ensures meets { MeetsAs plan.now (programs_value (P.starts programs.old) (P.faults programs.old)) (programs_value (P.starts programs.new) (P.faults programs.new)) core.new result }
-    ensures later { P.faults programs.old ≤ P.faults programs.new }
+    ensures meets { MeetsAs plan.now (P.told programs.old) (P.told programs.new) core.new result }
+    ensures later { (P.told programs.old).faults ≤ (P.told programs.new).faults }
 {
     let program = plan.program.view();
     match greet(alloc, programs, program, core, 0, false, Mode::Serve) {
@@ -106,8 +105,8 @@ where
     P::Inlet: Drop,
     P::Outlet: Drop,
     requires room { vec_len children.old < vec_capacity children.old }
-    ensures begins { BeginsAs plan.now (programs_value (P.starts programs.old) (P.faults programs.old)) (programs_value (P.starts programs.new) (P.faults programs.new)) children.old.items children.new.items result }
-    ensures later { P.faults programs.old ≤ P.faults programs.new }
+    ensures begins { BeginsAs plan.now (P.told programs.old) (P.told programs.new) children.old.items children.new.items result }
+    ensures later { (P.told programs.old).faults ≤ (P.told programs.new).faults }
     ensures capacity { vec_capacity children.new ≡ vec_capacity children.old }
 {
     let number = plan.number;
@@ -142,8 +141,8 @@ where
     P::Outlet: Drop,
     requires none { children.old.items ≡ [] }
     requires room { vec_len children.old + length plans.now ≤ vec_capacity children.old }
-    ensures begins { BeginsAllAs plans.now (programs_value (P.starts programs.old) (P.faults programs.old)) (programs_value (P.starts programs.new) (P.faults programs.new)) children.new.items result }
-    ensures later { P.faults programs.old ≤ P.faults programs.new }
+    ensures begins { BeginsAllAs plans.now (P.told programs.old) (P.told programs.new) children.new.items result }
+    ensures later { (P.told programs.old).faults ≤ (P.told programs.new).faults }
 {
     for plan in plans {
         begin(alloc, programs, plan, children)?;

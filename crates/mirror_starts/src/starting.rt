@@ -1,7 +1,6 @@
 // Starting all children of a mirror, and stopping them where one isn't ready.
 ghost use Rattle.std.specs.Prelude.{◌≡◌, ◌≤◌, [], OnOk, vec_capacity};
 ghost use Rattle.ann_outside.specs.Causes.{Stays};
-ghost use Rattle.child_end.specs.Programs.{programs_value};
 ghost use Rattle.mirror_starts.specs.Beginnings.{MayStop, StopsBegun};
 ghost use Rattle.mirror_starts.specs.Outcomes.{IsKept, StartsAs, mirror_value, standing_of};
 
@@ -54,8 +53,8 @@ where
     requires may { MayStop children.items stopped.old cause }
     ensures stops { StopsBegun children.items stopped.old stopped.new cause }
     ensures standing { result ≡ standing_of cause }
-    ensures starts { Stays (P.starts programs.old) (P.starts programs.new) }
-    ensures later { P.faults programs.old ≤ P.faults programs.new }
+    ensures starts { Stays (P.told programs.old).starts (P.told programs.new).starts }
+    ensures later { (P.told programs.old).faults ≤ (P.told programs.new).faults }
 {
     stop_all(programs, children, stopped);
     match cause {
@@ -81,7 +80,7 @@ where
     P::Outlet: Drop,
     P::Stub: Drop,
     requires none { (children.old.items ≡ []) × (stopped.old.logs ≡ []) }
-    ensures starts { StartsAs plans.now (mirror_value (programs_value (P.starts programs.old) (P.faults programs.old)) children.old.items stopped.old.logs) (mirror_value (programs_value (P.starts programs.new) (P.faults programs.new)) children.new.items stopped.new.logs) result }
+    ensures starts { StartsAs plans.now (mirror_value (P.told programs.old) children.old.items stopped.old.logs) (mirror_value (P.told programs.new) children.new.items stopped.new.logs) result }
     ensures kept { IsKept children.new.items stopped.new.spare stopped.new.logs }
 {
     let Ok(()) = make_room(alloc, plans.len(), children, stopped) else {

@@ -113,8 +113,8 @@ where
     requires linked { IsLinked child }
     requires room { 0 < stopped.old.spare }
     ensures stops { Stops child stopped.old stopped.new }
-    ensures starts { Stays (P.starts programs.old) (P.starts programs.new) }
-    ensures later { P.faults programs.old ≤ P.faults programs.new }
+    ensures starts { Stays (P.told programs.old).starts (P.told programs.new).starts }
+    ensures later { (P.told programs.old).faults ≤ (P.told programs.new).faults }
 {
     let Child {
         number: _,
@@ -141,8 +141,8 @@ where
     requires linked { AreLinked children.items }
     requires room { length children.items ≤ stopped.old.spare }
     ensures stops { StopsAll children.items stopped.old stopped.new }
-    ensures starts { Stays (P.starts programs.old) (P.starts programs.new) }
-    ensures later { P.faults programs.old ≤ P.faults programs.new }
+    ensures starts { Stays (P.told programs.old).starts (P.told programs.new).starts }
+    ensures later { (P.told programs.old).faults ≤ (P.told programs.new).faults }
 {
     for child in children {
         stop(programs, child, stopped);

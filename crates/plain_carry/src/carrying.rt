@@ -21,11 +21,11 @@ pub const READ_SIZE: usize = 4096;
 
 // What is passed on of the line is written, and handed on at once.
 fn pass_line<V: Way, W: Sink>(way: &mut V, sink: &mut W, line: &[u8]) -> Result<(), End>
-    requires { W.is_open sink.old ≡ true }
-    ensures passes { Passes V.passes (W.taken sink.old) (W.taken sink.new) line.now result }
-    ensures later { W.faults sink.old ≤ W.faults sink.new }
-    ensures fault { result ≡ Err WriteFault → Rose (W.faults sink.old) (W.faults sink.new) }
-    ensures open { W.is_open sink.new ≡ true }
+    requires { (W.told sink.old).is_open ≡ true }
+    ensures passes { Passes V.passes (W.told sink.old).taken (W.told sink.new).taken line.now result }
+    ensures later { (W.told sink.old).faults ≤ (W.told sink.new).faults }
+    ensures fault { result ≡ Err WriteFault → Rose (W.told sink.old).faults (W.told sink.new).faults }
+    ensures open { (W.told sink.new).is_open ≡ true }
 {
     match way.pass(line) {
         Ok(Some(passed)) => match write_line(sink, passed.view()) {
@@ -39,15 +39,15 @@ fn pass_line<V: Way, W: Sink>(way: &mut V, sink: &mut W, line: &[u8]) -> Result<
 
 // Room is taken before the read for all that it may give, so that no byte is lost.
 fn fill<S: Source>(splitter: &mut Splitter, source: &mut S) -> Result<(), End>
-    requires { S.is_open source.old ≡ true }
-    ensures reads { ReadsOn (S.given source.old) (S.given source.new) splitter.old.bytes splitter.new.bytes }
+    requires { (S.told source.old).is_open ≡ true }
+    ensures reads { ReadsOn (S.told source.old).given (S.told source.new).given splitter.old.bytes splitter.new.bytes }
     ensures kept { IfErr result (λ _. splitter.new.bytes ≡ splitter.old.bytes) }
-    ensures end { result ≡ Err Eof → IfSome (S.left source.new) (λ bytes. bytes ≡ []) }
-    ensures fault { result ≡ Err ReadFault → Rose (S.faults source.old) (S.faults source.new) }
+    ensures end { result ≡ Err Eof → IfSome (S.told source.new).left (λ bytes. bytes ≡ []) }
+    ensures fault { result ≡ Err ReadFault → Rose (S.told source.old).faults (S.told source.new).faults }
     ensures others { (result ≡ Err Long → ⊥) × (result ≡ Err WriteFault → ⊥) }
-    ensures later { S.faults source.old ≤ S.faults source.new }
+    ensures later { (S.told source.old).faults ≤ (S.told source.new).faults }
     ensures limit { splitter.new.limit ≡ splitter.old.limit }
-    ensures open { S.is_open source.new ≡ true }
+    ensures open { (S.told source.new).is_open ≡ true }
 {
     if splitter.reserve(READ_SIZE).is_err() {
         return Err(End::Memory);
@@ -70,17 +70,17 @@ fn turn<V: Way, S: Source, W: Sink>(
     source: &mut S,
     sink: &mut W,
 ) -> Result<(), End>
-    requires source { S.is_open source.old ≡ true }
-    requires sink { W.is_open sink.old ≡ true }
+    requires source { (S.told source.old).is_open ≡ true }
+    requires sink { (W.told sink.old).is_open ≡ true }
     requires limit { splitter.old.limit ≡ longest_line }
-    ensures goes { OnOk result (GoesOn V.passes (told (S.given source.old) (W.taken sink.old)) (told (S.given source.new) (W.taken sink.new)) splitter.old.bytes splitter.new.bytes) }
-    ensures ended { IfErr result (ComesTo V.passes (told (S.given source.old) (W.taken sink.old)) (told (S.given source.new) (W.taken sink.new)) splitter.old.bytes) }
-    ensures end { result ≡ Err Eof → IfSome (S.left source.new) (λ bytes. bytes ≡ []) }
-    ensures read_fault { result ≡ Err ReadFault → Rose (S.faults source.old) (S.faults source.new) }
-    ensures write_fault { result ≡ Err WriteFault → Rose (W.faults sink.old) (W.faults sink.new) }
-    ensures later { (S.faults source.old ≤ S.faults source.new) × (W.faults sink.old ≤ W.faults sink.new) }
+    ensures goes { OnOk result (GoesOn V.passes (told (S.told source.old).given (W.told sink.old).taken) (told (S.told source.new).given (W.told sink.new).taken) splitter.old.bytes splitter.new.bytes) }
+    ensures ended { IfErr result (ComesTo V.passes (told (S.told source.old).given (W.told sink.old).taken) (told (S.told source.new).given (W.told sink.new).taken) splitter.old.bytes) }
+    ensures end { result ≡ Err Eof → IfSome (S.told source.new).left (λ bytes. bytes ≡ []) }
+    ensures read_fault { result ≡ Err ReadFault → Rose (S.told source.old).faults (S.told source.new).faults }
+    ensures write_fault { result ≡ Err WriteFault → Rose (W.told sink.old).faults (W.told sink.new).faults }
+    ensures later { ((S.told source.old).faults ≤ (S.told source.new).faults) × ((W.told sink.old).faults ≤ (W.told sink.new).faults) }
     ensures limit { splitter.new.limit ≡ longest_line }
-    ensures open { (S.is_open source.new ≡ true) × (W.is_open sink.new ≡ true) }
+    ensures open { ((S.told source.new).is_open ≡ true) × ((W.told sink.new).is_open ≡ true) }
 {
     match splitter.first() {
         Next::Line(line) => {
@@ -100,15 +100,15 @@ fn take_turns<V: Way, S: Source, W: Sink>(
     source: &mut S,
     sink: &mut W,
 ) -> End
-    requires source { S.is_open source.old ≡ true }
-    requires sink { W.is_open sink.old ≡ true }
+    requires source { (S.told source.old).is_open ≡ true }
+    requires sink { (W.told sink.old).is_open ≡ true }
     requires limit { splitter.old.limit ≡ longest_line }
-    ensures ended { ComesTo V.passes (told (S.given source.old) (W.taken sink.old)) (told (S.given source.new) (W.taken sink.new)) splitter.old.bytes result }
-    ensures end { result ≡ Eof → IfSome (S.left source.new) (λ bytes. bytes ≡ []) }
-    ensures read_fault { result ≡ ReadFault → Rose (S.faults source.old) (S.faults source.new) }
-    ensures write_fault { result ≡ WriteFault → Rose (W.faults sink.old) (W.faults sink.new) }
-    ensures later { (S.faults source.old ≤ S.faults source.new) × (W.faults sink.old ≤ W.faults sink.new) }
-    ensures open { (S.is_open source.new ≡ true) × (W.is_open sink.new ≡ true) }
+    ensures ended { ComesTo V.passes (told (S.told source.old).given (W.told sink.old).taken) (told (S.told source.new).given (W.told sink.new).taken) splitter.old.bytes result }
+    ensures end { result ≡ Eof → IfSome (S.told source.new).left (λ bytes. bytes ≡ []) }
+    ensures read_fault { result ≡ ReadFault → Rose (S.told source.old).faults (S.told source.new).faults }
+    ensures write_fault { result ≡ WriteFault → Rose (W.told sink.old).faults (W.told sink.new).faults }
+    ensures later { ((S.told source.old).faults ≤ (S.told source.new).faults) × ((W.told sink.old).faults ≤ (W.told sink.new).faults) }
+    ensures open { ((S.told source.new).is_open ≡ true) × ((W.told sink.new).is_open ≡ true) }
 {
     for _ in 0..u64::MAX {
         match turn(way, splitter, source, sink) {
@@ -127,14 +127,14 @@ pub fn carry<V: Way, S: Source, W: Sink>(
     source: &mut S,
     sink: &mut W,
 ) -> End
-    requires source { S.is_open source.old ≡ true }
-    requires sink { W.is_open sink.old ≡ true }
-    ensures carries { Carries V.passes (told (S.given source.old) (W.taken sink.old)) (told (S.given source.new) (W.taken sink.new)) result }
-    ensures end { result ≡ Eof → IfSome (S.left source.new) (λ bytes. bytes ≡ []) }
-    ensures read_fault { result ≡ ReadFault → Rose (S.faults source.old) (S.faults source.new) }
-    ensures write_fault { result ≡ WriteFault → Rose (W.faults sink.old) (W.faults sink.new) }
-    ensures later { (S.faults source.old ≤ S.faults source.new) × (W.faults sink.old ≤ W.faults sink.new) }
-    ensures open { (S.is_open source.new ≡ true) × (W.is_open sink.new ≡ true) }
+    requires source { (S.told source.old).is_open ≡ true }
+    requires sink { (W.told sink.old).is_open ≡ true }
+    ensures carries { Carries V.passes (told (S.told source.old).given (W.told sink.old).taken) (told (S.told source.new).given (W.told sink.new).taken) result }
+    ensures end { result ≡ Eof → IfSome (S.told source.new).left (λ bytes. bytes ≡ []) }
+    ensures read_fault { result ≡ ReadFault → Rose (S.told source.old).faults (S.told source.new).faults }
+    ensures write_fault { result ≡ WriteFault → Rose (W.told sink.old).faults (W.told sink.new).faults }
+    ensures later { ((S.told source.old).faults ≤ (S.told source.new).faults) × ((W.told sink.old).faults ≤ (W.told sink.new).faults) }
+    ensures open { ((S.told source.new).is_open ≡ true) × ((W.told sink.new).is_open ≡ true) }
 {
     let mut splitter = Splitter::new(alloc, LONGEST_LINE);
     take_turns(way, &mut splitter, source, sink)

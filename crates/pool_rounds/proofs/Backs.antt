@@ -1,4 +1,5 @@
 -- What came back of workers that have a child each.
+use Rattle.ann_outside.specs.Told.{DeskTold}
 use Rattle.std.proofs.Common.{◌≡◌, ℕ, ◌+◌, List, [], ◌∷◌, map, true, false, refl, sym, subst, zero, suc}
 use Rattle.std.specs.Prelude.{All}
 use Rattle.std.specs.List.{list_any}
@@ -13,7 +14,6 @@ use Rattle.gathering.specs.Pairs.{Pairwise}
 use Rattle.gathering.specs.Rounds.{CorePass, LinkValue}
 use Rattle.gathering.specs.Tasks.{IsThrough}
 use Rattle.task_run.specs.declared.setup.Setup.{Setup}
-use Rattle.lone_work.specs.Works.{DeskTells}
 use Rattle.crew_work.specs.Crews.{Worked}
 use Rattle.crew_work.proofs.Working.{passed_none, worked_still}
 use Rattle.crew_round.specs.declared.back.Back.{Back}
@@ -34,7 +34,7 @@ LoneRan h setup a b =
     × IsSameLink a.link.ear b.link.ear a.link.mouth b.link.mouth
 
 -- said of the hall of the round
-pub lone_so : (h₀ h : HallValue Entry Opening) (setup₀ setup : Setup) (p q : CorePass) (c : ℕ) (Before After : Type 0) (d d' : DeskTells) → h₀ ≡ h → setup₀ ≡ setup
+pub lone_so : (h₀ h : HallValue Entry Opening) (setup₀ setup : Setup) (p q : CorePass) (c : ℕ) (Before After : Type 0) (d d' : DeskTold) → h₀ ≡ h → setup₀ ≡ setup
     → WorkerRan h₀ setup₀ p q true c Before After d d' → WorkerRan h setup p q true c Before After d d'
 lone_so h₀ h setup₀ setup p q c Before After d d' hall_is setup_is r =
     subst (λ x. WorkerRan x setup p q true c Before After d d') hall_is (subst (λ x. WorkerRan h₀ x p q true c Before After d d') setup_is r)

@@ -1,4 +1,5 @@
 -- The hall of a round over a pool is closed.
+use Rattle.ann_outside.specs.Told.{DeskTold}
 use Rattle.std.proofs.Common.{◌≡◌, ℕ, suc, ◌+◌, ◌-◌, List, [], ◌∷◌, ◌++◌, refl, sym, ap, subst, ◌∙◌, Some, length, arith, slice_get}
 use Rattle.std.specs.Prelude.{All, map}
 use Rattle.std.specs.List.{range_with_len}
@@ -28,7 +29,7 @@ use Rattle.gathering.proofs.WholeRounds.{pool_gathers}
 use Rattle.task_run.specs.declared.setup.Setup.{Setup}
 use Rattle.gathering.specs.JournalRuns.{HasJournalRun}
 use Rattle.gathering.proofs.Lasting.{run_lasts}
-use Rattle.lone_work.specs.Works.{DeskTells, TaskDone}
+use Rattle.lone_work.specs.Works.{TaskDone}
 use Rattle.crew_rounds.specs.Coming.{IsFresh}
 use Rattle.crew_rounds.specs.Crewing.{calls_from}
 use Rattle.crew_rounds.specs.declared.outcome.Outcome.{Outcome}
@@ -142,16 +143,16 @@ module _ (h : HallValue Entry Opening) (setup : Setup) (main : CorePass) (starts
 
 -- ---- in terms of what the workers left
 
-pub closes : (h : HallValue Entry Opening) (setup : Setup) (links links' : List LinkValue) (passes : List CorePass) (final : List Entry) (fixed : Opening) (desks desks' : List DeskTells)
+pub closes : (h : HallValue Entry Opening) (setup : Setup) (links links' : List LinkValue) (passes : List CorePass) (final : List Entry) (fixed : Opening) (desks desks' : List DeskTold)
     → Over h passes final fixed → PoolCan h.fixed h.start links → PoolLeft h setup links links' passes desks desks'
     → GoesOn h.start final (λ rest. PoolLeaves h.fixed setup (range_with_len 1 (1 + length desks)) h.start rest links links' desks desks')
 closes h setup links links' passes final fixed desks desks' over can left =
     subst (λ (ls : List LinkValue). GoesOn h.start final (λ rest. PoolLeaves h.fixed setup (range_with_len 1 (1 + length desks)) h.start rest ls links' desks desks')) (sym left.links_are.0)
     (subst (λ (ls : List LinkValue). GoesOn h.start final (λ rest. PoolLeaves h.fixed setup (range_with_len 1 (1 + length desks)) h.start rest (links_of left.starts) ls desks desks')) (sym left.links_are.1)
     (subst (λ (ns : List ℕ). GoesOn h.start final (λ rest. PoolLeaves h.fixed setup ns h.start rest (links_of left.starts) (links_of left.ends) desks desks')) numbers
-    (subst (λ (ds : List DeskTells). GoesOn h.start final (λ rest. PoolLeaves h.fixed setup (numbers_of (left.main ∷ passes_of left.ends)) h.start rest (links_of left.starts) (links_of left.ends) ds desks'))
+    (subst (λ (ds : List DeskTold). GoesOn h.start final (λ rest. PoolLeaves h.fixed setup (numbers_of (left.main ∷ passes_of left.ends)) h.start rest (links_of left.starts) (links_of left.ends) ds desks'))
     (sym left.desks_are.0)
-    (subst (λ (ds : List DeskTells). GoesOn h.start final (λ rest. PoolLeaves h.fixed setup (numbers_of (left.main ∷ passes_of left.ends)) h.start rest (links_of left.starts) (links_of left.ends)
+    (subst (λ (ds : List DeskTold). GoesOn h.start final (λ rest. PoolLeaves h.fixed setup (numbers_of (left.main ∷ passes_of left.ends)) h.start rest (links_of left.starts) (links_of left.ends)
     (desks_of left.starts) ds)) (sym left.desks_are.1)
     (pool_closes h setup left.main left.starts left.ends left.came left.still left.fresh (subst (PoolCan h.fixed h.start) left.links_are.0 can) left.through final fixed
     (subst (λ (ps : List CorePass). Over h ps final fixed) left.passes_are over))))))
@@ -168,7 +169,7 @@ closes h setup links links' passes final fixed desks desks' over can left =
 -- in terms of the core
 module _ (h : HallValue Entry Opening) (opening : Opening) (start : List Entry) (start_is : h.start ≡ start) (fixed_is : h.fixed ≡ opening) (passes : List CorePass) (final : List Entry) (fixed : Opening)
     (over : Over h passes final fixed) (o : Outcome) where
-  pub closes_done : (setup : Setup) (links links' : List LinkValue) (desks desks' : List DeskTells) (n : ℕ) → length desks ≡ n → PoolCan opening start links
+  pub closes_done : (setup : Setup) (links links' : List LinkValue) (desks desks' : List DeskTold) (n : ℕ) → length desks ≡ n → PoolCan opening start links
       → IfDone o (PoolLeft h setup links links' passes desks desks')
       → IfDone o (GoesOn start final (λ rest. PoolLeaves opening setup (range_with_len 1 (1 + n)) start rest links links' desks desks'))
   closes_done setup links links' desks desks' n count can left =

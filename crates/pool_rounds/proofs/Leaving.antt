@@ -1,4 +1,5 @@
 -- What the workers of a round over a pool leave, put together.
+use Rattle.ann_outside.specs.Told.{DeskTold}
 use Rattle.std.proofs.Common.{◌≡◌, List, [], ◌∷◌, map, Bool, true, false, refl, sym, ap, subst, ◌∙◌, suc, length}
 use Rattle.std.specs.Prelude.{All, Option, Some, None, reverse}
 use Rattle.std.specs.List.{list_any}
@@ -10,7 +11,6 @@ use Rattle.journal_model.specs.declared.opening.Opening.{Opening}
 use Rattle.gathering.specs.Pairs.{Pairwise}
 use Rattle.gathering.specs.Rounds.{CorePass, LinkValue}
 use Rattle.task_run.specs.declared.setup.Setup.{Setup}
-use Rattle.lone_work.specs.Works.{DeskTells}
 use Rattle.crew_round.specs.declared.back.Back.{Back}
 use Rattle.crew_round.specs.declared.slot.Refused.{Refused}
 use Rattle.crew_round.specs.Back.{CameBack}
@@ -25,7 +25,7 @@ use Rattle.pool_rounds.specs.Left.{IsThroughAt, LoneBack, LoneTells, PoolLeft, d
 use Rattle.pool_rounds.specs.Pool.{AreAsBefore, AreSameLinks}
 use Rattle.pool_rounds.proofs.Backs.{LoneRan, came_all, came_own, came_same, through_one}
 
-module _ {W L K : Type 0} (wp : W → CorePass) (ww : W → L) (wd : W → K) (link : L → LinkValue) (desk : K → DeskTells) (ran : W → W → Type 0) (h : HallValue Entry Opening) (setup : Setup)
+module _ {W L K : Type 0} (wp : W → CorePass) (ww : W → L) (wd : W → K) (link : L → LinkValue) (desk : K → DeskTold) (ran : W → W → Type 0) (h : HallValue Entry Opening) (setup : Setup)
     (Placed : W → Type 0) (main : CorePass) (ws : List W) (passes : List CorePass) (links : List L) (desks : List K) where
   abbrev pub tells : W → LoneTells
   tells w = record { pass = wp w; link = link (ww w); desk = desk (wd w) }

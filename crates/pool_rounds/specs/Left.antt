@@ -1,4 +1,5 @@
 -- What the workers of a pool leave when their threads are joined.
+use Rattle.ann_outside.specs.Told.{DeskTold}
 use Rattle.std.specs.Prelude.{ℕ, ◌≡◌, Bool, true, false, List, ◌∷◌, Option, Some, None, map, slice_get}
 use Rattle.hall.specs.Passes.{HallValue, IsPassOf, seen_of}
 use Rattle.journal_model.specs.declared.entry.Entry.{Entry}
@@ -9,7 +10,6 @@ use Rattle.gathering.specs.Pairs.{Pairwise}
 use Rattle.gathering.specs.Rounds.{CorePass, LinkValue, since}
 use Rattle.gathering.specs.Tasks.{IsThrough, IsThroughAfterAgain}
 use Rattle.task_run.specs.declared.setup.Setup.{Setup}
-use Rattle.lone_work.specs.Works.{DeskTells}
 use Rattle.crew_work.specs.Crews.{Worked}
 use Rattle.crew_rounds.specs.Coming.{IsFresh}
 use Rattle.crew_rounds.specs.declared.outcome.Outcome.{Outcome}
@@ -27,7 +27,7 @@ done_if false None = NoMemory
 pub record LoneTells : Type 0 where
   pub pass : CorePass
   pub link : LinkValue
-  pub desk : DeskTells
+  pub desk : DeskTold
 
 abbrev pub passes_of : List LoneTells → List CorePass
 passes_of es = map (λ (e : LoneTells). e.pass) es
@@ -35,7 +35,7 @@ passes_of es = map (λ (e : LoneTells). e.pass) es
 abbrev pub links_of : List LoneTells → List LinkValue
 links_of es = map (λ (e : LoneTells). e.link) es
 
-abbrev pub desks_of : List LoneTells → List DeskTells
+abbrev pub desks_of : List LoneTells → List DeskTold
 desks_of es = map (λ (e : LoneTells). e.desk) es
 
 -- The pass came back, and with it the link and the desk, as a worker leaves them that has its child for itself. Where it left a task
@@ -57,7 +57,7 @@ pub record IsThroughAt (h : HallValue Entry Opening) (ends : List LoneTells) : T
 
 -- The passes of the main thread, which has done nothing, and of the workers, their links and their desks, as they began and as
 -- they end.
-pub record PoolLeft (h : HallValue Entry Opening) (setup : Setup) (links links' : List LinkValue) (passes : List CorePass) (desks desks' : List DeskTells) : Type 0 where
+pub record PoolLeft (h : HallValue Entry Opening) (setup : Setup) (links links' : List LinkValue) (passes : List CorePass) (desks desks' : List DeskTold) : Type 0 where
   pub main : CorePass
   pub starts : List LoneTells
   pub ends : List LoneTells

@@ -1,4 +1,5 @@
 -- A round over a pool of children: where it may begin, and what it leaves.
+use Rattle.ann_outside.specs.Told.{DeskTold}
 use Rattle.std.specs.Prelude.{ℕ, ◌≡◌, List, ◌++◌, Some, All}
 use Rattle.journal_model.specs.declared.verdict.Why.TheVariants.{Closed}
 use Rattle.journal_model.specs.declared.entry.Entry.{Entry}
@@ -12,7 +13,7 @@ use Rattle.gathering.specs.Rounds.{LinkValue, IsAtRest, Round}
 use Rattle.gathering.specs.Laws.{Distinct, children_of}
 use Rattle.task_run.specs.declared.setup.Setup.{Setup}
 use Rattle.gathering.specs.JournalRuns.{HasJournalRun}
-use Rattle.lone_work.specs.Works.{DeskTells, TaskDone}
+use Rattle.lone_work.specs.Works.{TaskDone}
 use Rattle.crew_work.specs.Crews.{CanServe}
 use Rattle.crew_rounds.specs.Crewing.{DesksDid, calls_from}
 
@@ -27,7 +28,7 @@ AreAsBefore links links' desks desks' = (links' ≡ links) × (desks' ≡ desks)
 -- What Round says of a pool over these links, where each turn that was taken has its run in the journal, with the calls that its
 -- worker's desk made for it; each desk made the calls of its worker's runs, in their order, and no others; and in the journal each
 -- request to a child was written before a line answered it. The workers have the numbers from 2 on.
-pub record PoolLeaves (o : Opening) (setup : Setup) (numbers : List ℕ) (start rest : List Entry) (links links' : List LinkValue) (desks desks' : List DeskTells) : Type 0 where
+pub record PoolLeaves (o : Opening) (setup : Setup) (numbers : List ℕ) (start rest : List Entry) (links links' : List LinkValue) (desks desks' : List DeskTold) : Type 0 where
   pub dones : List (List TaskDone)
   pub round : Round o (HasJournalRun o setup (calls_from 2 dones)) (pool_crew (children_of links)) numbers start rest links'
   pub desks_did : DesksDid o setup start rest 2 dones desks desks'

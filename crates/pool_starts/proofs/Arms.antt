@@ -1,4 +1,5 @@
 -- What one start came to: a child that serves, one that is over, or none.
+use Rattle.ann_outside.specs.Told.{ProgramsTold}
 use Rattle.std.proofs.Common.{◌≡◌, ℕ, ◌≤◌, List, [], ◌∷◌, ◌++◌, refl, sym, ap, subst, ◌∙◌, append_assoc, append-nil, true, false, not, ◌==◌, Some, None, arith, inl, inr}
 use Rattle.std.specs.Prelude.{is_some}
 use Rattle.std.specs.List.{list_all}
@@ -20,7 +21,6 @@ use Rattle.link_roles.specs.Alone.{Closes}
 use Rattle.link_roles.specs.Writings.{LoneWired}
 use Rattle.child_start.specs.Greetings.{AreNumbered, Greeted, IsReady, is_of_greeting}
 use Rattle.child_start.proofs.Jobs.{idle_on}
-use Rattle.child_end.specs.Programs.{ProgramsValue}
 use Rattle.link_roles.specs.Wires.{WireValue}
 use Rattle.child_end.proofs.Held.{lone_held}
 use Rattle.lone_work.specs.KnownLayouts.{IsBook}
@@ -75,7 +75,7 @@ module _ (old g : List Entry) (slot c : ℕ) (greeted : Greeted old g slot false
       let bad : false ≡ true = ap is_unclosed (sym why) ∙ unclosed in
       absurd cc
 
-module _ (o : Opening) (program : List ℕ) (slot : ℕ) (old g : List Entry) (before mid : ProgramsValue) (ear : EarValue) (mouth : MouthValue) (seats seats' : List SeatValue) (links links' : List LinkValue)
+module _ (o : Opening) (program : List ℕ) (slot : ℕ) (old g : List Entry) (before mid : ProgramsTold) (ear : EarValue) (mouth : MouthValue) (seats seats' : List SeatValue) (links links' : List LinkValue)
     (greeted : Greeted old g slot false ear.child) (one : mouth.child ≡ ear.child) (numbered : AreNumbered mid.starts ear mouth) (adds : AddsOne before.starts mid.starts (program, true)) (faults : before.faults ≤ mid.faults) where
   -- the child is ready
   pub ready_seats : Legal o old → Legal o g → IsBook o.notes → IsReady g ear.child → LoneWired g ear mouth → seats' ≡ seats ++ Serves ∷ [] → links' ≡ links ++ link_of ear mouth ∷ []
@@ -115,7 +115,7 @@ module _ (o : Opening) (program : List ℕ) (slot : ℕ) (old g : List Entry) (b
   }
 
   -- it isn't, and was closed
-  module _ (new : List Entry) (after : ProgramsValue) (undone : is_done (verdict_of g ear.child 1) ≡ false) (closes : Closes 0 ear.child g new) (wired : LoneWired new ear mouth) (over : SeatsOver ear mouth mid after seats seats' links links') where
+  module _ (new : List Entry) (after : ProgramsTold) (undone : is_done (verdict_of g ear.child 1) ≡ false) (closes : Closes 0 ear.child g new) (wired : LoneWired new ear mouth) (over : SeatsOver ear mouth mid after seats seats' links links') where
     k : Closing ear.child g new
     k = closing ear.child g new closes
 
@@ -165,7 +165,7 @@ module _ (o : Opening) (program : List ℕ) (slot : ℕ) (old g : List Entry) (b
     }
 
 -- no child was started
-pub fault_seats : (o : Opening) (program : List ℕ) (slot : ℕ) (old new : List Entry) (before after : ProgramsValue) (seats : List SeatValue) (links : List LinkValue) → new ≡ old ++ main_entry (NoStart slot) ∷ [] → IsAtRest old
+pub fault_seats : (o : Opening) (program : List ℕ) (slot : ℕ) (old new : List Entry) (before after : ProgramsTold) (seats : List SeatValue) (links : List LinkValue) → new ≡ old ++ main_entry (NoStart slot) ∷ [] → IsAtRest old
     → AddsOne before.starts after.starts (program, false) → Rose before.faults after.faults → before.faults ≤ after.faults → SeatsOne o program slot old new before after seats seats links links
 fault_seats o program slot old new before after seats links is calm adds rose later = record {
   first = NoStart slot;

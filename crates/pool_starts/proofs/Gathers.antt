@@ -1,4 +1,5 @@
 -- A pool as its gathering begins, and as it ends.
+use Rattle.ann_outside.specs.Told.{ProgramsTold}
 use Rattle.std.proofs.Common.{◌≡◌, ◌⊎◌, ℕ, ◌+◌, ◌<◌, ◌≤◌, List, [], ◌∷◌, refl, sym, ap, subst, ◌∙◌, append-nil, length, Bool, true, false, arith, inl, inr}
 use Rattle.std.specs.Prelude.{min}
 use Rattle.std.proofs.lemmas.List.Elements.{All-cons, All-head, All-nil}
@@ -7,7 +8,7 @@ use Rattle.journal_model.specs.declared.entry.Entry.{Entry}
 use Rattle.journal_model.specs.declared.opening.Opening.{Opening}
 use Rattle.journal_model.specs.Legality.{Legal, count, is_start}
 use Rattle.host_core.specs.Steps.{unclaimed}
-use Rattle.child_end.specs.Programs.{AddsAll, HaveStarted, ProgramsValue, is_failed_start, told}
+use Rattle.child_end.specs.Programs.{AddsAll, HaveStarted, is_failed_start, told}
 use Rattle.child_end.specs.Wires.{came}
 use Rattle.gathering.specs.Rounds.{LinkValue}
 use Rattle.lone_rounds.proofs.Leaving.{rose_still, stays_none}
@@ -22,7 +23,7 @@ use Rattle.child_end.proofs.Across.{adds_both, adds_none, adds_one}
 
 -- ---- the begin
 
-module _ (o : Opening) (jobs : ℕ) (program : List ℕ) (old : List Entry) (first : LinkValue) (before : ProgramsValue) (can : PoolCan o old (first ∷ [])) where
+module _ (o : Opening) (jobs : ℕ) (program : List ℕ) (old : List Entry) (first : LinkValue) (before : ProgramsTold) (can : PoolCan o old (first ∷ [])) where
   its : MayServe o old first
   its = All-head (MayServe o old) first [] can.each
 
@@ -75,7 +76,7 @@ module _ (o : Opening) (jobs : ℕ) (program : List ℕ) (old : List Entry) (fir
       (subst (λ (ls : List LinkValue). Standing o jobs program old old first before before (Serves ∷ []) ls 1) (sym el) (standing_begin pool last since last_child one))
 
 -- one start more, of a core under another name
-pub next_seat : (o p : Opening) (jobs : ℕ) (program : List ℕ) (old mid new : List Entry) (first : LinkValue) (before between after : ProgramsValue) (seats seats' : List SeatValue) (links links' : List LinkValue) (slot : ℕ) → p ≡ o
+pub next_seat : (o p : Opening) (jobs : ℕ) (program : List ℕ) (old mid new : List Entry) (first : LinkValue) (before between after : ProgramsTold) (seats seats' : List SeatValue) (links links' : List LinkValue) (slot : ℕ) → p ≡ o
     → Standing o jobs program old mid first before between seats links slot → SeatsOne p program slot mid new between after seats seats' links links' → Legal o new → slot < jobs → slot < length (unclaimed o old)
     → Standing o jobs program old new first before after seats' links' (slot + 1)
 next_seat o p jobs program old mid new first before between after seats seats' links links' slot same t s legal there needed =
@@ -83,7 +84,7 @@ next_seat o p jobs program old mid new first before between after seats seats' l
 
 -- ---- the end
 
-module _ {o : Opening} {jobs : ℕ} {program : List ℕ} {old mid : List Entry} {first : LinkValue} {before between : ProgramsValue} {seats : List SeatValue} {links : List LinkValue} {slot : ℕ} (t : Standing o jobs program old mid first before between seats links slot) where
+module _ {o : Opening} {jobs : ℕ} {program : List ℕ} {old mid : List Entry} {first : LinkValue} {before between : ProgramsTold} {seats : List SeatValue} {links : List LinkValue} {slot : ℕ} (t : Standing o jobs program old mid first before between seats links slot) where
   abbrev g : Gathered o jobs old mid first t.pool.more false
   g = t.pool.gathered
 
@@ -123,7 +124,7 @@ module _ {o : Opening} {jobs : ℕ} {program : List ℕ} {old mid : List Entry} 
       go (inr a) = absurd a.0
 
   -- no memory was found for one start more
-  pub short_pool : {new : List Entry} {after : ProgramsValue} {seats' : List SeatValue} {links' : List LinkValue} → SeatsNone program mid new between after seats seats' links links' → IsPool (Unit {0}) false o jobs program old new first before after seats' links'
+  pub short_pool : {new : List Entry} {after : ProgramsTold} {seats' : List SeatValue} {links' : List LinkValue} → SeatsNone program mid new between after seats seats' links links' → IsPool (Unit {0}) false o jobs program old new first before after seats' links'
   short_pool {new} {after} {seats'} {links'} n =
       subst (λ (j : List Entry). IsPool (Unit {0}) false o jobs program old j first before after seats' links') (sym n.journal) record {
         more = t.pool.more;

@@ -1,4 +1,5 @@
 -- How a pool stands from one slot to the next.
+use Rattle.ann_outside.specs.Told.{ProgramsTold}
 use Rattle.std.proofs.Common.{◌≡◌, ℕ, zero, suc, ◌+◌, ◌<◌, ◌≤◌, List, [], ◌∷◌, ◌++◌, refl, sym, ap, subst, ◌∙◌, append_assoc, append-nil, length, length-append, Bool, true, false, not, ◌==◌, Some, None, Option, arith, inl, inr}
 use Rattle.std.specs.Prelude.{◌||◌, All, is_some, unwrap_or}
 use Rattle.std.specs.List.{cons_option, last_or, list_all}
@@ -16,7 +17,7 @@ use Rattle.journal_model.proofs.Looks.{any-append, each_of-append}
 use Rattle.journal_model.proofs.Testing.{all-each, all-join, by_either}
 use Rattle.host_core.specs.Steps.{unclaimed}
 use Rattle.child_start.proofs.Jobs.{idle_on}
-use Rattle.child_end.specs.Programs.{AddsAll, HaveStarted, ProgramsValue, RoseBy, is_failed_start, told, told_in}
+use Rattle.child_end.specs.Programs.{AddsAll, HaveStarted, RoseBy, is_failed_start, told, told_in}
 use Rattle.child_end.specs.Wires.{came, came_in}
 use Rattle.lone_work.specs.KnownLayouts.{IsBook}
 use Rattle.gathering.specs.Laws.{Distinct, children_of}
@@ -122,7 +123,7 @@ in_slot o jobs past (suc k) before e h = subst (IsNextSlot o jobs past) (let is 
 -- ---- standing
 
 -- So far this pool was gathered: each slot before this one had its start. No more children than starts were seated.
-pub record Standing (o : Opening) (jobs : ℕ) (program : List ℕ) (old new : List Entry) (first : LinkValue) (before after : ProgramsValue) (seats : List SeatValue) (links : List LinkValue) (slot : ℕ) : Type 0 where
+pub record Standing (o : Opening) (jobs : ℕ) (program : List ℕ) (old new : List Entry) (first : LinkValue) (before after : ProgramsTold) (seats : List SeatValue) (links : List LinkValue) (slot : ℕ) : Type 0 where
   pub pool : IsPool ⊥ false o jobs program old new first before after seats links
   pub legal : Legal o new
   pub book : IsBook o.notes
@@ -153,7 +154,7 @@ all_low n p q f (d ∷ ds) u h =
     rw (f d u.0 t.0, all_low n p q f ds u.1 t.1) refl
 
 -- the pool that one start more leaves
-module _ {o : Opening} {jobs : ℕ} {program : List ℕ} {old mid new : List Entry} {first : LinkValue} {before between after : ProgramsValue} {seats seats' : List SeatValue} {links links' : List LinkValue} {slot : ℕ}
+module _ {o : Opening} {jobs : ℕ} {program : List ℕ} {old mid new : List Entry} {first : LinkValue} {before between after : ProgramsTold} {seats seats' : List SeatValue} {links links' : List LinkValue} {slot : ℕ}
     (t : Standing o jobs program old mid first before between seats links slot) (s : SeatsOne o program slot mid new between after seats seats' links links')
     (legal : Legal o new) (there : slot < jobs) (needed : slot < length (unclaimed o old)) where
   abbrev g : Gathered o jobs old mid first t.pool.more false

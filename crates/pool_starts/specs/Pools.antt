@@ -1,4 +1,5 @@
 -- What gathering a pool leaves: in the journal, of its children, and of the programs.
+use Rattle.ann_outside.specs.Told.{ProgramsTold}
 use Rattle.std.specs.Prelude.{ℕ, ◌≡◌, ◌<◌, ◌≤◌, ◌+◌, ◌==◌, ◌||◌, not, min, map, vec_len, Bool, true, false, List, [], ◌∷◌, ◌++◌, length, Option, Some, None}
 use Rattle.std.specs.List.{list_all}
 use Rattle.ann_outside.specs.declared.Sink.{Ghosts as SinkGhosts}
@@ -15,7 +16,7 @@ use Rattle.journal_model.specs.Shares.{are_by}
 use Rattle.host_core.specs.Steps.{unclaimed}
 use Rattle.link_roles.specs.Wires.{WireValue}
 use Rattle.child_end.specs.Wires.{IsOfStart, came}
-use Rattle.child_end.specs.Programs.{HaveStarted, ProgramsValue, RoseBy, is_failed_start}
+use Rattle.child_end.specs.Programs.{HaveStarted, RoseBy, is_failed_start}
 use Rattle.gathering.specs.Rounds.{LinkValue}
 use Rattle.crew_rounds.specs.Tagged.{link_of}
 use Rattle.lone_rounds.specs.Starting.{children}
@@ -76,7 +77,7 @@ AreSeated starts journal n (Some c ∷ cs) (Serves ∷ seats) (l ∷ links) =
 AreSeated starts journal n _ _ _ = ⊥
 
 -- of the objects: the children's seats, the starts that the entries have, and a fault for each that failed
-pub record GathersBy (wanted : Type 0) (program : List ℕ) (new later : List Entry) (before after : ProgramsValue) (seats : List SeatValue) (links : List LinkValue) : Type 0 where
+pub record GathersBy (wanted : Type 0) (program : List ℕ) (new later : List Entry) (before after : ProgramsTold) (seats : List SeatValue) (links : List LinkValue) : Type 0 where
   pub seated : AreSeated before.starts new 0 (came later) seats links
   pub started : HaveStarted wanted program later before.starts after.starts
   pub faults : RoseBy (count is_failed_start later) before.faults after.faults
@@ -91,7 +92,7 @@ seat_value (Serving stub) = Serves
 
 -- A pool was gathered after the child of slot 0, whose link is its first, as it was, and whose seat is its first. No more were seated
 -- than there are jobs.
-pub record IsPool (wanted : Type 0) (whole : Bool) (o : Opening) (jobs : ℕ) (program : List ℕ) (old new : List Entry) (first : LinkValue) (before after : ProgramsValue) (seats : List SeatValue) (links : List LinkValue) : Type 0 where
+pub record IsPool (wanted : Type 0) (whole : Bool) (o : Opening) (jobs : ℕ) (program : List ℕ) (old new : List Entry) (first : LinkValue) (before after : ProgramsTold) (seats : List SeatValue) (links : List LinkValue) : Type 0 where
   pub more : List LinkValue
   pub others : List SeatValue
   pub links_are : links ≡ first ∷ more
@@ -105,18 +106,18 @@ pub record IsWithin (jobs links seats : ℕ) : Type 0 where
   pub each : links ≤ seats
   pub most : 0 < jobs → seats ≤ jobs
 
-abbrev pub PoolIs : {I O S : Type 0} {sinks : SinkGhosts I} {sources : SourceGhosts O} → Type 0 → Bool → Opening → ℕ → List ℕ → List Entry → List Entry → LinkValue → ProgramsValue → ProgramsValue → Pool I O S sinks sources → Type 0
+abbrev pub PoolIs : {I O S : Type 0} {sinks : SinkGhosts I} {sources : SourceGhosts O} → Type 0 → Bool → Opening → ℕ → List ℕ → List Entry → List Entry → LinkValue → ProgramsTold → ProgramsTold → Pool I O S sinks sources → Type 0
 PoolIs wanted whole o jobs program old new first before after pool =
     IsPool wanted whole o jobs program old new first before after (map seat_value pool.seats.items) (map (λ l. link_of l.ear l.mouth) pool.links.items) × IsWithin jobs (vec_len pool.links) (vec_len pool.seats)
 
 -- nothing was done, and the link is as it was
-pub record IsUngathered (old new : List Entry) (first link : LinkValue) (before after : ProgramsValue) : Type 0 where
+pub record IsUngathered (old new : List Entry) (first link : LinkValue) (before after : ProgramsTold) : Type 0 where
   pub journal : new ≡ old
   pub link_is : link ≡ first
   pub starts : Stays before.starts after.starts
   pub later_faults : before.faults ≤ after.faults
 
-abbrev pub GathersAs : {I O S : Type 0} {sinks : SinkGhosts I} {sources : SourceGhosts O} → Opening → ℕ → List ℕ → List Entry → List Entry → LinkValue → ProgramsValue → ProgramsValue → Gathering I O S sinks sources → Type 0
+abbrev pub GathersAs : {I O S : Type 0} {sinks : SinkGhosts I} {sources : SourceGhosts O} → Opening → ℕ → List ℕ → List Entry → List Entry → LinkValue → ProgramsTold → ProgramsTold → Gathering I O S sinks sources → Type 0
 GathersAs o jobs program old new first before after (Whole pool) = PoolIs ⊥ true o jobs program old new first before after pool
 GathersAs o jobs program old new first before after (NoMemory pool) = PoolIs (Unit {0}) false o jobs program old new first before after pool
 GathersAs o jobs program old new first before after (NoRoom link stub) = IsUngathered old new first (link_of link.ear link.mouth) before after

@@ -1,4 +1,5 @@
 -- What one more start of a pool leaves.
+use Rattle.ann_outside.specs.Told.{ProgramsTold}
 use Rattle.std.specs.Prelude.{ℕ, ◌≡◌, ◌⊎◌, ◌≤◌, ◌||◌, not, All, true, false, List, [], ◌∷◌, ◌++◌}
 use Rattle.std.specs.List.{list_all}
 use Rattle.ann_outside.specs.Causes.{Stays}
@@ -12,7 +13,7 @@ use Rattle.journal_model.specs.Legality.{count, is_prepared}
 use Rattle.journal_model.specs.Shares.{are_by, is_of_child}
 use Rattle.link_roles.specs.Wires.{IsLeft, WireValue}
 use Rattle.child_end.specs.Wires.{came}
-use Rattle.child_end.specs.Programs.{AddsAll, ProgramsValue, RoseBy, is_failed_start, told}
+use Rattle.child_end.specs.Programs.{AddsAll, RoseBy, is_failed_start, told}
 use Rattle.gathering.specs.Rounds.{LinkValue}
 use Rattle.lone_rounds.specs.Rounds.{AllLostWell, is_of_run}
 use Rattle.lone_rounds.specs.Starting.{children}
@@ -27,7 +28,7 @@ IsSlotStart slot past first = (first ≡ Start (next_child past) slot false) ⊎
 -- The main thread made one start in the slot, and what followed it of its child alone. The child has no open job. It can serve in a round,
 -- and its link and seat were put after the others; or it isn't ready and has ended, and its wire was. The programs were asked once, and a fault was
 -- counted if that failed.
-pub record SeatsOne (o : Opening) (program : List ℕ) (slot : ℕ) (old new : List Entry) (before after : ProgramsValue) (seats seats' : List SeatValue) (links links' : List LinkValue) : Type 0 where
+pub record SeatsOne (o : Opening) (program : List ℕ) (slot : ℕ) (old new : List Entry) (before after : ProgramsTold) (seats seats' : List SeatValue) (links links' : List LinkValue) : Type 0 where
   pub first : What
   pub later : List Entry
   pub is : new ≡ old ++ main_entry first ∷ later
@@ -51,14 +52,14 @@ pub record SeatsOne (o : Opening) (program : List ℕ) (slot : ℕ) (old new : L
   pub later_faults : before.faults ≤ after.faults
 
 -- no memory was found for a start: nothing was noted or seated, though the programs may have been asked
-pub record SeatsNone (program : List ℕ) (old new : List Entry) (before after : ProgramsValue) (seats seats' : List SeatValue) (links links' : List LinkValue) : Type 0 where
+pub record SeatsNone (program : List ℕ) (old new : List Entry) (before after : ProgramsTold) (seats seats' : List SeatValue) (links links' : List LinkValue) : Type 0 where
   pub journal : new ≡ old
   pub seats_are : seats' ≡ seats
   pub links_are : links' ≡ links
   pub asked : MayHaveAsked program before after
 
 -- the link was closed, and its wire was put after the other seats
-pub record SeatsOver (ear : EarValue) (mouth : MouthValue) (before after : ProgramsValue) (seats seats' : List SeatValue) (links links' : List LinkValue) : Type 0 where
+pub record SeatsOver (ear : EarValue) (mouth : MouthValue) (before after : ProgramsTold) (seats seats' : List SeatValue) (links links' : List LinkValue) : Type 0 where
   pub wire : WireValue
   pub left : IsLeft ear mouth wire
   pub seats_are : seats' ≡ seats ++ OverBy wire ∷ []

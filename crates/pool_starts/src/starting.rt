@@ -6,7 +6,6 @@ ghost use Rattle.journal_model.specs.declared.verdict.Why.TheVariants.{Closed};
 ghost use Rattle.link_roles.specs.Alone.{Closes};
 ghost use Rattle.link_roles.specs.Writings.{LoneWired};
 ghost use Rattle.child_start.specs.Cores.{IsSameCore};
-ghost use Rattle.child_end.specs.Programs.{programs_value};
 ghost use Rattle.crew_rounds.specs.Tagged.{link_of};
 ghost use Rattle.lone_work.specs.KnownLayouts.{IsBook};
 ghost use Rattle.gathering.specs.Rounds.{IsAtRest};
@@ -66,8 +65,8 @@ where
     requires room { vec_len pool.old.seats < vec_capacity pool.old.seats }
     ensures closes { Closes 0 link.ear.child core.old.journal core.new.journal }
     ensures wired { LoneWired core.new.journal link.ear link.mouth }
-    ensures over { SeatsOver link.ear link.mouth (programs_value (P.starts programs.old) (P.faults programs.old))
-        (programs_value (P.starts programs.new) (P.faults programs.new)) (map seat_value pool.old.seats.items) (map seat_value pool.new.seats.items)
+    ensures over { SeatsOver link.ear link.mouth (P.told programs.old)
+        (P.told programs.new) (map seat_value pool.old.seats.items) (map seat_value pool.new.seats.items)
         (map (λ l. link_of l.ear l.mouth) pool.old.links.items) (map (λ l. link_of l.ear l.mouth) pool.new.links.items) }
     ensures lengths { (vec_len pool.new.links ≡ vec_len pool.old.links) × (vec_len pool.new.seats ≡ vec_len pool.old.seats + 1) }
     ensures room { (vec_capacity pool.new.links ≡ vec_capacity pool.old.links) × (vec_capacity pool.new.seats ≡ vec_capacity pool.old.seats) }
@@ -98,11 +97,11 @@ where
     requires few { count is_start core.old.journal < 4294967295 }
     requires room { (vec_len pool.old.links < vec_capacity pool.old.links) × (vec_len pool.old.seats < vec_capacity pool.old.seats) }
     ensures seats { MatchResult result
-        (λ _. SeatsOne core.old.opening program.now slot core.old.journal core.new.journal (programs_value (P.starts programs.old) (P.faults programs.old))
-        (programs_value (P.starts programs.new) (P.faults programs.new)) (map seat_value pool.old.seats.items) (map seat_value pool.new.seats.items)
+        (λ _. SeatsOne core.old.opening program.now slot core.old.journal core.new.journal (P.told programs.old)
+        (P.told programs.new) (map seat_value pool.old.seats.items) (map seat_value pool.new.seats.items)
         (map (λ l. link_of l.ear l.mouth) pool.old.links.items) (map (λ l. link_of l.ear l.mouth) pool.new.links.items))
-        (λ _. SeatsNone program.now core.old.journal core.new.journal (programs_value (P.starts programs.old) (P.faults programs.old))
-        (programs_value (P.starts programs.new) (P.faults programs.new)) (map seat_value pool.old.seats.items) (map seat_value pool.new.seats.items)
+        (λ _. SeatsNone program.now core.old.journal core.new.journal (P.told programs.old)
+        (P.told programs.new) (map seat_value pool.old.seats.items) (map seat_value pool.new.seats.items)
         (map (λ l. link_of l.ear l.mouth) pool.old.links.items) (map (λ l. link_of l.ear l.mouth) pool.new.links.items)) }
     ensures room { (vec_capacity pool.new.links ≡ vec_capacity pool.old.links) × (vec_capacity pool.new.seats ≡ vec_capacity pool.old.seats) }
     ensures core { IsSameCore core.old core.new }
@@ -159,7 +158,7 @@ where
     requires last_child { link.ear.child ≡ count is_start core.old.journal }
     requires can { PoolCan core.old.opening core.old.journal (link_of link.ear link.mouth ∷ []) }
     ensures gathers { GathersAs core.old.opening jobs program.now core.old.journal core.new.journal (link_of link.ear link.mouth)
-        (programs_value (P.starts programs.old) (P.faults programs.old)) (programs_value (P.starts programs.new) (P.faults programs.new)) result }
+        (P.told programs.old) (P.told programs.new) result }
     ensures core { IsSameCore core.old core.new }
 {
     let most = jobs.min(core.unclaimed()).max(1);

@@ -1,9 +1,9 @@
 -- What the desks of the workers tell.
+use Rattle.ann_outside.specs.Told.{DeskTold}
 use Rattle.std.proofs.Common.{◌≡◌, ℕ, zero, suc, ◌+◌, List, [], ◌∷◌, ◌++◌, refl, sym, ap, ◌∙◌, map, replicate, None, arith}
 use Rattle.std.proofs.lemmas.List.{map-append}
 use Rattle.ann_outside.specs.DeskCauses.{Counts}
 use Rattle.ann_outside.specs.Desks.{no_counts}
-use Rattle.lone_work.specs.Works.{DeskTells, desk_tells}
 use Rattle.rehearse_run.specs.Rehearsals.{untold}
 
 one_behind : (n : ℕ) → replicate n no_counts ++ no_counts ∷ [] ≡ replicate (suc n) no_counts
@@ -23,10 +23,16 @@ counts_more {D} counts ks ks' k n is fresh before =
     ∙ ap (λ (c : Counts). replicate n no_counts ++ c ∷ []) fresh
     ∙ one_more n
 
-tells : {D : Type 0} (counts : D → Counts) (ks : List D) → map (λ (k : D). desk_tells None (counts k)) ks ≡ map (λ (c : Counts). desk_tells None c) (map (λ (k : D). counts k) ks)
+-- a desk that tells its counts alone
+quiet : Counts → DeskTold
+quiet counts = record { counts = counts; files = None; log = None }
+
+tells : {D : Type 0} (counts : D → Counts) (ks : List D) → map (λ (k : D). quiet (counts k)) ks ≡ map quiet (map (λ (k : D). counts k) ks)
 tells counts [] = refl
-tells counts (k ∷ ks) = ap (λ (ds : List DeskTells). desk_tells None (counts k) ∷ ds) (tells counts ks)
+tells counts (k ∷ ks) = ap (λ (ds : List DeskTold). quiet (counts k) ∷ ds) (tells counts ks)
 
 -- desks that tell no calls, and have counted nothing
-pub tell_nothing : {D : Type 0} (counts : D → Counts) (ks : List D) → map (λ (k : D). counts k) ks ≡ replicate 4 no_counts → map (λ (k : D). desk_tells None (counts k)) ks ≡ replicate 4 untold
-tell_nothing counts ks fresh = tells counts ks ∙ ap (λ (cs : List Counts). map (λ (c : Counts). desk_tells None c) cs) fresh
+pub tell_nothing : {D : Type 0} (counts : D → Counts) (ks : List D) → map (λ (k : D). counts k) ks ≡ replicate 4 no_counts
+    → map (λ (k : D). record { counts = counts k; files = None; log = None }) ks ≡ replicate 4 untold
+unfolding quiet
+tell_nothing counts ks fresh = tells counts ks ∙ ap (λ (cs : List Counts). map quiet cs) fresh

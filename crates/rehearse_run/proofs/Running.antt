@@ -1,4 +1,5 @@
 -- From what the workers did to what a rehearsal comes to.
+use Rattle.ann_outside.specs.Told.{DeskTold}
 use Rattle.std.proofs.Common.{◌≡◌, ◌⊎◌, ℕ, List, [], sym, subst, inl, inr, Bool, true, false, replicate, Ok, Err}
 use Rattle.std.specs.Prelude.{Result}
 use Rattle.ann_key.specs.declared.bytes.NoMemory.{NoMemory}
@@ -9,7 +10,6 @@ use Rattle.journal_model.specs.Journal.{any}
 use Rattle.journal_model.proofs.Projecting.{parts_fit}
 use Rattle.host_core.specs.Steps.{are_all_claimed}
 use Rattle.task_run.specs.declared.setup.Setup.{Setup}
-use Rattle.lone_work.specs.Works.{DeskTells}
 use Rattle.job_rounds.specs.JobRuns.{RanJobs}
 use Rattle.job_rounds.proofs.Succeeding.{jobs_keep, jobs_succeed}
 use Rattle.run_answers.specs.Answering.{AreAllAnswered}
@@ -19,12 +19,12 @@ use Rattle.rehearse_run.specs.Rehearsals.{EndsRun, Finds, HasRun, IsRunOf, is_fa
 use Rattle.rehearse_run.specs.declared.made.RehearsalEnd.{RehearsalEnd}
 use Rattle.rehearse_run.specs.declared.made.RehearsalEnd.TheVariants.{Memory, Done}
 
-pub run_of : (o : Opening) (s : Setup) (may : Bool) (limit : ℕ) (journal : List Entry) (before after : List DeskTells) → s ≡ setup → may ≡ true → limit ≡ 1 → before ≡ replicate 4 untold
+pub run_of : (o : Opening) (s : Setup) (may : Bool) (limit : ℕ) (journal : List Entry) (before after : List DeskTold) → s ≡ setup → may ≡ true → limit ≡ 1 → before ≡ replicate 4 untold
     → any is_fault journal ≡ false → RanJobs o s may limit journal before after → IsRunOf o journal
 run_of o s may limit journal before after same offers once fresh quiet ran = record {
   desks = after;
   ran =
-      subst (λ (ds : List DeskTells). RanJobs o setup true 1 journal ds after) fresh
+      subst (λ (ds : List DeskTold). RanJobs o setup true 1 journal ds after) fresh
       (subst (λ (n : ℕ). RanJobs o setup true n journal before after) once
       (subst (λ (b : Bool). RanJobs o setup b limit journal before after) offers
       (subst (λ (x : Setup). RanJobs o x may limit journal before after) same ran)));

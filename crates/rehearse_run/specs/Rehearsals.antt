@@ -1,4 +1,5 @@
 -- What the run of a rehearsal comes to.
+use Rattle.ann_outside.specs.Told.{DeskTold}
 use Rattle.std.specs.Prelude.{ℕ, ◌≡◌, ◌⊎◌, Bool, true, false, List, [], replicate, codes, None, Result, MatchResult}
 use Rattle.ann_key.specs.declared.bytes.NoMemory.{NoMemory}
 use Rattle.ann_outside.specs.Desks.{no_counts}
@@ -16,7 +17,6 @@ use Rattle.journal_audit.specs.declared.found.Audit.{Audit}
 use Rattle.host_core.specs.Steps.{are_all_claimed}
 use Rattle.link_roles.specs.Wires.{WireValue}
 use Rattle.task_run.specs.declared.setup.Setup.{Setup}
-use Rattle.lone_work.specs.Works.{DeskTells, desk_tells}
 use Rattle.job_rounds.specs.JobRuns.{RanJobs}
 use Rattle.job_rounds.specs.JobsKeep.{JobsKeep}
 use Rattle.job_rounds.specs.JobsWell.{JobsSucceed}
@@ -39,8 +39,8 @@ pub record IsReady (r : Ready) : Type 0 where
   pub setup_is : r.plan.setup ≡ setup
 
 -- a desk that tells no calls, and has counted nothing
-abbrev pub untold : DeskTells
-untold = desk_tells None no_counts
+abbrev pub untold : DeskTold
+untold = record { counts = no_counts; files = None; log = None }
 
 -- no value counts any
 abbrev pub CountsNone : {X : Type 0} → (X → ℕ) → Type 0
@@ -61,7 +61,7 @@ is_fault w = false
 -- fits. Where all went well from outside, each task succeeded, or memory was wanted; where the remote was faithful, gets kept what stores
 -- sent. Nothing failed at a child.
 pub record IsRunOf (o : Opening) (journal : List Entry) : Type 0 where
-  pub desks : List DeskTells
+  pub desks : List DeskTold
   pub ran : RanJobs o setup true 1 journal (replicate 4 untold) desks
   pub parts : (c j : ℕ) → JobFits (replies_at o journal) journal c j
   pub succeeds : JobsSucceed o setup 1 journal [] journal 1 (replicate 4 untold) desks

@@ -7,7 +7,6 @@ ghost use Rattle.run_answers.specs.Answering.{AreAllAnswered};
 ghost use Rattle.run_answers.specs.Answers.{AreAnswers};
 ghost use Rattle.rehearse_plan.specs.Plans.{opening_of};
 ghost use Rattle.rehearse_plan.specs.declared.tasks.TheConstants.{MOST_TASKS};
-ghost use Rattle.lone_work.specs.Works.{desk_tells};
 ghost use Rattle.rehearse_run.specs.Rehearsals.{CountsNone, EndsRun, Finds, HasRehearsed, HasRun, IsQuiet, IsReady, untold};
 
 use crate::made::{RehearsalEnd, Rehearsed};
@@ -44,7 +43,7 @@ fn ask_desks<K: Desks>(alloc: Global, desks: &mut K) -> Result<Vec<K::Desk>, NoM
 where
     K::Desk: Drop,
     ensures many { IfOk result (λ crew. vec_len crew ≡ 4) }
-    ensures fresh { IfOk result (λ crew. map (λ k. K.Desk.counts k) crew.items ≡ replicate 4 no_counts) }
+    ensures fresh { IfOk result (λ crew. map (λ k. (K.Desk.told k).counts) crew.items ≡ replicate 4 no_counts) }
 {
     let mut crew = Vec::with_capacity(alloc, WORKERS as usize)?;
     'workers: for before in 0..WORKERS {
@@ -87,7 +86,7 @@ fn finish(alloc: Global, core: Core) -> Rehearsed
 
 // Halves that count no fault leave wires that count none. Clauses see of a wire what it told, so each is looked at.
 fn look_at<I: Sink, O: Source>(wires: &[Wire<I, O>])
-    requires { CountsNone I.faults × CountsNone O.faults }
+    requires { CountsNone (λ x. (I.told x).faults) × CountsNone (λ x. (O.told x).faults) }
     ensures { All IsQuiet wires.now }
 {
     'looks: for wire in wires {
@@ -110,8 +109,8 @@ where
     requires ready { IsReady ready }
     requires may { MayBegin ready.core.opening }
     requires many { vec_len crew ≡ 4 }
-    requires fresh { map (λ k. desk_tells (K.log k) (K.counts k)) crew.items ≡ replicate 4 untold }
-    requires sound { CountsNone P.faults × CountsNone P.Inlet.faults × CountsNone P.Outlet.faults }
+    requires fresh { map K.told crew.items ≡ replicate 4 untold }
+    requires sound { CountsNone (λ x. (P.told x).faults) × CountsNone (λ x. (P.Inlet.told x).faults) × CountsNone (λ x. (P.Outlet.told x).faults) }
     ensures opening { result.0.opening ≡ ready.core.opening }
     ensures ran { HasRun ready.core.opening result.0.journal result.1 }
 {
@@ -148,7 +147,7 @@ fn run<'a, R: Threads + Wait + Sync + 'a>(
     requires ready { IsReady ready }
     requires may { MayBegin ready.core.opening }
     requires many { vec_len crew ≡ 4 }
-    requires fresh { map (λ k. ⟦<SharedDesk<&'a R> as Desk>⟧.counts k) crew.items ≡ replicate 4 no_counts }
+    requires fresh { map (λ k. (⟦<SharedDesk<&'a R> as Desk>⟧.told k).counts) crew.items ≡ replicate 4 no_counts }
     ensures { EndsRun ready.core.opening result.journal.entries result.answers.items result.end }
 {
     let mut programs = KitPrograms::new(rt, alloc, Remotes::new(alloc, desks));
@@ -176,7 +175,7 @@ fn set_stage<'a, R: Threads + Wait + Sync>(
     ensures ready { IfOk result (λ s. IsReady s.ready) }
     ensures may { IfOk result (λ s. MayBegin s.ready.core.opening) }
     ensures many { IfOk result (λ s. vec_len s.crew ≡ 4) }
-    ensures fresh { IfOk result (λ s. map (λ k. ⟦<SharedDesk<&'a R> as Desk>⟧.counts k) s.crew.items ≡ replicate 4 no_counts) }
+    ensures fresh { IfOk result (λ s. map (λ k. (⟦<SharedDesk<&'a R> as Desk>⟧.told k).counts) s.crew.items ≡ replicate 4 no_counts) }
 {
     let mut desks = SharedDesks::of_files(rt, alloc, files_of(alloc, tasks)?)?;
     let crew = ask_desks(alloc, &mut desks)?;

@@ -71,7 +71,7 @@ fn read_wish<R: Env + AllocGlobal>(rt: &R) -> Option<Wish> {
 
 // Status 5 where it can't be written.
 fn print<W: Sink>(sink: &mut W, text: &[u8], status: u8) -> u8
-    requires { W.is_open sink.old ≡ true }
+    requires { (W.told sink.old).is_open ≡ true }
 {
     if write_all(sink, text).is_ok() && sink.flush().is_ok() {
         status

@@ -66,7 +66,7 @@ fn read_wish<R: Env + AllocGlobal>(rt: &R) -> Option<Wish> {
 
 // Status 5 where it can't be written.
 fn print<W: Sink>(sink: &mut W, text: &[u8], status: u8) -> u8
-    requires { W.is_open sink.old ≡ true }
+    requires { (W.told sink.old).is_open ≡ true }
 {
     if write_all(sink, text).is_ok() && sink.flush().is_ok() {
         status
@@ -77,7 +77,7 @@ fn print<W: Sink>(sink: &mut W, text: &[u8], status: u8) -> u8
 
 // Serves the mirror until the host is done, and then stops the programs that it started. The status to end with.
 fn serve_mirror(rt: &HostRuntime, out: &mut OsOutput<Stdout>) -> u8
-    requires { ⟦<OsOutput<Stdout> as Sink>⟧.is_open out.old ≡ true }
+    requires { (⟦<OsOutput<Stdout> as Sink>⟧.told out.old).is_open ≡ true }
 {
     let mut input = OsInput::new(rt.stdin());
     let mirror = Mirrored::new(rt.alloc(), rt);

@@ -36,7 +36,7 @@ const NOT_STARTED: &[u8] =
 
 // Status 5 where it can't be written.
 fn print<W: Sink>(sink: &mut W, text: &[u8], status: u8) -> u8
-    requires { W.is_open sink.old ≡ true }
+    requires { (W.told sink.old).is_open ≡ true }
 {
     if write_all(sink, text).is_ok() && sink.flush().is_ok() {
         status
@@ -55,10 +55,10 @@ fn pass_on<
     S: Source + Send + Drop + 'static,
     W: Sink,
 >(rt: R, alloc: Global, programs: &mut P, started: Started<I, O, T>, host: S, out: &mut W) -> u8
-    requires inlet { I.is_open started.inlet ≡ true }
-    requires outlet { O.is_open started.outlet ≡ true }
-    requires host { S.is_open host ≡ true }
-    requires out { W.is_open out.old ≡ true }
+    requires inlet { (I.told started.inlet).is_open ≡ true }
+    requires outlet { (O.told started.outlet).is_open ≡ true }
+    requires host { (S.told host).is_open ≡ true }
+    requires out { (W.told out.old).is_open ≡ true }
 {
     let Started {
         inlet,
@@ -93,9 +93,9 @@ fn serve<
     W: Sink,
     E: Sink,
 >(rt: R, program: &str, host: S, out: &mut W, err: &mut E) -> u8
-    requires host { S.is_open host ≡ true }
-    requires out { W.is_open out.old ≡ true }
-    requires err { E.is_open err.old ≡ true }
+    requires host { (S.told host).is_open ≡ true }
+    requires out { (W.told out.old).is_open ≡ true }
+    requires err { (E.told err.old).is_open ≡ true }
 {
     let mut programs = OsPrograms::new(rt);
     match programs.start(program) {

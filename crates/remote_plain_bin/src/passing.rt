@@ -82,8 +82,8 @@ where
     R: Drop,
     S: Drop,
     W: Drop,
-    requires host { S.is_open host ≡ true }
-    requires inlet { W.is_open inlet ≡ true }
+    requires host { (S.told host).is_open ≡ true }
+    requires inlet { (W.told inlet).is_open ≡ true }
 {
     let Shared { plain, asked } = shared;
     let mut way = FromHost::new(rt, plain);
@@ -98,11 +98,11 @@ pub(crate) fn start_hearing<
     S: Source + Send + Drop + 'static,
     W: Sink + Send + Drop + 'static,
 >(rt: R, alloc: Global, shared: Shared, host: S, inlet: W) -> bool
-    requires host { S.is_open host ≡ true }
-    requires inlet { W.is_open inlet ≡ true }
+    requires host { (S.told host).is_open ≡ true }
+    requires inlet { (W.told inlet).is_open ≡ true }
 {
     let hears = move || -> ()
-        requires { (S.is_open host ≡ true) × (W.is_open inlet ≡ true) }
+        requires { ((S.told host).is_open ≡ true) × ((W.told inlet).is_open ≡ true) }
     { hear_host(rt, alloc, shared, host, inlet) };
     thread::spawn(&rt, hears).is_ok()
 }
@@ -115,8 +115,8 @@ pub(crate) fn hear_remote<R: Wait + Copy, S: Source, W: Sink>(
     outlet: &mut S,
     out: &mut W,
 ) -> Result<End, AllocError>
-    requires outlet { S.is_open outlet.old ≡ true }
-    requires out { W.is_open out.old ≡ true }
+    requires outlet { (S.told outlet.old).is_open ≡ true }
+    requires out { (W.told out.old).is_open ≡ true }
 {
     let mut way = FromRemote::new(rt, Arc::try_clone(&shared.plain)?);
     Ok(carry(alloc, &mut way, outlet, out))

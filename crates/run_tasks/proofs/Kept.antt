@@ -1,4 +1,5 @@
 -- What comes of keeping what is known.
+use Rattle.ann_outside.specs.Told.{DeskTold}
 use Rattle.std.proofs.Common.{◌≡◌, ◌⊎◌, ℕ, List, refl, sym, ap, subst, arith, inl, inr, Some, None, Option, Ok, Err}
 use Rattle.std.specs.Prelude.{Result}
 use Rattle.ann_key.specs.declared.bytes.NoMemory.{NoMemory}
@@ -13,25 +14,24 @@ use Rattle.keep_desk.specs.KeptDesks.{IsWrittenBy, IsWrittenIn, HasWriteCauses}
 use Rattle.cli_words.specs.declared.command.RunWords.{RunWords}
 use Rattle.journal_model.specs.declared.entry.Entry.{Entry}
 use Rattle.journal_model.specs.declared.opening.Opening.{Opening}
-use Rattle.child_end.specs.Outsides.{TableValue}
 use Rattle.run_tasks.specs.Runs.{IsNewOf, RunFilesStay, HasFailed, IsRunKept, IsKeptIn, kept_after}
 use Rattle.run_tasks.specs.Workings.{Keeps}
 use Rattle.run_tasks.proofs.Begun.{with_keep}
 
 -- ---- files that stay
 
-pub as_before : (words : RunWords) (told : Option Files) (table : TableValue) → table.files ≡ told → RunFilesStay words told table
+pub as_before : (words : RunWords) (told : Option Files) (table : DeskTold) → table.files ≡ told → RunFilesStay words told table
 as_before words told table e = subst (λ (t : Option Files). WhereTold told t (OthersStay (IsNewOf words.keep))) (sym e) (go told)
   where
     go : (told : Option Files) → WhereTold told told (OthersStay (IsNewOf words.keep))
     go None = tt
     go (Some files) = λ other d. refl
 
-unnamed : (words : RunWords) (told : Option Files) (table : TableValue) (o : Opening) (journal : List Entry) → words.keep ≡ None → table.files ≡ told → IsRunKept words told table o journal W.Done
+unnamed : (words : RunWords) (told : Option Files) (table : DeskTold) (o : Opening) (journal : List Entry) → words.keep ≡ None → table.files ≡ told → IsRunKept words told table o journal W.Done
 unnamed words told table o journal e same =
     with_keep (λ (w : RunWords). IsRunKept w told table o journal W.Done) words None e (refl, as_before (record words { keep = None }) told table same)
 
-pub keeps_unnamed : (words : RunWords) (told : Option Files) (table : TableValue) (o : Opening) (journal : List Entry) → words.keep ≡ None → table.files ≡ told → Keeps words told table o journal (Ok W.Done)
+pub keeps_unnamed : (words : RunWords) (told : Option Files) (table : DeskTold) (o : Opening) (journal : List Entry) → words.keep ≡ None → table.files ≡ told → Keeps words told table o journal (Ok W.Done)
 keeps_unnamed words told table o journal e same = unnamed words told table o journal e same
 
 -- ---- what was written
@@ -39,15 +39,15 @@ keeps_unnamed words told table o journal e same = unnamed words told table o jou
 pub rises : (faults faults' : ℕ) → Rose faults faults' → Rose 0 faults'
 rises faults faults' h = omega (arith, h)
 
-failed : (told : Option Files) (old : Counts) (table : TableValue) → Rose old.faults table.counts.faults ⊎ ((told ≡ None) × Rose old.missing table.counts.missing) → HasFailed told table
+failed : (told : Option Files) (old : Counts) (table : DeskTold) → Rose old.faults table.counts.faults ⊎ ((told ≡ None) × Rose old.missing table.counts.missing) → HasFailed told table
 failed told old table (inl h) = inl (rises old.faults table.counts.faults h)
 failed told old table (inr h) = inr (h.0, rises old.missing table.counts.missing h.1)
 
-named_before : (words : RunWords) (told : Option Files) (table : TableValue) (name : List ℕ) → words.keep ≡ Some name
+named_before : (words : RunWords) (told : Option Files) (table : DeskTold) (name : List ℕ) → words.keep ≡ Some name
     → WhereTold told table.files (OthersStay (λ other. other ≡ new_name name)) → RunFilesStay words told table
 named_before words told table name e h = with_keep (λ (w : RunWords). RunFilesStay w told table) words (Some name) e h
 
-same_before : (words : RunWords) (told : Option Files) (table : TableValue) → WhereTold told table.files (λ old new. new ≡ old) → RunFilesStay words told table
+same_before : (words : RunWords) (told : Option Files) (table : DeskTold) → WhereTold told table.files (λ old new. new ≡ old) → RunFilesStay words told table
 same_before words told table h = go told table.files h
   where
     go : (told new : Option Files) → WhereTold told new (λ old new. new ≡ old) → WhereTold told new (OthersStay (IsNewOf words.keep))
@@ -56,7 +56,7 @@ same_before words told table h = go told table.files h
     go (Some old) None h = absurd h
     go (Some old) (Some new) h = λ other d. ap (content other) h
 
-module _ (words : RunWords) (told : Option Files) (table : TableValue) (o : Opening) (journal : List Entry) (name text : List ℕ) (log log' : Option Log) (old : Counts) (named : words.keep ≡ Some name)
+module _ (words : RunWords) (told : Option Files) (table : DeskTold) (o : Opening) (journal : List Entry) (name text : List ℕ) (log log' : Option Log) (old : Counts) (named : words.keep ≡ Some name)
     (is : text ≡ kept_after o journal) where
   kept_in : (written : KeptWritten) → IsWrittenBy log log' name text (Ok written) → WhereTold told table.files (IsWrittenIn name text (Ok written)) → HasWriteCauses told old table.counts (Ok written)
       → IsKeptIn words name told table o journal written

@@ -1,4 +1,5 @@
 -- What is left of a run's programs, and which desks were asked for.
+use Rattle.ann_outside.specs.Told.{DeskTold, ProgramsTold}
 use Rattle.std.proofs.Common.{◌≡◌, ◌≤◌, ◌+◌, inl, inr, ℕ, suc, List, [], ◌∷◌, ◌++◌, length, append_assoc, refl, sym, ap, subst, ◌∙◌, arith, true, false, Some, None, Option, Ok}
 use Rattle.std.specs.Prelude.{Result, IsErr, map}
 use Rattle.std.specs.List.{range_with_len}
@@ -10,9 +11,8 @@ use Rattle.journal_model.specs.declared.entry.Entry.{Entry}
 use Rattle.journal_model.specs.Legality.{count}
 use Rattle.link_roles.specs.Wires.{WireValue}
 use Rattle.child_end.specs.Wires.{AreWires, came}
-use Rattle.child_end.specs.Programs.{ProgramsValue, told, AddsAll, HaveStarted, Leaves, RoseBy, is_failed_start}
+use Rattle.child_end.specs.Programs.{told, AddsAll, HaveStarted, Leaves, RoseBy, is_failed_start}
 use Rattle.lone_rounds.proofs.Leaving.{rose_still}
-use Rattle.child_end.specs.Outsides.{TableValue}
 use Rattle.run_tasks.specs.Runs.{AddsMade, BeganAs}
 use Rattle.run_tasks.specs.Workings.{AddsWorkers}
 use Rattle.run_tasks.proofs.Origins.{began_more, began_same}
@@ -22,7 +22,7 @@ use Rattle.child_end.proofs.Across.{adds_none}
 -- ---- programs
 
 -- nothing was started
-pub leaves_nothing : (W : Type 0) (programs : ProgramsValue) (program : List ℕ) (journal : List Entry) (wires : List WireValue) → journal ≡ [] → wires ≡ []
+pub leaves_nothing : (W : Type 0) (programs : ProgramsTold) (program : List ℕ) (journal : List Entry) (wires : List WireValue) → journal ≡ [] → wires ≡ []
     → Leaves W program journal programs programs wires
 leaves_nothing W programs program journal wires j w = record {
   wired = subst (λ (x : List Entry). AreWires programs.starts journal 0 (came x) wires) (sym j) (subst (λ (ws : List WireValue). AreWires programs.starts journal 0 [] ws) (sym w) tt);
@@ -31,7 +31,7 @@ leaves_nothing W programs program journal wires j w = record {
 }
 
 -- the running out of memory, the program and the journal are named otherwise
-pub leaves_named : {V W : Type 0} {program program' : List ℕ} {journal journal' : List Entry} {before after : ProgramsValue} {wires : List WireValue} → (V → W) → journal' ≡ journal → program ≡ program'
+pub leaves_named : {V W : Type 0} {program program' : List ℕ} {journal journal' : List Entry} {before after : ProgramsTold} {wires : List WireValue} → (V → W) → journal' ≡ journal → program ≡ program'
     → Leaves V program journal before after wires → Leaves W program' journal' before after wires
 leaves_named {V} {W} {program} {program'} {journal} {journal'} {before} {after} {wires} f j e h =
     subst (λ (x : List Entry). Leaves W program' x before after wires) (sym j)
@@ -64,13 +64,13 @@ same_stays None = tt
 same_stays (Some xs) = refl
 
 -- no worker's desk was asked for
-pub adds_no_worker : (jobs : ℕ) (made : Option (List Made)) (workers : List TableValue) → workers ≡ [] → AddsWorkers jobs made made workers
+pub adds_no_worker : (jobs : ℕ) (made : Option (List Made)) (workers : List DeskTold) → workers ≡ [] → AddsWorkers jobs made made workers
 adds_no_worker jobs made workers none =
     subst (AddsWorkers jobs made made) (sym none) record { few = omega arith; more = []; desks = made_none made made (same_stays made); numbers = refl; began = tt }
 
 -- as many desks, whose logs began with the same files, whatever else they tell now
-pub adds_as_many : (jobs : ℕ) (old new : Option (List Made)) (workers workers' : List TableValue) → length workers' ≡ length workers
-    → map (λ (t : TableValue). log_origin t.log) workers' ≡ map (λ (t : TableValue). log_origin t.log) workers → AddsWorkers jobs old new workers → AddsWorkers jobs old new workers'
+pub adds_as_many : (jobs : ℕ) (old new : Option (List Made)) (workers workers' : List DeskTold) → length workers' ≡ length workers
+    → origins_of workers' ≡ origins_of workers → AddsWorkers jobs old new workers → AddsWorkers jobs old new workers'
 adds_as_many jobs old new workers workers' same origins h = record {
   few = subst (λ (n : ℕ). n ≤ jobs) (sym same) h.few;
   more = h.more;
@@ -80,11 +80,11 @@ adds_as_many jobs old new workers workers' same origins h = record {
 }
 
 -- they are within a larger number
-pub adds_within : (n jobs : ℕ) (old new : Option (List Made)) (workers : List TableValue) → n ≤ jobs → AddsWorkers n old new workers → AddsWorkers jobs old new workers
+pub adds_within : (n jobs : ℕ) (old new : Option (List Made)) (workers : List DeskTold) → n ≤ jobs → AddsWorkers n old new workers → AddsWorkers jobs old new workers
 adds_within n jobs old new workers within h = record { few = let few = h.few in omega (arith, few, within); more = h.more; desks = h.desks; numbers = h.numbers; began = h.began }
 
 -- no memory was found for the next one
-pub adds_stay : (n jobs : ℕ) (old mid new : Option (List Made)) (workers : List TableValue) → n ≤ jobs → Stays mid new → AddsWorkers n old mid workers → AddsWorkers jobs old new workers
+pub adds_stay : (n jobs : ℕ) (old mid new : Option (List Made)) (workers : List DeskTold) → n ≤ jobs → Stays mid new → AddsWorkers n old mid workers → AddsWorkers jobs old new workers
 adds_stay n jobs old mid new workers within stays h = subst (λ (m : Option (List Made)). AddsWorkers jobs old m workers) (sym (stays_same mid new stays)) (adds_within n jobs old mid workers within h)
 
 made_more : (old mid new : Option (List Made)) (more : List Made) (m : Made) → AddsMade old mid more → AddsOne mid new m → AddsMade old new (more ++ m ∷ [])
@@ -96,10 +96,10 @@ made_more (Some xs) (Some ys) None more m h a = absurd a
 made_more (Some xs) (Some ys) (Some zs) more m h a = a ∙ ap (λ (v : List Made). v ++ m ∷ []) h ∙ append_assoc xs more (m ∷ [])
 
 -- the next one was asked for
-pub adds_worker : (n : ℕ) (old mid new : Option (List Made)) (workers workers' : List TableValue) (table : TableValue) (m : Made) → length workers ≡ n → workers' ≡ workers ++ table ∷ [] → m.number ≡ n + 1
+pub adds_worker : (n : ℕ) (old mid new : Option (List Made)) (workers workers' : List DeskTold) (table : DeskTold) (m : Made) → length workers ≡ n → workers' ≡ workers ++ table ∷ [] → m.number ≡ n + 1
     → AddsWorkers n old mid workers → AddsOne mid new m → IsLogFrom table.log m.files → AddsWorkers (n + 1) old new workers'
 adds_worker n old mid new workers workers' table m long one next h adds from =
-    let more : length workers' ≡ suc n = ap (λ (ts : List TableValue). length ts) one ∙ length-append workers (table ∷ []) ∙ (let e : length workers + 1 ≡ suc n = omega (arith, long) in e) in
+    let more : length workers' ≡ suc n = ap (λ (ts : List DeskTold). length ts) one ∙ length-append workers (table ∷ []) ∙ (let e : length workers + 1 ≡ suc n = omega (arith, long) in e) in
     let here : m.number ≡ 1 + n = (let e : n + 1 ≡ 1 + n = omega arith in next ∙ e) in
     record {
       few = omega (arith, more);

@@ -1,9 +1,10 @@
 -- What comes of a run, by its end.
+use Rattle.ann_outside.specs.Told.{DeskTold}
 use Rattle.std.specs.Prelude.{ℕ, ◌≡◌, ◌⊎◌, ◌==◌, ◌≤◌, ◌<◌, if◌then◌else◌, true, List, [], ◌∷◌, ◌++◌, length, map, Option, Some, None, IfSome, Result, Ok, Err}
 use Rattle.std.specs.List.{range_with_len}
 use Rattle.ann_key.specs.declared.bytes.NoMemory.{NoMemory}
 use Rattle.ann_outside.specs.Causes.{Rose}
-use Rattle.ann_outside.specs.Calls.{IsLogBlank, IsLogFrom}
+use Rattle.ann_outside.specs.Calls.{log_origin, IsLogBlank, IsLogFrom}
 use Rattle.ann_outside.specs.Desks.{Made, no_counts}
 use Rattle.ann_outside.specs.Files.{Files, WhereTold, OthersStay}
 use Rattle.ann_outside.specs.Played.{ArePlayed}
@@ -34,8 +35,7 @@ use Rattle.host_core.specs.Settings.{registers_after}
 use Rattle.host_core.specs.Steps.{are_all_claimed}
 use Rattle.link_roles.specs.Wires.{WireValue}
 use Rattle.child_end.specs.Programs.{Leaves}
-use Rattle.child_end.specs.Outsides.{OutsideValue, TableValue}
-use Rattle.lone_work.specs.Works.{DeskTells, desk_tells}
+use Rattle.child_end.specs.Outsides.{OutsideValue}
 use Rattle.job_rounds.specs.JobsKeep.{JobsKeep}
 use Rattle.job_rounds.specs.JobsWell.{JobsSucceed}
 use Rattle.job_rounds.specs.JobRuns.{RanJobs}
@@ -49,29 +49,25 @@ pub record MadeValue : Type 0 where
   pub journal : List Entry
   pub answers : List Answer
   pub wires : List WireValue
-  pub tables : List TableValue
+  pub tables : List DeskTold
   pub end : RunEnd
 
 -- ---- the run
 
 -- no call was made on the desk, and it counted nothing
-pub record IsFresh (desk : DeskTells) : Type 0 where
+pub record IsFresh (desk : DeskTold) : Type 0 where
   pub blank : IsLogBlank desk.log
   pub uncounted : desk.counts ≡ no_counts
 
 -- so is each of them
-abbrev pub AreFresh : List DeskTells → Type 0
+abbrev pub AreFresh : List DeskTold → Type 0
 AreFresh [] = Unit {0}
 AreFresh (desk ∷ desks) = IsFresh desk × AreFresh desks
-
--- what a table tells of its calls
-abbrev pub table_tells : TableValue → DeskTells
-table_tells table = desk_tells table.log table.counts
 
 -- From the opening that the words, the kept file, the input and the clock give, the tasks were done by as many
 -- workers as the words say, each with a fresh desk, and each job's part fits. Where all went well from outside, each task succeeded, or
 -- memory was wanted; where the remote was faithful, gets kept what stores sent.
-pub record IsRunOf (words : RunWords) (clock : Option ℕ) (told : Option Files) (flow : InputFlow) (workers : List TableValue) (journal : List Entry) : Type 0 where
+pub record IsRunOf (words : RunWords) (clock : Option ℕ) (told : Option Files) (flow : InputFlow) (workers : List DeskTold) (journal : List Entry) : Type 0 where
   pub stamp : ℕ
   pub at : IfSome clock (λ n. stamp ≡ n)
   pub kept : List ℕ
@@ -81,12 +77,12 @@ pub record IsRunOf (words : RunWords) (clock : Option ℕ) (told : Option Files)
   pub input : IsTaken TASKS flow (Ok tasks)
   pub opening : Opening
   pub begins : IsRunOpening words kept tasks stamp opening
-  pub before : List DeskTells
+  pub before : List DeskTold
   pub many : (length before ≡ words.jobs) × (length workers ≡ words.jobs)
   pub fresh : AreFresh before
-  pub ran : RanJobs opening (run_setup words stamp) true words.starts journal before (map table_tells workers)
+  pub ran : RanJobs opening (run_setup words stamp) true words.starts journal before workers
   pub parts : (c j : ℕ) → JobFits (replies_at opening journal) journal c j
-  pub succeeds : JobsSucceed opening (run_setup words stamp) words.starts journal [] journal 1 before (map table_tells workers)
+  pub succeeds : JobsSucceed opening (run_setup words stamp) words.starts journal [] journal 1 before workers
   pub keeps : JobsKeep opening (run_setup words stamp) journal
 
 -- ---- the kept file
@@ -106,11 +102,11 @@ abbrev pub IsRunFile : RunWords → List ℕ → Type 0
 IsRunFile words other = IsKeptFile words.keep other ⊎ (words.journal ≡ Some other)
 
 -- all files of the desk are as before but that one, where files are told
-abbrev pub RunFilesStay : RunWords → Option Files → TableValue → Type 0
+abbrev pub RunFilesStay : RunWords → Option Files → DeskTold → Type 0
 RunFilesStay words told table = WhereTold told table.files (OthersStay (IsNewOf words.keep))
 
 -- the desk counted a fault, or a missing file where it tells no files
-abbrev pub HasFailed : Option Files → TableValue → Type 0
+abbrev pub HasFailed : Option Files → DeskTold → Type 0
 HasFailed told table = Rose 0 table.counts.faults ⊎ ((told ≡ None) × Rose 0 table.counts.missing)
 
 -- what is kept after the run: the config that it began with, the other registers after the journal, and the notes after it
@@ -118,13 +114,13 @@ abbrev pub kept_after : Opening → List Entry → List ℕ
 kept_after o journal = kept_text o.registers (registers_after o journal) (notes_after o journal)
 
 -- it was written in the place of the kept file, or that is as before
-abbrev pub IsKeptIn : RunWords → List ℕ → Option Files → TableValue → Opening → List Entry → KeptWritten → Type 0
+abbrev pub IsKeptIn : RunWords → List ℕ → Option Files → DeskTold → Opening → List Entry → KeptWritten → Type 0
 IsKeptIn words name told table o journal W.Done = WhereTold told table.files (IsReplacedBy name (kept_after o journal) (Ok tt))
 IsKeptIn words name told table o journal W.TooLarge = (MOST_BYTES < length (kept_after o journal)) × RunFilesStay words told table
 IsKeptIn words name told table o journal W.Fault = HasFailed told table × RunFilesStay words told table
 
 -- so it is, where the words name a kept file; and where they name none, nothing was kept
-abbrev pub IsRunKept : RunWords → Option Files → TableValue → Opening → List Entry → KeptWritten → Type 0
+abbrev pub IsRunKept : RunWords → Option Files → DeskTold → Opening → List Entry → KeptWritten → Type 0
 IsRunKept words told table o journal written = go words.keep
   where
     go : Option (List ℕ) → Type 0
@@ -135,7 +131,7 @@ IsRunKept words told table o journal written = go words.keep
 
 -- where the words name a journal file, the text of the run was written in it, or a call failed or no memory was found; and
 -- where they name none, nothing changed
-abbrev pub IsJournaled : RunWords → TableValue → TableValue → Opening → List Entry → Result JournalWritten NoMemory → Type 0
+abbrev pub IsJournaled : RunWords → DeskTold → DeskTold → Opening → List Entry → Result JournalWritten NoMemory → Type 0
 IsJournaled words before after o journal result = go words.journal
   where
     go : Option (List ℕ) → Type 0
@@ -149,8 +145,8 @@ told_of W.Done J.Fault = W.Fault
 told_of kept journal = kept
 
 -- the kept file was written first and the journal file then, with the desk as `mid` between, and this is told of both
-pub record AreWritten (words : RunWords) (told : Option Files) (table : TableValue) (o : Opening) (journal : List Entry) (written : KeptWritten) : Type 0 where
-  pub mid : TableValue
+pub record AreWritten (words : RunWords) (told : Option Files) (table : DeskTold) (o : Opening) (journal : List Entry) (written : KeptWritten) : Type 0 where
+  pub mid : DeskTold
   pub of_kept : KeptWritten
   pub kept : IsRunKept words told mid o journal of_kept
   pub of_journal : JournalWritten
@@ -158,8 +154,8 @@ pub record AreWritten (words : RunWords) (told : Option Files) (table : TableVal
   pub told_is : written ≡ told_of of_kept of_journal
 
 -- this came of the kept file, and then no memory was found for the journal file
-pub record IsCutShort (words : RunWords) (told : Option Files) (table : TableValue) (o : Opening) (journal : List Entry) : Type 0 where
-  pub mid : TableValue
+pub record IsCutShort (words : RunWords) (told : Option Files) (table : DeskTold) (o : Opening) (journal : List Entry) : Type 0 where
+  pub mid : DeskTold
   pub of_kept : KeptWritten
   pub kept : IsRunKept words told mid o journal of_kept
   pub want : NoMemory
@@ -168,7 +164,7 @@ pub record IsCutShort (words : RunWords) (told : Option Files) (table : TableVal
 -- ---- its end
 
 -- no task was begun: nothing was started, no worker's desk was asked for, and the kept file is as before
-pub record IsUnbegun (words : RunWords) (told : Option Files) (table : TableValue) (workers : List TableValue) (made : MadeValue) : Type 0 where
+pub record IsUnbegun (words : RunWords) (told : Option Files) (table : DeskTold) (workers : List DeskTold) (made : MadeValue) : Type 0 where
   pub journal : made.journal ≡ []
   pub none : workers ≡ []
   pub before : RunFilesStay words told table
@@ -178,19 +174,19 @@ abbrev pub HasText : RunWords → Option Files → (List ℕ → Type 0) → Typ
 HasText words told P = (kept : List ℕ) × IsTextFor words told kept × P kept
 
 -- the run is whole: each task was answered, these are the answers, and this came of the kept file and the journal file
-pub record IsWholeRun (words : RunWords) (clock : Option ℕ) (told : Option Files) (flow : InputFlow) (table : TableValue) (workers : List TableValue) (made : MadeValue) (written : KeptWritten) : Type 0 where
+pub record IsWholeRun (words : RunWords) (clock : Option ℕ) (told : Option Files) (flow : InputFlow) (table : DeskTold) (workers : List DeskTold) (made : MadeValue) (written : KeptWritten) : Type 0 where
   pub run : IsRunOf words clock told flow workers made.journal
   pub all : are_all_claimed run.opening made.journal ≡ true
   pub answers : AreAnswers run.opening made.journal made.answers
   pub files : AreWritten words told table run.opening made.journal written
 
 -- all tasks were done, and no memory was found for the journal file
-pub record LacksJournal (words : RunWords) (clock : Option ℕ) (told : Option Files) (flow : InputFlow) (table : TableValue) (workers : List TableValue) (made : MadeValue) : Type 0 where
+pub record LacksJournal (words : RunWords) (clock : Option ℕ) (told : Option Files) (flow : InputFlow) (table : DeskTold) (workers : List DeskTold) (made : MadeValue) : Type 0 where
   pub run : IsRunOf words clock told flow workers made.journal
   pub all : are_all_claimed run.opening made.journal ≡ true
   pub files : IsCutShort words told table run.opening made.journal
 
-abbrev pub EndsRun : RunWords → Option ℕ → Option Files → InputFlow → TableValue → List TableValue → MadeValue → RunEnd → Type 0
+abbrev pub EndsRun : RunWords → Option ℕ → Option Files → InputFlow → DeskTold → List DeskTold → MadeValue → RunEnd → Type 0
 EndsRun words clock told flow table workers made (BadKept line) =
     IsUnbegun words told table workers made × IsUnread flow × HasText words told (λ kept. bad_line kept ≡ Some line)
 EndsRun words clock told flow table workers made KeptTooLarge =
@@ -217,15 +213,19 @@ AddsMade None (Some ys) more = ⊥
 AddsMade (Some xs) None more = ⊥
 AddsMade (Some xs) (Some ys) more = ys ≡ xs ++ more
 
+-- the files that the logs of desks began with
+abbrev pub origins_of : List DeskTold → List (Option (Option Files))
+origins_of desks = map (λ (desk : DeskTold). log_origin desk.log) desks
+
 -- where a desk tells its calls, its log began with the files that were told of it when it was made
-abbrev pub BeganAs : List Made → List TableValue → Type 0
+abbrev pub BeganAs : List Made → List DeskTold → Type 0
 BeganAs [] [] = Unit {0}
 BeganAs [] (table ∷ tables) = ⊥
 BeganAs (m ∷ more) [] = ⊥
 BeganAs (m ∷ more) (table ∷ tables) = IsLogFrom table.log m.files × BeganAs more tables
 
 -- where a desk tells its calls and its files, these are what its calls made of those that its log began with
-abbrev pub ArePlayedAt : List TableValue → Type 0
+abbrev pub ArePlayedAt : List DeskTold → Type 0
 ArePlayedAt [] = Unit {0}
 ArePlayedAt (table ∷ tables) = ∥ ArePlayed table.log table.files ∥₁ × ArePlayedAt tables
 
@@ -234,8 +234,8 @@ ArePlayedAt (table ∷ tables) = ∥ ArePlayed table.log table.files ∥₁ × A
 -- name the kept file, the one in which it is made, and the journal file alone.
 pub record IsAtDesk (words : RunWords) (clock : Option ℕ) (before : OutsideValue) (flow : InputFlow) (after : OutsideValue) (made : MadeValue) : Type 0 where
   pub told : Option Files
-  pub table : TableValue
-  pub workers : List TableValue
+  pub table : DeskTold
+  pub workers : List DeskTold
   pub tables : made.tables ≡ table ∷ workers
   pub few : length workers ≤ words.jobs
   pub more : List Made

@@ -44,9 +44,9 @@ fn read_named<D: Desk>(
     desk: &mut D,
 ) -> Result<Kept, RunEnd>
     requires named { words.now.keep ≡ Some name.now }
-    ensures kept { ReadsKept words.now (D.files desk.old) (D.counts desk.old).faults (D.counts desk.new).faults result }
-    ensures files { D.files desk.new ≡ D.files desk.old }
-    ensures calls { NamesOnly (IsRunFile words.now) (D.log desk.old) (D.log desk.new) }
+    ensures kept { ReadsKept words.now (D.told desk.old).files (D.told desk.old).counts.faults (D.told desk.new).counts.faults result }
+    ensures files { (D.told desk.new).files ≡ (D.told desk.old).files }
+    ensures calls { NamesOnly (IsRunFile words.now) (D.told desk.old).log (D.told desk.new).log }
 {
     match read_kept(alloc, desk, name) {
         Ok(KeptRead::Kept { registers, notes }) => Ok(Kept { registers, notes }),
@@ -60,9 +60,9 @@ fn read_named<D: Desk>(
 // What the kept file hands on, where the words name one.
 #[tactic(auto, using(desk_file::proofs::Naming::names_none))]
 fn read_keep<D: Desk>(alloc: Global, words: &RunWords, desk: &mut D) -> Result<Kept, RunEnd>
-    ensures kept { ReadsKept words.now (D.files desk.old) (D.counts desk.old).faults (D.counts desk.new).faults result }
-    ensures files { D.files desk.new ≡ D.files desk.old }
-    ensures calls { NamesOnly (IsRunFile words.now) (D.log desk.old) (D.log desk.new) }
+    ensures kept { ReadsKept words.now (D.told desk.old).files (D.told desk.old).counts.faults (D.told desk.new).counts.faults result }
+    ensures files { (D.told desk.new).files ≡ (D.told desk.old).files }
+    ensures calls { NamesOnly (IsRunFile words.now) (D.told desk.old).log (D.told desk.new).log }
 {
     match &words.keep {
         Some(name) => read_named(alloc, words, name.view(), desk),
@@ -72,8 +72,8 @@ fn read_keep<D: Desk>(alloc: Global, words: &RunWords, desk: &mut D) -> Result<K
 
 // The tasks of the input, or what stands against it.
 fn read_input<I: Source>(alloc: Global, input: &mut I) -> Result<Tasks, RunEnd>
-    requires { I.is_open input.old ≡ true }
-    ensures { ReadsInput (input_flow (I.given input.old) (I.given input.new) (I.left input.old) (I.left input.new) (I.faults input.old) (I.faults input.new)) result }
+    requires { (I.told input.old).is_open ≡ true }
+    ensures { ReadsInput (input_flow (I.told input.old).given (I.told input.new).given (I.told input.old).left (I.told input.new).left (I.told input.old).faults (I.told input.new).faults) result }
 {
     match read_tasks(alloc, input, &Limits::TASKS) {
         Ok(tasks) => Ok(tasks),
@@ -113,12 +113,12 @@ pub(crate) fn begin<D: Desk, I: Source, C: Clock>(
     input: &mut I,
     clock: &mut C,
 ) -> Result<Opening, RunEnd>
-    requires { I.is_open input.old ≡ true }
-    ensures begins { BeginsRun words.now (C.answer clock.old) (D.files desk.old)
-        (input_flow (I.given input.old) (I.given input.new) (I.left input.old) (I.left input.new) (I.faults input.old) (I.faults input.new))
-        (D.counts desk.old).faults (D.counts desk.new).faults result }
-    ensures files { D.files desk.new ≡ D.files desk.old }
-    ensures calls { NamesOnly (IsRunFile words.now) (D.log desk.old) (D.log desk.new) }
+    requires { (I.told input.old).is_open ≡ true }
+    ensures begins { BeginsRun words.now (C.answer clock.old) (D.told desk.old).files
+        (input_flow (I.told input.old).given (I.told input.new).given (I.told input.old).left (I.told input.new).left (I.told input.old).faults (I.told input.new).faults)
+        (D.told desk.old).counts.faults (D.told desk.new).counts.faults result }
+    ensures files { (D.told desk.new).files ≡ (D.told desk.old).files }
+    ensures calls { NamesOnly (IsRunFile words.now) (D.told desk.old).log (D.told desk.new).log }
 {
     let kept = read_keep(alloc, words, desk)?;
     let tasks = read_input(alloc, input)?;

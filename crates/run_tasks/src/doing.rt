@@ -3,7 +3,6 @@ ghost use Rattle.std.specs.Prelude.{◌≡◌, ◌≤◌, ◌<◌, ◌*◌, ◌�
 ghost use Rattle.annex_model.specs.Lines.{has_newline};
 ghost use Rattle.chunk_log.specs.ChunkLines.{IsWrittenUuid};
 ghost use Rattle.child_end.specs.Outsides.{OutsideValue};
-ghost use Rattle.child_end.specs.Programs.{programs_value};
 ghost use Rattle.cli_words.specs.Identities.{IsFit};
 ghost use Rattle.cli_words.specs.declared.command.Command.TheVariants.{Run};
 ghost use Rattle.journal_model.specs.Limits.{most_again};
@@ -111,10 +110,10 @@ where
     requires starts { (0 < words.now.starts) × (words.now.starts ≤ 16) }
     requires again { words.now.again ≤ most_again }
     requires text { has_newline words.now.work ≡ false }
-    requires input { I.is_open input.old ≡ true }
-    ensures { HasDone words.now (C.answer clock.old) (record { programs = programs_value (P.starts programs.old) (P.faults programs.old); made = K.made desks.old })
-        (input_flow (I.given input.old) (I.given input.new) (I.left input.old) (I.left input.new) (I.faults input.old) (I.faults input.new))
-        (record { programs = programs_value (P.starts programs.new) (P.faults programs.new); made = K.made desks.new }) result }
+    requires input { (I.told input.old).is_open ≡ true }
+    ensures { HasDone words.now (C.answer clock.old) (record { programs = P.told programs.old; made = K.made desks.old })
+        (input_flow (I.told input.old).given (I.told input.new).given (I.told input.old).left (I.told input.new).left (I.told input.old).faults (I.told input.new).faults)
+        (record { programs = P.told programs.new; made = K.made desks.new }) result }
 {
     let Ok(room) = take_room::<P, K>(alloc, words.starts, words.jobs) else {
         return nothing_made(alloc);

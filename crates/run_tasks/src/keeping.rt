@@ -1,6 +1,5 @@
 // What is written after the tasks.
 ghost use Rattle.std.specs.Prelude.{◌≡◌};
-ghost use Rattle.child_end.specs.Outsides.{table_value};
 ghost use Rattle.desk_file.specs.Names.{NamesOnly};
 ghost use Rattle.run_answers.specs.Answering.{AreAllAnswered};
 ghost use Rattle.run_tasks.specs.Runs.{IsJournaled, IsRunFile, told_of};
@@ -33,8 +32,8 @@ fn keep<D: Desk>(
     desk: &mut D,
     core: &Core,
 ) -> Result<KeptWritten, NoMemory>
-    ensures keeps { Keeps words.now (D.files desk.old) (table_value D.counts D.files D.log desk.new) core.now.opening core.now.journal result }
-    ensures calls { NamesOnly (IsRunFile words.now) (D.log desk.old) (D.log desk.new) }
+    ensures keeps { Keeps words.now (D.told desk.old).files (D.told desk.new) core.now.opening core.now.journal result }
+    ensures calls { NamesOnly (IsRunFile words.now) (D.told desk.old).log (D.told desk.new).log }
 {
     match &words.keep {
         Some(name) => write_kept(
@@ -57,8 +56,8 @@ fn write_text<D: Desk>(
     desk: &mut D,
     core: &Core,
 ) -> Result<JournalWritten, NoMemory>
-    ensures journaled { IsJournaled words.now (table_value D.counts D.files D.log desk.old) (table_value D.counts D.files D.log desk.new) core.now.opening core.now.journal result }
-    ensures calls { NamesOnly (IsRunFile words.now) (D.log desk.old) (D.log desk.new) }
+    ensures journaled { IsJournaled words.now (D.told desk.old) (D.told desk.new) core.now.opening core.now.journal result }
+    ensures calls { NamesOnly (IsRunFile words.now) (D.told desk.old).log (D.told desk.new).log }
 {
     match &words.journal {
         Some(name) => write_journal(alloc, desk, name.view(), core.opening(), core.journal()),
@@ -84,8 +83,8 @@ fn write_both<D: Desk>(
     desk: &mut D,
     core: &Core,
 ) -> Result<KeptWritten, NoMemory>
-    ensures writes { Writes words.now (D.files desk.old) (table_value D.counts D.files D.log desk.new) core.now.opening core.now.journal result }
-    ensures calls { NamesOnly (IsRunFile words.now) (D.log desk.old) (D.log desk.new) }
+    ensures writes { Writes words.now (D.told desk.old).files (D.told desk.new) core.now.opening core.now.journal result }
+    ensures calls { NamesOnly (IsRunFile words.now) (D.told desk.old).log (D.told desk.new).log }
 {
     let kept = keep(alloc, words, desk, core)?;
     let journal = write_text(alloc, words, desk, core)?;
@@ -101,8 +100,8 @@ pub(crate) fn finish<D: Desk>(
     core: &Core,
 ) -> Finished
     requires { AreAllAnswered core.now.opening core.now.journal }
-    ensures finishes { Finishes words.now (D.files desk.old) (table_value D.counts D.files D.log desk.new) core.now.opening core.now.journal result.answers.items result.end }
-    ensures calls { NamesOnly (IsRunFile words.now) (D.log desk.old) (D.log desk.new) }
+    ensures finishes { Finishes words.now (D.told desk.old).files (D.told desk.new) core.now.opening core.now.journal result.answers.items result.end }
+    ensures calls { NamesOnly (IsRunFile words.now) (D.told desk.old).log (D.told desk.new).log }
 {
     let Ok(answers) = answers_of(alloc, core) else {
         return Finished {

@@ -38,7 +38,6 @@ pub struct Made<P: Programs, K: Desks> {
 
 impl<P: Programs, K: Desks> Model for Made<P, K> {
     ghost use Rattle.std.specs.Prelude.{map};
-    ghost use Rattle.child_end.specs.Outsides.{table_value};
     ghost use Rattle.run_tasks.specs.Runs.{MadeValue};
 
     ghost Value = { MadeValue };
@@ -47,7 +46,7 @@ impl<P: Programs, K: Desks> Model for Made<P, K> {
       journal = m.journal.entries;
       answers = m.answers.items;
       wires = m.wires.items;
-      tables = map (table_value K.Desk.counts K.Desk.files K.Desk.log) m.tables.items;
+      tables = map (K.Desk.told) m.tables.items;
       end = m.end;
     } };
 }

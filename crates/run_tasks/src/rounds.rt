@@ -1,12 +1,9 @@
 // The tasks of a run, with a desk for each worker.
 ghost use Rattle.std.specs.Prelude.{◌≡◌, ◌≤◌, ◌*◌, [], IfOk, OnOk, map, vec_len, vec_capacity};
-ghost use Rattle.ann_outside.specs.Calls.{log_origin};
 ghost use Rattle.journal_model.specs.Beginnings.{MayBegin};
-ghost use Rattle.child_end.specs.Outsides.{table_value};
 ghost use Rattle.desk_file.specs.Names.{NamesOnly};
-ghost use Rattle.child_end.specs.Programs.{Leaves, programs_value};
-ghost use Rattle.lone_work.specs.Works.{desk_tells};
-ghost use Rattle.run_tasks.specs.Runs.{AreFresh, IsRunFile};
+ghost use Rattle.child_end.specs.Programs.{Leaves};
+ghost use Rattle.run_tasks.specs.Runs.{origins_of, AreFresh, IsRunFile};
 ghost use Rattle.run_tasks.specs.Workings.{AddsWorkers, EndsWork, GoesOn, IsPrepared};
 ghost use Rattle.run_tasks.specs.declared.made.RunEnd.TheVariants.{Memory};
 
@@ -100,8 +97,8 @@ fn ask_desks<K: Desks>(desks: &mut K, jobs: u32, crew: &mut Vec<K::Desk>) -> Res
     requires few { jobs ≤ 64 }
     requires none { crew.old.items ≡ [] }
     requires room { jobs ≤ vec_capacity crew.old }
-    ensures desks { AddsWorkers jobs (K.made desks.old) (K.made desks.new) (map (table_value K.Desk.counts K.Desk.files K.Desk.log) crew.new.items) }
-    ensures fresh { AreFresh (map (λ k. desk_tells (K.Desk.log k) (K.Desk.counts k)) crew.new.items) }
+    ensures desks { AddsWorkers jobs (K.made desks.old) (K.made desks.new) (map (K.Desk.told) crew.new.items) }
+    ensures fresh { AreFresh (map K.Desk.told crew.new.items) }
     ensures all { OnOk result (vec_len crew.new ≡ jobs) }
 {
     'workers: for before in 0..jobs {
@@ -127,16 +124,16 @@ where
     requires prepared { IsPrepared setting.now.words.now ready }
     requires may { MayBegin ready.core.opening }
     requires crew { vec_len crew ≡ setting.now.words.now.jobs }
-    requires fresh { AreFresh (map (λ k. desk_tells (D.log k) (D.counts k)) crew.items) }
+    requires fresh { AreFresh (map D.told crew.items) }
     requires room { setting.now.words.now.starts * setting.now.words.now.jobs ≤ vec_capacity wires.old }
     requires none { wires.old.items ≡ [] }
-    ensures ends { EndsWork setting.now.words.now (D.files desk.old) (table_value D.counts D.files D.log desk.new) ready.core.opening (map (table_value D.counts D.files D.log) result.crew.items)
+    ensures ends { EndsWork setting.now.words.now (D.told desk.old).files (D.told desk.new) ready.core.opening (map (D.told) result.crew.items)
         result.journal.entries result.answers.items result.end }
-    ensures calls { NamesOnly (IsRunFile setting.now.words.now) (D.log desk.old) (D.log desk.new) }
+    ensures calls { NamesOnly (IsRunFile setting.now.words.now) (D.told desk.old).log (D.told desk.new).log }
     ensures crew { vec_len result.crew ≡ setting.now.words.now.jobs }
-    ensures origins { map (λ k. log_origin (D.log k)) result.crew.items ≡ map (λ k. log_origin (D.log k)) crew.items }
+    ensures origins { origins_of (map D.told result.crew.items) ≡ origins_of (map D.told crew.items) }
     ensures leaves { Leaves (result.end ≡ Memory) setting.now.words.now.program result.journal.entries
-        (programs_value (P.starts programs.old) (P.faults programs.old)) (programs_value (P.starts programs.new) (P.faults programs.new)) wires.new.items }
+        (P.told programs.old) (P.told programs.new) wires.new.items }
 {
     let alloc = setting.alloc;
     let Ready { core, plan, tasks } = ready;
@@ -189,12 +186,12 @@ where
     requires crew { (crew.items ≡ []) × (setting.now.words.now.jobs ≤ vec_capacity crew) }
     requires room { setting.now.words.now.starts * setting.now.words.now.jobs ≤ vec_capacity wires.old }
     requires none { wires.old.items ≡ [] }
-    ensures ends { EndsWork setting.now.words.now (K.Desk.files desk.old) (table_value K.Desk.counts K.Desk.files K.Desk.log desk.new) opening
-        (map (table_value K.Desk.counts K.Desk.files K.Desk.log) result.crew.items) result.journal.entries result.answers.items result.end }
-    ensures calls { NamesOnly (IsRunFile setting.now.words.now) (K.Desk.log desk.old) (K.Desk.log desk.new) }
-    ensures desks { AddsWorkers setting.now.words.now.jobs (K.made desks.old) (K.made desks.new) (map (table_value K.Desk.counts K.Desk.files K.Desk.log) result.crew.items) }
+    ensures ends { EndsWork setting.now.words.now (K.Desk.told desk.old).files (K.Desk.told desk.new) opening
+        (map (K.Desk.told) result.crew.items) result.journal.entries result.answers.items result.end }
+    ensures calls { NamesOnly (IsRunFile setting.now.words.now) (K.Desk.told desk.old).log (K.Desk.told desk.new).log }
+    ensures desks { AddsWorkers setting.now.words.now.jobs (K.made desks.old) (K.made desks.new) (map (K.Desk.told) result.crew.items) }
     ensures leaves { Leaves (result.end ≡ Memory) setting.now.words.now.program result.journal.entries
-        (programs_value (P.starts programs.old) (P.faults programs.old)) (programs_value (P.starts programs.new) (P.faults programs.new)) wires.new.items }
+        (P.told programs.old) (P.told programs.new) wires.new.items }
 {
     let mut crew = crew;
     let Ok(()) = ask_desks(desks, setting.words.jobs, &mut crew) else {
@@ -225,12 +222,12 @@ where
     requires crew { (crew.items ≡ []) × (setting.now.words.now.jobs ≤ vec_capacity crew) }
     requires room { setting.now.words.now.starts * setting.now.words.now.jobs ≤ vec_capacity wires.old }
     requires none { wires.old.items ≡ [] }
-    ensures goes_on { GoesOn setting.now.words.now (table_value K.Desk.counts K.Desk.files K.Desk.log desk.old) (table_value K.Desk.counts K.Desk.files K.Desk.log desk.new)
-        (map (table_value K.Desk.counts K.Desk.files K.Desk.log) result.crew.items) result.journal.entries result.answers.items begun result.end }
-    ensures calls { NamesOnly (IsRunFile setting.now.words.now) (K.Desk.log desk.old) (K.Desk.log desk.new) }
-    ensures desks { AddsWorkers setting.now.words.now.jobs (K.made desks.old) (K.made desks.new) (map (table_value K.Desk.counts K.Desk.files K.Desk.log) result.crew.items) }
+    ensures goes_on { GoesOn setting.now.words.now (K.Desk.told desk.old) (K.Desk.told desk.new)
+        (map (K.Desk.told) result.crew.items) result.journal.entries result.answers.items begun result.end }
+    ensures calls { NamesOnly (IsRunFile setting.now.words.now) (K.Desk.told desk.old).log (K.Desk.told desk.new).log }
+    ensures desks { AddsWorkers setting.now.words.now.jobs (K.made desks.old) (K.made desks.new) (map (K.Desk.told) result.crew.items) }
     ensures leaves { Leaves (result.end ≡ Memory) setting.now.words.now.program result.journal.entries
-        (programs_value (P.starts programs.old) (P.faults programs.old)) (programs_value (P.starts programs.new) (P.faults programs.new)) wires.new.items }
+        (P.told programs.old) (P.told programs.new) wires.new.items }
 {
     match begun {
         Ok(opening) => work(setting, opening, programs, desks, desk, crew, wires),

@@ -78,8 +78,8 @@ impl<R: Wait> SharedDesk<R> {
     // Counts a fault or a missing file where the outcome is one, and hands the outcome on.
     fn counted<T>(&mut self, outcome: Result<T, DeskError>) -> Result<T, DeskError>
         ensures same { result ≡ outcome }
-        ensures causes { HasCauses (⟦<SharedDesk<R> as Desk>⟧.counts self.old) (⟦<SharedDesk<R> as Desk>⟧.counts self.new) result }
-        ensures apart { LeavesOther (⟦<SharedDesk<R> as Desk>⟧.counts self.old) (⟦<SharedDesk<R> as Desk>⟧.counts self.new) result }
+        ensures causes { HasCauses (⟦<SharedDesk<R> as Desk>⟧.told self.old).counts (⟦<SharedDesk<R> as Desk>⟧.told self.new).counts result }
+        ensures apart { LeavesOther (⟦<SharedDesk<R> as Desk>⟧.told self.old).counts (⟦<SharedDesk<R> as Desk>⟧.told self.new).counts result }
     {
         match outcome {
             Err(DeskError::Failed) => self.faults = self.faults.saturating_add(1),
@@ -91,11 +91,7 @@ impl<R: Wait> SharedDesk<R> {
 }
 
 impl<R: Wait> Desk for SharedDesk<R> {
-    ghost counts = { λ d. record { faults = d.faults; missing = d.missing } };
-
-    ghost files = { λ d. None };
-
-    ghost log = { λ d. None };
+    ghost told = { λ d. record { counts = record { faults = d.faults; missing = d.missing }; files = None; log = None } };
 
     fn size(&mut self, name: &str) -> Result<u64, DeskError> {
         let size = {

@@ -1,4 +1,5 @@
 -- What is told of a call, from what came of its command and how that was told.
+use Rattle.ann_outside.specs.Told.{DeskTold}
 use Rattle.std.proofs.Common.{◌≡◌, ◌⊎◌, ◌∙◌, ◌==◌, ◌≤◌, ℕ, List, [], ◌∷◌, length, Bool, true, false, cond, Option, Some, None, Ok, Err, refl, sym, ap, subst, inl, inr, arith}
 use Rattle.std.specs.Prelude.{◌||◌, map, IfSome, IsSome, Result}
 use Rattle.std.specs.Io.KnownBytes.{Appends}
@@ -35,7 +36,7 @@ use Rattle.special_cli.specs.Calls.{IsCalled, IsDone}
 use Rattle.special_cli.specs.Commands.{ComesToNothing, EndsCheck, HasChecked, EndsInfo, HasInformed, UnlessRefused, Runs}
 use Rattle.special_cli.specs.Endings.{is_well, status_of, IsChecked, IsPrinted, IsTold, LacksMemory}
 use Rattle.special_cli.specs.Informs.{IsInfoTold, info_status}
-use Rattle.child_end.specs.Outsides.{OutsideValue, TableValue}
+use Rattle.child_end.specs.Outsides.{OutsideValue}
 use Rattle.special_cli.specs.Left.{Left, RanValue, IsIdle}
 use Rattle.child_end.specs.Programs.{HaveStarted, Leaves}
 use Rattle.child_end.specs.Outsides.{HaveMade}
@@ -297,7 +298,7 @@ info_wanted key left end ends = absurd ends
 
 -- ---- init
 
-init_wanted : (words : InitWords) (told : Option Files) (table : TableValue) (journal : List Entry) (end : End) → EndsInit words told table journal end → NeitherIn (wanted_of end)
+init_wanted : (words : InitWords) (told : Option Files) (table : DeskTold) (journal : List Entry) (end : End) → EndsInit words told table journal end → NeitherIn (wanted_of end)
 unfolding wanted_of NeitherIn
 init_wanted words told table journal (BadKept line) ends = (refl, refl)
 init_wanted words told table journal KeptTooLarge ends = (refl, refl)
@@ -348,12 +349,12 @@ made_none : (xs : Option (List Made)) → HaveMade xs xs []
 made_none None = tt
 made_none (Some xs) = ([], sym (append-nil xs), refl)
 
-made_still : (old new : Option (List Made)) (tables : List TableValue) → new ≡ old → tables ≡ [] → HaveMade old new tables
-made_still old new tables e t = subst (λ (x : Option (List Made)). HaveMade old x tables) (sym e) (subst (λ (x : List TableValue). HaveMade old old x) (sym t) (made_none old))
+made_still : (old new : Option (List Made)) (tables : List DeskTold) → new ≡ old → tables ≡ [] → HaveMade old new tables
+made_still old new tables e t = subst (λ (x : Option (List Made)). HaveMade old x tables) (sym e) (subst (λ (x : List DeskTold). HaveMade old old x) (sym t) (made_none old))
 
 -- one desk was asked for
-made_one : (old new : Option (List Made)) (m : Made) (table : TableValue) (tables : List TableValue) → m.number ≡ 0 → AddsOne old new m → tables ≡ table ∷ [] → HaveMade old new tables
-made_one old new m table tables zero a e = subst (λ (x : List TableValue). HaveMade old new x) (sym e) (go old new a)
+made_one : (old new : Option (List Made)) (m : Made) (table : DeskTold) (tables : List DeskTold) → m.number ≡ 0 → AddsOne old new m → tables ≡ table ∷ [] → HaveMade old new tables
+made_one old new m table tables zero a e = subst (λ (x : List DeskTold). HaveMade old new x) (sym e) (go old new a)
   where
     go : (old new : Option (List Made)) → AddsOne old new m → HaveMade old new (table ∷ [])
     go None None a = tt
@@ -362,9 +363,9 @@ made_one old new m table tables zero a e = subst (λ (x : List TableValue). Have
     go (Some xs) (Some ys) a = (m ∷ [], a, ap (λ (n : ℕ). n ∷ []) zero)
 
 -- desk 0 was asked for, and then those of the workers
-made_more : (old new : Option (List Made)) (told : Option Files) (table : TableValue) (workers : List TableValue) (more : List Made) (tables : List TableValue) → tables ≡ table ∷ workers
+made_more : (old new : Option (List Made)) (told : Option Files) (table : DeskTold) (workers : List DeskTold) (more : List Made) (tables : List DeskTold) → tables ≡ table ∷ workers
     → AddsMade old new (record { number = 0; files = told } ∷ more) → map (λ (m : Made). m.number) more ≡ range_with_len 1 (length workers) → HaveMade old new tables
-made_more old new told table workers more tables e a numbers = subst (λ (x : List TableValue). HaveMade old new x) (sym e) (go old new a)
+made_more old new told table workers more tables e a numbers = subst (λ (x : List DeskTold). HaveMade old new x) (sym e) (go old new a)
   where
     go : (old new : Option (List Made)) → AddsMade old new (record { number = 0; files = told } ∷ more) → HaveMade old new (table ∷ workers)
     go None None a = tt

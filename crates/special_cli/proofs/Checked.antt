@@ -1,4 +1,5 @@
 -- What comes of a check.
+use Rattle.ann_outside.specs.Told.{DeskTold, ProgramsTold}
 use Rattle.std.proofs.Common.{◌≡◌, ◌≤◌, ℕ, List, [], ◌∷◌, length, lit≤, refl, sym, ap, subst, Bool, false, true, All, None, Option, Some, Ok, Err, arith}
 use Rattle.std.specs.Prelude.{Result, IfOk, IfSome, IsErr, MatchResult, map}
 use Rattle.std.proofs.lemmas.List.Elements.{All-cons, All-nil}
@@ -22,7 +23,6 @@ use Rattle.journal_model.specs.declared.entry.Entry.{Entry}
 use Rattle.journal_model.specs.declared.opening.Opening.{Opening}
 use Rattle.journal_model.proofs.Projecting.{parts_fit}
 use Rattle.task_run.specs.declared.setup.Setup.{Setup}
-use Rattle.lone_work.specs.Works.{DeskTells, desk_tells}
 use Rattle.lone_rounds.specs.Rounds.{EndsClosed, HasRun, RanAlone}
 use Rattle.run_tasks.specs.Runs.{AreAnswers, answer_of}
 use Rattle.special_cli.specs.Openings.{check_opening, info_opening}
@@ -31,7 +31,7 @@ use Rattle.special_cli.specs.declared.check.Ready.{Ready}
 use Rattle.special_cli.specs.declared.end.End.{End}
 use Rattle.special_cli.specs.declared.end.End.TheVariants.{Answered, Memory}
 use Rattle.child_end.specs.Outsides.{OutsideValue}
-use Rattle.child_end.specs.Programs.{ProgramsValue, Leaves}
+use Rattle.child_end.specs.Programs.{Leaves}
 use Rattle.special_cli.specs.Left.{Left, RanValue}
 use Rattle.special_cli.specs.Commands.{EndsCheck, HasChecked, HasNoDesk, IsPrepared}
 use Rattle.special_cli.proofs.Leaving.{leaves_as}
@@ -65,8 +65,8 @@ info_begins o same = subst MayBegin (sym same) (begins info_opening (lit≤ tt) 
 
 -- ---- nothing was done
 
-pub silent : DeskTells
-silent = desk_tells None no_counts
+pub silent : DeskTold
+silent = record { counts = no_counts; files = None; log = None }
 
 pub ran_nothing : (o : Opening) (setup : Setup) (may : Bool) (limit : ℕ) (journal : List Entry) → journal ≡ [] → RanAlone o setup may limit journal silent silent
 unfolding silent
@@ -89,7 +89,7 @@ ran_nothing o setup may limit journal none =
 -- ---- the journal
 
 -- the run of what a check of the key begins with
-pub checked : (clock : Option ℕ) (key : List ℕ) (stamp : ℕ) (o : Opening) (setup : Setup) (may : Bool) (limit : ℕ) (journal : List Entry) (desk desk' : DeskTells) → IfSome clock (λ n. stamp ≡ n)
+pub checked : (clock : Option ℕ) (key : List ℕ) (stamp : ℕ) (o : Opening) (setup : Setup) (may : Bool) (limit : ℕ) (journal : List Entry) (desk desk' : DeskTold) → IfSome clock (λ n. stamp ≡ n)
     → o ≡ check_opening key stamp → setup ≡ check_setup stamp → may ≡ false → limit ≡ 1 → RanAlone o setup may limit journal desk desk' → IsChecked clock key journal
 checked clock key stamp o setup may limit journal desk desk' at begins plan unoffered one ran =
     let run : RanAlone (check_opening key stamp) (check_setup stamp) false 1 journal desk desk' =
@@ -119,7 +119,7 @@ answered key stamp o journal answers begins are closed = go answers (answer_of j
 -- ---- as the run that a check makes ready
 
 pub checked_as : (clock : Option ℕ) (program key : List ℕ) (stamp : ℕ) (ready : Ready) (journal journal' : List Entry) → IfSome clock (λ n. stamp ≡ n) → IsPrepared program key stamp ready → journal' ≡ journal
-    → ((desk : DeskTells) × (desk' : DeskTells) × RanAlone ready.core.opening ready.plan.setup ready.plan.offers ready.plan.starts journal desk desk') → IsChecked clock key journal'
+    → ((desk : DeskTold) × (desk' : DeskTold) × RanAlone ready.core.opening ready.plan.setup ready.plan.offers ready.plan.starts journal desk desk') → IsChecked clock key journal'
 checked_as clock program key stamp ready journal journal' at is same (desk, desk', ran) =
     subst (λ (j : List Entry). IsChecked clock key j) (sym same)
     (checked clock key stamp ready.core.opening ready.plan.setup ready.plan.offers ready.plan.starts journal desk desk' at is.opening
@@ -139,9 +139,9 @@ pub wanting : {V E : Type 0} (r : Result V E) (items : V → List Answer) (answe
 wanting (Ok v) items answers end h err = absurd (let bad : false ≡ true = err in cc)
 wanting (Err e) items answers end (none, is) err = is
 
-pub has_checked : {V E : Type 0} (r : Result V E) (items : V → List Answer) (clock : Option ℕ) (program key : List ℕ) (stamp : ℕ) (ready : Ready) (journal : List Entry) (programs : ProgramsValue) (before : OutsideValue) (ran : RanValue)
+pub has_checked : {V E : Type 0} (r : Result V E) (items : V → List Answer) (clock : Option ℕ) (program key : List ℕ) (stamp : ℕ) (ready : Ready) (journal : List Entry) (programs : ProgramsTold) (before : OutsideValue) (ran : RanValue)
     → IfSome clock (λ n. stamp ≡ n) → IsPrepared program key stamp ready → ran.left.journal ≡ journal
-    → ((desk : DeskTells) × (desk' : DeskTells) × RanAlone ready.core.opening ready.plan.setup ready.plan.offers ready.plan.starts journal desk desk')
+    → ((desk : DeskTold) × (desk' : DeskTold) × RanAlone ready.core.opening ready.plan.setup ready.plan.offers ready.plan.starts journal desk desk')
     → IfOk r (λ v. AreAnswers ready.core.opening journal (items v) × EndsClosed journal)
     → MatchResult r (λ v. (ran.left.answers ≡ items v) × (ran.end ≡ Answered)) (λ _. (ran.left.answers ≡ []) × (ran.end ≡ Memory))
     → Leaves (IsErr r) ready.plan.program journal programs ran.left.outside.programs ran.left.wires → before.programs ≡ programs → HasNoDesk before ran.left → HasChecked clock program key before ran

@@ -1,4 +1,5 @@
 -- A run has no more answers than its input may have lines.
+use Rattle.ann_outside.specs.Told.{DeskTold}
 use Rattle.std.proofs.Common.{◌≡◌, ◌∙◌, ◌≤◌, ℕ, List, [], length, Option, Some, refl, sym, ap, inl, inr, arith}
 use Rattle.std.proofs.lemmas.List.{length-map}
 use Rattle.std.proofs.lemmas.List.FromFn.{length-range_with_len}
@@ -9,7 +10,7 @@ use Rattle.cli_words.specs.declared.command.RunWords.{RunWords}
 use Rattle.journal_model.specs.declared.answer.Answer.{Answer}
 use Rattle.journal_model.specs.declared.opening.Opening.{Opening}
 use Rattle.journal_model.specs.Legality.{numbers_of}
-use Rattle.child_end.specs.Outsides.{OutsideValue, TableValue}
+use Rattle.child_end.specs.Outsides.{OutsideValue}
 use Rattle.run_tasks.specs.Inputs.{InputFlow}
 use Rattle.run_tasks.specs.Runs.{MadeValue, HasDone, IsWholeRun, IfUnwhole, EndsRun, answer_of}
 use Rattle.run_tasks.specs.declared.made.RunEnd.{RunEnd}
@@ -18,7 +19,7 @@ use Rattle.run_tasks.proofs.Begun.{few_tasks}
 
 -- ---- a run
 
-few_whole : (words : RunWords) (clock : Option ℕ) (told : Option Files) (input : InputFlow) (table : TableValue) (workers : List TableValue) (made : MadeValue) (written : KeptWritten)
+few_whole : (words : RunWords) (clock : Option ℕ) (told : Option Files) (input : InputFlow) (table : DeskTold) (workers : List DeskTold) (made : MadeValue) (written : KeptWritten)
     → IsWholeRun words clock told input table workers made written → length made.answers ≤ 65536
 few_whole words clock told input table workers made written w =
     let few : length w.run.tasks ≤ TASKS.lines = few_tasks TASKS w.run.input.bytes w.run.tasks w.run.input.comes.1 in

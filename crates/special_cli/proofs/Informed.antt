@@ -1,4 +1,5 @@
 -- What comes of an info.
+use Rattle.ann_outside.specs.Told.{ProgramsTold}
 use Rattle.std.proofs.Common.{◌≡◌, ◌∙◌, ℕ, List, [], length, sym, ap, subst, true, false, Some, None, Option, Result, Ok, Err}
 use Rattle.std.specs.Prelude.{option_map, IfSome, IfOk, IsErr, MatchResult}
 use Rattle.ann_key.specs.declared.bytes.NoMemory.{NoMemory}
@@ -8,7 +9,7 @@ use Rattle.journal_model.specs.declared.opening.Opening.{Opening}
 use Rattle.journal_model.specs.Legality.{Legal}
 use Rattle.journal_model.proofs.Projecting.{parts_fit}
 use Rattle.child_end.specs.Outsides.{OutsideValue}
-use Rattle.child_end.specs.Programs.{Leaves, ProgramsValue}
+use Rattle.child_end.specs.Programs.{Leaves}
 use Rattle.special_cli.specs.declared.end.End.{End}
 use Rattle.special_cli.specs.declared.end.End.TheVariants.{Informed, Memory}
 use Rattle.special_cli.specs.declared.info.Ready.{Ready as InfoReady}
@@ -47,7 +48,7 @@ wanting : (r : Result (Unit {0}) NoMemory) (told : Option (List ℕ)) (end : End
 wanting (Ok u) told end e err = absurd (let bad : false ≡ true = err in cc)
 wanting (Err x) told end e err = e
 
-pub has_informed : (program : List ℕ) (key : Option (List ℕ)) (ready : InfoReady) (opening : Opening) (journal : List Entry) (programs : ProgramsValue) (before : OutsideValue) (ran : RanValue) (r : Result (Unit {0}) NoMemory)
+pub has_informed : (program : List ℕ) (key : Option (List ℕ)) (ready : InfoReady) (opening : Opening) (journal : List Entry) (programs : ProgramsTold) (before : OutsideValue) (ran : RanValue) (r : Result (Unit {0}) NoMemory)
     → IsReady key ready → ran.left.journal ≡ journal → opening ≡ ready.core.opening → (Legal ready.core.opening ready.core.journal → Legal opening journal) → IsAsked key journal
     → IfOk r (λ _. IsComplete key journal) → MatchResult r (λ _. ran.end ≡ Informed ready.key) (λ _. ran.end ≡ Memory)
     → Leaves (IsErr r) program journal programs ran.left.outside.programs ran.left.wires → before.programs ≡ programs → HasNoDesk before ran.left → ran.left.answers ≡ [] → HasInformed program key before ran

@@ -1,4 +1,5 @@
 -- What a setup comes to at its desk: from what was read of the kept file to what was written.
+use Rattle.ann_outside.specs.Told.{DeskTold}
 use Rattle.std.proofs.Common.{◌≡◌, ◌∙◌, List, refl, sym, ap, subst, inr, Some, None, Option, Ok}
 use Rattle.std.specs.Prelude.{Result, IfOk, IsErr, true, false}
 use Rattle.ann_key.specs.declared.bytes.NoMemory.{NoMemory}
@@ -20,12 +21,11 @@ use Rattle.init_run.specs.declared.setup.Setup.TheVariants.{Initialized, Stopped
 use Rattle.init_run.specs.Setups.{Begins, outcome_of}
 use Rattle.special_cli.specs.declared.end.End.{End}
 use Rattle.special_cli.specs.declared.end.End.TheVariants.{Memory, SetUp, NotSetUp}
-use Rattle.child_end.specs.Outsides.{TableValue}
 use Rattle.special_cli.specs.Setups.{IsSetup, IsRunOf, InitFilesStay, IsInitKept, EndsInit, EndsKeep}
 
 -- ---- files that stay
 
-pub as_before : (words : InitWords) (told : Option Files) (table : TableValue) → table.files ≡ told → InitFilesStay words told table
+pub as_before : (words : InitWords) (told : Option Files) (table : DeskTold) → table.files ≡ told → InitFilesStay words told table
 as_before words told table e = subst (λ (t : Option Files). WhereTold told t (OthersStay (λ other. other ≡ new_name words.keep))) (sym e) (go told)
   where
     go : (told : Option Files) → WhereTold told told (OthersStay (λ other. other ≡ new_name words.keep))
@@ -64,17 +64,17 @@ ends_kept words told told' counts log o o' journal Memory begins e legal run out
 ends_kept words told told' counts log o o' journal end begins e legal run outcome h = absurd h
 
 -- what was asked of the child is kept
-pub ends_set : (words : InitWords) (told told' : Option Files) (counts : Counts) (log : Option Log) (table : TableValue) (o o' : Opening) (journal journal' : List Entry) (setup : Setup) (end end' : End)
+pub ends_set : (words : InitWords) (told told' : Option Files) (counts : Counts) (log : Option Log) (table : DeskTold) (o o' : Opening) (journal journal' : List Entry) (setup : Setup) (end end' : End)
     → Begins words told (Ok (Ready o)) → o' ≡ o → Legal o' journal → IsSetup journal → outcome_of journal ≡ Some setup → setup ≡ Initialized → EndsKeep words told told' counts o' journal end
     → end' ≡ end → table ≡ record { counts = counts; files = told'; log = log } → journal' ≡ journal → EndsInit words told table journal' end'
 ends_set words told told' counts log table o o' journal journal' setup end end' begins e legal run outcome is h f t j =
     subst (λ (x : List Entry). EndsInit words told table x end') (sym j)
     (subst (λ (x : End). EndsInit words told table journal x) (sym f)
-    (subst (λ (x : TableValue). EndsInit words told x journal end) (sym t)
+    (subst (λ (x : DeskTold). EndsInit words told x journal end) (sym t)
     (ends_kept words told told' counts log o o' journal end begins e legal run (outcome ∙ ap Some is) h)))
 
 -- or the child wasn't set up
-pub ends_stopped : (words : InitWords) (told : Option Files) (table : TableValue) (o o' : Opening) (journal journal' : List Entry) (setup : Setup) (answer : Answer) (end' : End) → Begins words told (Ok (Ready o))
+pub ends_stopped : (words : InitWords) (told : Option Files) (table : DeskTold) (o o' : Opening) (journal journal' : List Entry) (setup : Setup) (answer : Answer) (end' : End) → Begins words told (Ok (Ready o))
     → o' ≡ o → Legal o' journal → IsSetup journal → outcome_of journal ≡ Some setup → setup ≡ Stopped answer → end' ≡ NotSetUp answer → table.files ≡ told → journal' ≡ journal → EndsInit words told table journal' end'
 ends_stopped words told table o o' journal journal' setup answer end' begins e legal run outcome is f t j =
     subst (λ (x : List Entry). EndsInit words told table x end') (sym j)
@@ -82,7 +82,7 @@ ends_stopped words told table o o' journal journal' setup answer end' begins e l
     (is_run words told o o' journal begins e legal run, outcome ∙ ap Some is, as_before words told table t))
 
 -- or no memory was found
-pub ends_wanting : (words : InitWords) (told : Option Files) (table : TableValue) (o o' : Opening) (journal journal' : List Entry) (end' : End) → Begins words told (Ok (Ready o)) → o' ≡ o → Legal o' journal
+pub ends_wanting : (words : InitWords) (told : Option Files) (table : DeskTold) (o o' : Opening) (journal journal' : List Entry) (end' : End) → Begins words told (Ok (Ready o)) → o' ≡ o → Legal o' journal
     → IsSetup journal → end' ≡ Memory → table.files ≡ told → journal' ≡ journal → EndsInit words told table journal' end'
 ends_wanting words told table o o' journal journal' end' begins e legal run f t j =
     subst (λ (x : List Entry). EndsInit words told table x end') (sym j)
@@ -91,7 +91,7 @@ ends_wanting words told table o o' journal journal' end' begins e legal run f t 
 
 -- ---- the desk
 
-pub same_files : (words : InitWords) (told told' : Option Files) (table : TableValue) (journal : List Entry) (end : End) → told' ≡ told → EndsInit words told' table journal end → EndsInit words told table journal end
+pub same_files : (words : InitWords) (told told' : Option Files) (table : DeskTold) (journal : List Entry) (end : End) → told' ≡ told → EndsInit words told' table journal end → EndsInit words told table journal end
 same_files words told told' table journal end e h = subst (λ (t : Option Files). EndsInit words t table journal end) e h
 
 -- ---- the objects

@@ -1,4 +1,5 @@
 -- What a run leaves of its programs and its child.
+use Rattle.ann_outside.specs.Told.{ProgramsTold}
 use Rattle.std.proofs.Common.{◌≡◌, ◌⊎◌, ◌≤◌, inl, inr, ℕ, suc, List, [], ◌∷◌, length, refl, sym, ap, subst, ◌∙◌, arith, cond, Bool, true, false, Some, None, Option}
 use Rattle.std.specs.Prelude.{IsTrue, filter, filter_map, option_and_then}
 use Rattle.std.specs.List.{cons_option}
@@ -19,7 +20,6 @@ use Rattle.child_end.specs.Programs.{told_in, told, AddsAll, HaveStarted, Leaves
 use Rattle.lone_rounds.proofs.Leaving.{rose_still, of_start, adds_stays, stays_none}
 use Rattle.special_cli.specs.Objects.{OneIsLeft}
 use Rattle.link_roles.specs.Wires.{WireValue}
-use Rattle.child_end.specs.Programs.{ProgramsValue}
 use Rattle.special_cli.proofs.Looking.{through}
 use Rattle.child_end.proofs.Across.{adds_one as adds_all, adds_none}
 
@@ -102,20 +102,20 @@ empty_wires old journal wires nothing none =
 
 -- ---- what is left
 
-none_failed : (before after : ProgramsValue) (journal : List Entry) → journal ≡ [] → before.faults ≤ after.faults → RoseBy (count is_failed_start journal) before.faults after.faults
+none_failed : (before after : ProgramsTold) (journal : List Entry) → journal ≡ [] → before.faults ≤ after.faults → RoseBy (count is_failed_start journal) before.faults after.faults
 none_failed before after journal none le = subst (λ (x : List Entry). RoseBy (count is_failed_start x) before.faults after.faults) (sym none) (rose_still 0 before.faults before.faults after.faults (omega arith) le)
 
 -- nothing was started
-pub leaves_nothing : (W : Type 0) (before after : ProgramsValue) (program : List ℕ) (journal : List Entry) (wires : List WireValue) → after ≡ before → journal ≡ [] → wires ≡ []
+pub leaves_nothing : (W : Type 0) (before after : ProgramsTold) (program : List ℕ) (journal : List Entry) (wires : List WireValue) → after ≡ before → journal ≡ [] → wires ≡ []
     → Leaves W program journal before after wires
 leaves_nothing W before after program journal wires same j w = record {
   wired = empty_wires before.starts journal wires j w;
-  started = inl (subst (λ (x : List Entry). AddsAll before.starts after.starts (told program x)) (sym j) (subst (λ (v : ProgramsValue). AddsAll before.starts v.starts []) (sym same) (adds_none before.starts)));
-  faults = none_failed before after journal j (subst (λ (v : ProgramsValue). before.faults ≤ v.faults) (sym same) (omega arith));
+  started = inl (subst (λ (x : List Entry). AddsAll before.starts after.starts (told program x)) (sym j) (subst (λ (v : ProgramsTold). AddsAll before.starts v.starts []) (sym same) (adds_none before.starts)));
+  faults = none_failed before after journal j (subst (λ (v : ProgramsTold). before.faults ≤ v.faults) (sym same) (omega arith));
 }
 
 -- no memory was found, after one start at most
-pub leaves_unstarted : (W : Type 0) (before after : ProgramsValue) (program : List ℕ) (journal : List Entry) (wires : List WireValue) → W → journal ≡ [] → wires ≡ []
+pub leaves_unstarted : (W : Type 0) (before after : ProgramsTold) (program : List ℕ) (journal : List Entry) (wires : List WireValue) → W → journal ≡ [] → wires ≡ []
     → Stays before.starts after.starts ⊎ ((b : Bool) × AddsOne before.starts after.starts (program, b)) → before.faults ≤ after.faults → Leaves W program journal before after wires
 leaves_unstarted W before after program journal wires wanted j w h le = record {
   wired = empty_wires before.starts journal wires j w;
@@ -128,7 +128,7 @@ leaves_unstarted W before after program journal wires wanted j w h le = record {
     go (inr (b, a)) = inr (wanted, (b, adds_all before.starts after.starts (program, b) a))
 
 -- the start failed
-pub leaves_failed : (W : Type 0) (before after : ProgramsValue) (program : List ℕ) (journal : List Entry) (wires : List WireValue) → starts_in journal ≡ NoStart 0 ∷ [] → wires ≡ []
+pub leaves_failed : (W : Type 0) (before after : ProgramsTold) (program : List ℕ) (journal : List Entry) (wires : List WireValue) → starts_in journal ≡ NoStart 0 ∷ [] → wires ≡ []
     → AddsOne before.starts after.starts (program, false) → Rose before.faults after.faults → Leaves W program journal before after wires
 leaves_failed W before after program journal wires j w adds rose = record {
   wired = no_wire before.starts journal wires j w;
@@ -137,7 +137,7 @@ leaves_failed W before after program journal wires j w adds rose = record {
 }
 
 -- one child was started, and its link is closed
-pub leaves_child : (W : Type 0) (mid : Option Starts) (before after : ProgramsValue) (program : List ℕ) (journal : List Entry) (ear : EarValue) (mouth : MouthValue) (wires : List WireValue)
+pub leaves_child : (W : Type 0) (mid : Option Starts) (before after : ProgramsTold) (program : List ℕ) (journal : List Entry) (ear : EarValue) (mouth : MouthValue) (wires : List WireValue)
     → starts_in journal ≡ Start 1 0 false ∷ [] → AddsOne before.starts mid (program, true) → Stays mid after.starts → AreNumbered mid ear mouth → ear.child ≡ 1 → mouth.child ≡ ear.child
     → LoneWired journal ear mouth → OneIsLeft ear mouth wires → before.faults ≤ after.faults → Leaves W program journal before after wires
 leaves_child W mid before after program journal ear mouth wires j adds stays numbered one both_one linked only le = record {
@@ -147,11 +147,11 @@ leaves_child W mid before after program journal ear mouth wires j adds stays num
 }
 
 -- the running out of memory, the journal and the objects are named otherwise
-pub leaves_as : {V W : Type 0} {program : List ℕ} {journal journal' : List Entry} {before before' after : ProgramsValue} {wires : List WireValue} → (V → W) → journal' ≡ journal → before' ≡ before
+pub leaves_as : {V W : Type 0} {program : List ℕ} {journal journal' : List Entry} {before before' after : ProgramsTold} {wires : List WireValue} → (V → W) → journal' ≡ journal → before' ≡ before
     → Leaves V program journal before after wires → Leaves W program journal' before' after wires
 leaves_as {V} {W} {program} {journal} {journal'} {before} {before'} {after} {wires} f j o h =
     subst (λ (x : List Entry). Leaves W program x before' after wires) (sym j)
-    (subst (λ (x : ProgramsValue). Leaves W program journal x after wires) (sym o)
+    (subst (λ (x : ProgramsTold). Leaves W program journal x after wires) (sym o)
     (record { wired = h.wired; started = go h.started; faults = h.faults }))
   where
     go : HaveStarted V program journal before.starts after.starts → HaveStarted W program journal before.starts after.starts

@@ -1,4 +1,5 @@
 -- Which words and keys end a call before any child, and what is told of a check.
+use Rattle.ann_outside.specs.Told.{DeskTold}
 use Rattle.std.specs.Prelude.{ℕ, ◌≡◌, ◌⊎◌, if◌then◌else◌, Bool, true, false, List, [], ◌∷◌, take, codes, Option, Some, None, IfSome}
 use Rattle.std.specs.Io.KnownBytes.{Appends}
 use Rattle.ann_outside.specs.Causes.{Stays}
@@ -12,7 +13,6 @@ use Rattle.journal_model.specs.Journal.{each_of}
 use Rattle.journal_model.specs.Due.{replies_at}
 use Rattle.journal_model.specs.Projection.{JobFits}
 use Rattle.task_run.specs.declared.setup.Setup.{Setup}
-use Rattle.lone_work.specs.Works.{DeskTells}
 use Rattle.lone_rounds.specs.Rounds.{EndsClosed, RanAlone}
 use Rattle.run_tasks.specs.Runs.{answer_of}
 use Rattle.cli_words.specs.declared.command.Command.{Command}
@@ -77,8 +77,8 @@ check_setup stamp = record { work = codes "."; stamp = stamp; chunk = 0 }
 pub record IsChecked (told : Option ℕ) (key : List ℕ) (journal : List Entry) : Type 0 where
   pub stamp : ℕ
   pub clock : IfSome told (λ n. stamp ≡ n)
-  pub desk : DeskTells
-  pub desk' : DeskTells
+  pub desk : DeskTold
+  pub desk' : DeskTold
   pub ran : RanAlone (check_opening key stamp) (check_setup stamp) false 1 journal desk desk'
   pub parts : (c j : ℕ) → JobFits (replies_at (check_opening key stamp) journal) journal c j
 

@@ -1,9 +1,10 @@
 -- What a command leaves, as contracts see it: what the objects tell, and not the objects.
+use Rattle.ann_outside.specs.Told.{DeskTold}
 use Rattle.std.specs.Prelude.{ℕ, ◌≡◌, List, []}
 use Rattle.journal_model.specs.declared.answer.Answer.{Answer}
 use Rattle.journal_model.specs.declared.entry.Entry.{Entry}
 use Rattle.link_roles.specs.Wires.{WireValue}
-use Rattle.child_end.specs.Outsides.{OutsideValue, TableValue}
+use Rattle.child_end.specs.Outsides.{OutsideValue}
 use Rattle.special_cli.specs.declared.end.End.{End}
 
 pub record Left : Type 0 where
@@ -11,7 +12,7 @@ pub record Left : Type 0 where
   pub journal : List Entry
   pub answers : List Answer
   pub wires : List WireValue
-  pub tables : List TableValue
+  pub tables : List DeskTold
 
 -- what came of it, and what is to be told
 pub record RanValue : Type 0 where

@@ -1,4 +1,5 @@
 -- What comes of a setup: what its child was asked, what it begins with, and what is kept.
+use Rattle.ann_outside.specs.Told.{DeskTold}
 use Rattle.std.specs.Prelude.{ℕ, ◌≡◌, ◌⊎◌, ◌==◌, ◌&&◌, ◌<◌, not, Bool, true, false, List, [], ◌∷◌, length, Option, IfSome, Some, None, Ok}
 use Rattle.std.specs.List.{list_all}
 use Rattle.ann_outside.specs.Causes.{AddsOne, Rose}
@@ -32,7 +33,7 @@ use Rattle.init_run.specs.declared.setup.Setup.TheVariants.{Initialized, Stopped
 use Rattle.special_cli.specs.declared.end.End.{End as Ending}
 use Rattle.special_cli.specs.declared.end.End.TheVariants.{Memory, BadKept, KeptTooLarge, FileFailed, SetUp, NotSetUp}
 use Rattle.special_cli.specs.Endings.{starts_in}
-use Rattle.child_end.specs.Outsides.{OutsideValue, TableValue}
+use Rattle.child_end.specs.Outsides.{OutsideValue}
 use Rattle.special_cli.specs.Left.{RanValue, IsIdle}
 use Rattle.child_end.specs.Programs.{Leaves}
 
@@ -76,15 +77,15 @@ pub record IsRunOf (words : InitWords) (told : Option Files) (journal : List Ent
 -- ---- the kept file
 
 -- the kept file is as before, where files are told
-abbrev pub InitFilesStay : InitWords → Option Files → TableValue → Type 0
+abbrev pub InitFilesStay : InitWords → Option Files → DeskTold → Type 0
 InitFilesStay words told table = WhereTold told table.files (OthersStay (λ other. other ≡ new_name words.keep))
 
 -- the desk counted a fault, or a missing file where it tells no files
-abbrev pub HasFailed : Option Files → TableValue → Type 0
+abbrev pub HasFailed : Option Files → DeskTold → Type 0
 HasFailed told table = Rose 0 table.counts.faults ⊎ ((told ≡ None) × Rose 0 table.counts.missing)
 
 -- it is the text of the registers after the journal and of the notes, or as before
-abbrev pub IsInitKept : InitWords → Option Files → TableValue → Opening → List Entry → KeptWritten → Type 0
+abbrev pub IsInitKept : InitWords → Option Files → DeskTold → Opening → List Entry → KeptWritten → Type 0
 IsInitKept words told table o journal W.Done =
     WhereTold told table.files (IsReplacedBy words.keep (kept_text (registers_after o journal) (registers_after o journal) o.notes) (Ok tt))
 IsInitKept words told table o journal W.TooLarge =
@@ -94,7 +95,7 @@ IsInitKept words told table o journal W.Fault = HasFailed told table × InitFile
 -- ---- its end
 
 -- the setup didn't begin: nothing was started, and the kept file is as before
-pub record IsUnbegun (words : InitWords) (told : Option Files) (table : TableValue) (journal : List Entry) (P : List ℕ → Type 0) : Type 0 where
+pub record IsUnbegun (words : InitWords) (told : Option Files) (table : DeskTold) (journal : List Entry) (P : List ℕ → Type 0) : Type 0 where
   pub kept : List ℕ
   pub text : IsTextOf words told kept
   pub cause : P kept
@@ -106,7 +107,7 @@ abbrev pub IsInitFile : InitWords → List ℕ → Type 0
 IsInitFile words other = (other ≡ words.keep) ⊎ (other ≡ new_name words.keep)
 
 -- what a setup at desk 0 comes to, by its end
-abbrev pub EndsInit : InitWords → Option Files → TableValue → List Entry → Ending → Type 0
+abbrev pub EndsInit : InitWords → Option Files → DeskTold → List Entry → Ending → Type 0
 EndsInit words told table journal (BadKept line) = IsUnbegun words told table journal (λ kept. bad_line kept ≡ Some line)
 EndsInit words told table journal KeptTooLarge = IsUnbegun words told table journal (λ kept. MOST_BYTES < length kept)
 EndsInit words told table journal FileFailed = (journal ≡ []) × Rose 0 table.counts.faults × InitFilesStay words told table
@@ -119,7 +120,7 @@ EndsInit words told table journal end = ⊥
 -- desk 0 was asked for, once, and this came of it; where it tells its calls, they name those files alone
 pub record IsAtDesk (words : InitWords) (before : OutsideValue) (ran : RanValue) : Type 0 where
   pub told : Option Files
-  pub table : TableValue
+  pub table : DeskTold
   pub tables : ran.left.tables ≡ table ∷ []
   pub made : AddsOne before.made ran.left.outside.made (record { number = 0; files = told })
   pub ends : EndsInit words told table ran.left.journal ran.end

@@ -18,8 +18,8 @@ pub(crate) fn audit<P: Programs, K: Desks, I: Source>(
     outside: Outside<P, K>,
     input: &mut I,
 ) -> Ran<P, K>
-    requires { I.is_open input.old ≡ true }
-    ensures { HasAudited outside (input_flow (I.given input.old) (I.given input.new) (I.left input.old) (I.left input.new) (I.faults input.old) (I.faults input.new)) result }
+    requires { (I.told input.old).is_open ≡ true }
+    ensures { HasAudited outside (input_flow (I.told input.old).given (I.told input.new).given (I.told input.old).left (I.told input.new).left (I.told input.old).faults (I.told input.new).faults) result }
 {
     let outcome = audit_input(alloc, input, &Limits::AUDIT);
     Ran::nothing(alloc, outside, end_of_audit(outcome))

@@ -1,11 +1,12 @@
 // The command `check`: a run of one task, over one child that is started once.
+ghost use Rattle.ann_outside.specs.Told.{DeskTold};
 ghost use Rattle.std.specs.Prelude.{◌≡◌, ◌≤◌, ℕ, List, [], Option, None, IfOk, IfSome, IsErr, MatchResult, vec_capacity, false};
 ghost use Rattle.ann_key.specs.KeyRefs.{text_of};
 ghost use Rattle.annex_model.specs.Lines.{has_newline};
 ghost use Rattle.cli_words.specs.Refusals.{reason_refused};
 ghost use Rattle.journal_model.specs.Beginnings.{MayBegin};
-ghost use Rattle.child_end.specs.Programs.{Leaves, programs_value};
-ghost use Rattle.lone_work.specs.Works.{AreTasks, DeskTells};
+ghost use Rattle.child_end.specs.Programs.{Leaves};
+ghost use Rattle.lone_work.specs.Works.{AreTasks};
 ghost use Rattle.lone_rounds.specs.Rounds.{EndsClosed, RanAlone};
 ghost use Rattle.run_tasks.specs.Runs.{AreAnswers};
 ghost use Rattle.special_cli.specs.declared.end.End.TheVariants.{Answered, Memory};
@@ -122,10 +123,10 @@ where
     requires folder { has_newline plan.now.setup.work ≡ false }
     requires room { 1 ≤ vec_capacity wires.old }
     requires none { wires.old.items ≡ [] }
-    ensures ran { (desk : DeskTells) × (desk' : DeskTells) × RanAlone core.old.opening plan.now.setup plan.now.offers plan.now.starts core.new.journal desk desk' }
+    ensures ran { (desk : DeskTold) × (desk' : DeskTold) × RanAlone core.old.opening plan.now.setup plan.now.offers plan.now.starts core.new.journal desk desk' }
     ensures answers { IfOk result (λ answers. AreAnswers core.old.opening core.new.journal answers.items × EndsClosed core.new.journal) }
-    ensures leaves { Leaves (IsErr result) plan.now.program core.new.journal (programs_value (P.starts programs.old) (P.faults programs.old))
-        (programs_value (P.starts programs.new) (P.faults programs.new)) wires.new.items }
+    ensures leaves { Leaves (IsErr result) plan.now.program core.new.journal (P.told programs.old)
+        (P.told programs.new) wires.new.items }
 {
     let Ok(mut desk) = MemDesk::new(alloc, Vec::new(alloc), Vec::new(alloc)) else {
         return Err(NoMemory);

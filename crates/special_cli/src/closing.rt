@@ -19,7 +19,6 @@ pub struct Closing<P: Programs, K: Desks> {
 
 impl<P: Programs, K: Desks> Model for Closing<P, K> {
     ghost use Rattle.std.specs.Prelude.{map};
-    ghost use Rattle.child_end.specs.Outsides.{table_value};
     ghost use Rattle.special_cli.specs.Left.{ClosingValue};
 
     ghost Value = { ClosingValue };
@@ -27,11 +26,11 @@ impl<P: Programs, K: Desks> Model for Closing<P, K> {
     ghost view = { λ c. record {
       status = c.status;
       left = record {
-        outside = record { programs = record { starts = P.starts c.programs; faults = P.faults c.programs }; made = K.made c.desks };
+        outside = record { programs = record { starts = (P.told c.programs).starts; faults = (P.told c.programs).faults }; made = K.made c.desks };
         journal = c.journal.entries;
         answers = c.answers.items;
         wires = c.wires.items;
-        tables = map (table_value K.Desk.counts K.Desk.files K.Desk.log) c.tables.items;
+        tables = map (K.Desk.told) c.tables.items;
       };
     } };
 }

@@ -6,8 +6,6 @@ ghost use Rattle.ann_outside.specs.Desks.{no_counts};
 ghost use Rattle.desk_file.specs.Names.{NamesOnly};
 ghost use Rattle.init_run.specs.Setups.{Begins};
 ghost use Rattle.special_cli.specs.declared.end.End.TheVariants.{Memory};
-ghost use Rattle.child_end.specs.Programs.{programs_value};
-ghost use Rattle.child_end.specs.Outsides.{table_value};
 ghost use Rattle.child_end.specs.Programs.{Leaves};
 ghost use Rattle.special_cli.specs.Setups.{AreSound, EndsInit, EndsKeep, HasSetUp, IsInitFile};
 
@@ -129,12 +127,12 @@ where
     P::Inlet: Drop,
     P::Outlet: Drop,
     requires words { AreSound words.now }
-    requires fresh { D.counts desk.old ≡ no_counts }
+    requires fresh { (D.told desk.old).counts ≡ no_counts }
     requires room { (wires.old.items ≡ []) × (0 < vec_capacity wires.old) }
-    ensures ends { EndsInit words.now (D.files desk.old) (table_value D.counts D.files D.log desk.new) result.journal.entries result.end }
-    ensures calls { NamesOnly (IsInitFile words.now) (D.log desk.old) (D.log desk.new) }
-    ensures leaves { Leaves (result.end ≡ Memory) words.now.program result.journal.entries (programs_value (P.starts programs.old) (P.faults programs.old))
-        (programs_value (P.starts programs.new) (P.faults programs.new)) wires.new.items }
+    ensures ends { EndsInit words.now (D.told desk.old).files (D.told desk.new) result.journal.entries result.end }
+    ensures calls { NamesOnly (IsInitFile words.now) (D.told desk.old).log (D.told desk.new).log }
+    ensures leaves { Leaves (result.end ≡ Memory) words.now.program result.journal.entries (P.told programs.old)
+        (P.told programs.new) wires.new.items }
 {
     match begin(alloc, words, desk) {
         Ok(Begun::Ready(opening)) => run(alloc, words, opening, programs, desk, wires),
@@ -158,12 +156,12 @@ where
     P::Inlet: Drop,
     P::Outlet: Drop,
     requires words { AreSound words.now }
-    requires begins { Begins words.now (D.files desk.old) (Ok (Begun.Ready opening)) }
+    requires begins { Begins words.now (D.told desk.old).files (Ok (Begun.Ready opening)) }
     requires room { (wires.old.items ≡ []) × (0 < vec_capacity wires.old) }
-    ensures ends { EndsInit words.now (D.files desk.old) (table_value D.counts D.files D.log desk.new) result.journal.entries result.end }
-    ensures calls { NamesOnly (IsInitFile words.now) (D.log desk.old) (D.log desk.new) }
-    ensures leaves { Leaves (result.end ≡ Memory) words.now.program result.journal.entries (programs_value (P.starts programs.old) (P.faults programs.old))
-        (programs_value (P.starts programs.new) (P.faults programs.new)) wires.new.items }
+    ensures ends { EndsInit words.now (D.told desk.old).files (D.told desk.new) result.journal.entries result.end }
+    ensures calls { NamesOnly (IsInitFile words.now) (D.told desk.old).log (D.told desk.new).log }
+    ensures leaves { Leaves (result.end ≡ Memory) words.now.program result.journal.entries (P.told programs.old)
+        (P.told programs.new) wires.new.items }
 {
     let Ok(mut core) = Core::new(alloc, opening) else {
         return nothing_made(alloc, End::Memory);
@@ -182,8 +180,8 @@ where
 
 // Puts what the registers hold after the journal, and the notes, in the place of the kept file.
 fn keep<D: Desk>(alloc: Global, words: &InitWords, desk: &mut D, core: &Core) -> End
-    ensures keeps { EndsKeep words.now (D.files desk.old) (D.files desk.new) (D.counts desk.new) core.now.opening core.now.journal result }
-    ensures calls { NamesOnly (IsInitFile words.now) (D.log desk.old) (D.log desk.new) }
+    ensures keeps { EndsKeep words.now (D.told desk.old).files (D.told desk.new).files (D.told desk.new).counts core.now.opening core.now.journal result }
+    ensures calls { NamesOnly (IsInitFile words.now) (D.told desk.old).log (D.told desk.new).log }
 {
     let registers = core.registers();
     let notes = &core.opening().notes;

@@ -25,7 +25,6 @@ pub(crate) struct Ran<P: Programs, K: Desks> {
 
 impl<P: Programs, K: Desks> Model for Ran<P, K> {
     ghost use Rattle.std.specs.Prelude.{map};
-    ghost use Rattle.child_end.specs.Outsides.{table_value};
     ghost use Rattle.special_cli.specs.Left.{RanValue};
 
     ghost Value = { RanValue };
@@ -36,7 +35,7 @@ impl<P: Programs, K: Desks> Model for Ran<P, K> {
         journal = r.journal.entries;
         answers = r.answers.items;
         wires = r.wires.items;
-        tables = map (table_value K.Desk.counts K.Desk.files K.Desk.log) r.tables.items;
+        tables = map (K.Desk.told) r.tables.items;
       };
       end = r.end;
     } };

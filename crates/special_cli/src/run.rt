@@ -35,8 +35,8 @@ where
     requires fit { IsFit (Run words.now) }
     requires uuid { IsWrittenUuid words.now.uuid }
     requires ranges { IsRanged words.now }
-    requires input { I.is_open input.old ≡ true }
-    ensures { HasRun words.now (C.answer clock.old) outside (input_flow (I.given input.old) (I.given input.new) (I.left input.old) (I.left input.new) (I.faults input.old) (I.faults input.new)) result }
+    requires input { (I.told input.old).is_open ≡ true }
+    ensures { HasRun words.now (C.answer clock.old) outside (input_flow (I.told input.old).given (I.told input.new).given (I.told input.old).left (I.told input.new).left (I.told input.old).faults (I.told input.new).faults) result }
 {
     let Outside {
         mut programs,

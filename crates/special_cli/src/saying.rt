@@ -74,8 +74,8 @@ impl Saying {
 
     /// Writes it, and answers the status: its own, or 5 where a write fails.
     pub(crate) fn say<O: Sink, E: Sink>(&self, out: &mut O, err: &mut E) -> u8
-        requires open { (O.is_open out.old ≡ true) × (E.is_open err.old ≡ true) }
-        ensures { IsSaidBy self.now result (flow (O.faults out.old) (O.faults out.new) (O.taken out.old) (O.taken out.new)) (flow (E.faults err.old) (E.faults err.new) (E.taken err.old) (E.taken err.new)) }
+        requires open { ((O.told out.old).is_open ≡ true) × ((E.told err.old).is_open ≡ true) }
+        ensures { IsSaidBy self.now result (flow (O.told out.old).faults (O.told out.new).faults (O.told out.old).taken (O.told out.new).taken) (flow (E.told err.old).faults (E.told err.new).faults (E.told err.old).taken (E.told err.new).taken) }
     {
         match self {
             Saying::OnOut(text, status) => write(out, text.view(), *status),
@@ -90,8 +90,8 @@ impl Saying {
 
 // Writes a text; the status is this one, or 5 where a write fails.
 fn write<S: Sink>(sink: &mut S, text: &[u8], status: u8) -> u8
-    requires { S.is_open sink.old ≡ true }
-    ensures { IsWritten status text.now result (flow (S.faults sink.old) (S.faults sink.new) (S.taken sink.old) (S.taken sink.new)) }
+    requires { (S.told sink.old).is_open ≡ true }
+    ensures { IsWritten status text.now result (flow (S.told sink.old).faults (S.told sink.new).faults (S.told sink.old).taken (S.told sink.new).taken) }
 {
     match write_all(sink, text) {
         Ok(()) => status,

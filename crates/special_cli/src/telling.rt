@@ -35,10 +35,10 @@ pub(crate) fn tell<P: Programs, K: Desks, O: Sink, E: Sink>(
     out: &mut O,
     err: &mut E,
 ) -> Closing<P, K>
-    requires open { (O.is_open out.old ≡ true) × (E.is_open err.old ≡ true) }
+    requires open { ((O.told out.old).is_open ≡ true) × ((E.told err.old).is_open ≡ true) }
     requires few { length ran.left.answers ≤ 65536 }
     ensures left { result.left ≡ ran.left }
-    ensures told { IsToldOf ran.left result.status (flow (O.faults out.old) (O.faults out.new) (O.taken out.old) (O.taken out.new)) (flow (E.faults err.old) (E.faults err.new) (E.taken err.old) (E.taken err.new)) ran.end }
+    ensures told { IsToldOf ran.left result.status (flow (O.told out.old).faults (O.told out.new).faults (O.told out.old).taken (O.told out.new).taken) (flow (E.told err.old).faults (E.told err.new).faults (E.told err.old).taken (E.told err.new).taken) ran.end }
 {
     let status = say_end(alloc, &ran.end, &ran.journal, &ran.answers, out, err);
     ran.close(status)
@@ -53,9 +53,9 @@ fn say_end<O: Sink, E: Sink>(
     out: &mut O,
     err: &mut E,
 ) -> u8
-    requires open { (O.is_open out.old ≡ true) × (E.is_open err.old ≡ true) }
+    requires open { ((O.told out.old).is_open ≡ true) × ((E.told err.old).is_open ≡ true) }
     requires few { length answers.now ≤ 65536 }
-    ensures { IsEndTold journal.now.entries answers.now result (flow (O.faults out.old) (O.faults out.new) (O.taken out.old) (O.taken out.new)) (flow (E.faults err.old) (E.faults err.new) (E.taken err.old) (E.taken err.new)) end.now }
+    ensures { IsEndTold journal.now.entries answers.now result (flow (O.told out.old).faults (O.told out.new).faults (O.told out.old).taken (O.told out.new).taken) (flow (E.told err.old).faults (E.told err.new).faults (E.told err.old).taken (E.told err.new).taken) end.now }
 {
     let saying = saying_of(alloc, end, journal, answers);
     saying.say(out, err)

@@ -1,6 +1,5 @@
 ghost use Rattle.std.specs.Prelude.{◌≡◌, true};
 ghost use Rattle.cli_words.specs.Values.{texts_of};
-ghost use Rattle.child_end.specs.Programs.{programs_value};
 ghost use Rattle.run_tasks.specs.Inputs.{input_flow};
 ghost use Rattle.special_cli.specs.Calls.{IsCalled, IsDone};
 ghost use Rattle.special_cli.specs.Commands.{Runs};
@@ -58,9 +57,9 @@ where
     P::Outlet: Send + Drop,
     P::Stub: Drop,
     K::Desk: Send + Drop,
-    requires open { (I.is_open input.old ≡ true) × (O.is_open out.old ≡ true) × (E.is_open err.old ≡ true) }
-    ensures done { IsDone (C.answer clock.old) (record { programs = programs_value (P.starts programs) (P.faults programs); made = K.made desks }) (input_flow (I.given input.old) (I.given input.new) (I.left input.old) (I.left input.new) (I.faults input.old) (I.faults input.new)) (wish_of (texts_of words.now)) (flow (O.faults out.old) (O.faults out.new) (O.taken out.old) (O.taken out.new)) (flow (E.faults err.old) (E.faults err.new) (E.taken err.old) (E.taken err.new)) result.status result.left }
-    ensures called { IsCalled (C.answer clock.old) (record { programs = programs_value (P.starts programs) (P.faults programs); made = K.made desks }) (input_flow (I.given input.old) (I.given input.new) (I.left input.old) (I.left input.new) (I.faults input.old) (I.faults input.new)) (wish_of (texts_of words.now)) (flow (O.faults out.old) (O.faults out.new) (O.taken out.old) (O.taken out.new)) (flow (E.faults err.old) (E.faults err.new) (E.taken err.old) (E.taken err.new)) result.status result.left }
+    requires open { ((I.told input.old).is_open ≡ true) × ((O.told out.old).is_open ≡ true) × ((E.told err.old).is_open ≡ true) }
+    ensures done { IsDone (C.answer clock.old) (record { programs = P.told programs; made = K.made desks }) (input_flow (I.told input.old).given (I.told input.new).given (I.told input.old).left (I.told input.new).left (I.told input.old).faults (I.told input.new).faults) (wish_of (texts_of words.now)) (flow (O.told out.old).faults (O.told out.new).faults (O.told out.old).taken (O.told out.new).taken) (flow (E.told err.old).faults (E.told err.new).faults (E.told err.old).taken (E.told err.new).taken) result.status result.left }
+    ensures called { IsCalled (C.answer clock.old) (record { programs = P.told programs; made = K.made desks }) (input_flow (I.told input.old).given (I.told input.new).given (I.told input.old).left (I.told input.new).left (I.told input.old).faults (I.told input.new).faults) (wish_of (texts_of words.now)) (flow (O.told out.old).faults (O.told out.new).faults (O.told out.old).taken (O.told out.new).taken) (flow (E.told err.old).faults (E.told err.new).faults (E.told err.old).taken (E.told err.new).taken) result.status result.left }
 {
     let outside = Outside { programs, desks };
     let ran = do_words(rt, alloc, words, outside, input, clock);
@@ -81,8 +80,8 @@ where
     P::Outlet: Send + Drop,
     P::Stub: Drop,
     K::Desk: Send + Drop,
-    requires input { I.is_open input.old ≡ true }
-    ensures { Runs (C.answer clock.old) outside (input_flow (I.given input.old) (I.given input.new) (I.left input.old) (I.left input.new) (I.faults input.old) (I.faults input.new)) (wish_of (texts_of words.now)) result }
+    requires input { (I.told input.old).is_open ≡ true }
+    ensures { Runs (C.answer clock.old) outside (input_flow (I.told input.old).given (I.told input.new).given (I.told input.old).left (I.told input.new).left (I.told input.old).faults (I.told input.new).faults) (wish_of (texts_of words.now)) result }
 {
     match command_of(alloc, words) {
         Ok(command) => do_command(rt, alloc, &command, outside, input, clock),
@@ -105,8 +104,8 @@ where
     P::Stub: Drop,
     K::Desk: Send + Drop,
     requires words { AreRead command.now }
-    requires input { I.is_open input.old ≡ true }
-    ensures { Runs (C.answer clock.old) outside (input_flow (I.given input.old) (I.given input.new) (I.left input.old) (I.left input.new) (I.faults input.old) (I.faults input.new)) command.now result }
+    requires input { (I.told input.old).is_open ≡ true }
+    ensures { Runs (C.answer clock.old) outside (input_flow (I.told input.old).given (I.told input.new).given (I.told input.old).left (I.told input.new).left (I.told input.old).faults (I.told input.new).faults) command.now result }
 {
     match command {
         Some(Command::Show(page)) => Ran::nothing(alloc, outside, End::Shown(*page)),

@@ -1,4 +1,5 @@
 -- How a run ends that went well from outside.
+use Rattle.ann_outside.specs.Told.{DeskTold}
 use Rattle.std.proofs.Common.{◌≡◌, ◌∙◌, ◌⊎◌, inl, inr, ℕ, zero, suc, ◌+◌, ◌-◌, ◌≤◌, ◌==◌, Bool, true, false, cond, List, [], ◌∷◌, ◌++◌, length, refl, sym, ap, subst, arith, Some, None, Option, Ok}
 use Rattle.std.specs.Prelude.{◌&&◌, ◌||◌, not, All, is_some, map, slice_get}
 use Rattle.std.proofs.lemmas.Bool.{and_parts, ne_eqb as differ, eqb-true as same_number}
@@ -7,7 +8,6 @@ use Rattle.std.specs.List.{list_all, list_any, cons_option, range_with_len}
 use Rattle.ann_key.specs.Keys.{is_key, is_sendable, key_reading}
 use Rattle.ann_outside.specs.Causes.{Rose}
 use Rattle.ann_outside.specs.Files.{Files, WhereTold}
-use Rattle.child_end.specs.Outsides.{TableValue}
 use Rattle.cli_words.specs.Texts.{memory_line}
 use Rattle.cli_words.specs.declared.command.RunWords.{RunWords}
 use Rattle.job_rounds.specs.Completeness.{AreAnsweredWell}
@@ -59,34 +59,34 @@ untold None new P h e = refl
 untold (Some old) None P h e = absurd h
 untold (Some old) (Some new) P h e = absurd cc
 
-module _ (words : RunWords) (told : Option Files) (table : TableValue) (o : Opening) (journal : List Entry) (quiet : IsKeptQuiet told table) where
+module _ (words : RunWords) (told : Option Files) (table : DeskTold) (o : Opening) (journal : List Entry) (quiet : IsKeptQuiet told table) where
   -- the desk counted no more when the journal file was written than it has now
-  kept_counts : (mid : TableValue) (written : JournalWritten) → IsJournaled words mid table o journal (Ok written) → (mid.counts.faults ≤ table.counts.faults) × (mid.counts.missing ≤ table.counts.missing)
+  kept_counts : (mid : DeskTold) (written : JournalWritten) → IsJournaled words mid table o journal (Ok written) → (mid.counts.faults ≤ table.counts.faults) × (mid.counts.missing ≤ table.counts.missing)
   kept_counts mid written h = go words.journal h
     where
       go : (name : Option (List ℕ)) → IsJournaled (record words { journal = name }) mid table o journal (Ok written) → (mid.counts.faults ≤ table.counts.faults) × (mid.counts.missing ≤ table.counts.missing)
-      go None k = subst (λ (t : TableValue). (mid.counts.faults ≤ t.counts.faults) × (mid.counts.missing ≤ t.counts.missing)) (sym k.1) (omega arith, omega arith)
+      go None k = subst (λ (t : DeskTold). (mid.counts.faults ≤ t.counts.faults) × (mid.counts.missing ≤ t.counts.missing)) (sym k.1) (omega arith, omega arith)
       go (Some name) k = (k.1.faults_later, k.1.missing_later)
 
-  no_fault : (mid : TableValue) → (mid.counts.faults ≤ table.counts.faults) × (mid.counts.missing ≤ table.counts.missing) → HasFailed told mid → ⊥
+  no_fault : (mid : DeskTold) → (mid.counts.faults ≤ table.counts.faults) × (mid.counts.missing ≤ table.counts.missing) → HasFailed told mid → ⊥
   no_fault mid later (inl h) = quiet.faults (rose_on mid.counts.faults table.counts.faults h later.0)
   no_fault mid later (inr h) = quiet.missing h.0 (rose_on mid.counts.missing table.counts.missing h.1 later.1)
 
-  kept_well : (mid : TableValue) (written : JournalWritten) → IsJournaled words mid table o journal (Ok written) → IsRunKept words told mid o journal W.Fault → ⊥
+  kept_well : (mid : DeskTold) (written : JournalWritten) → IsJournaled words mid table o journal (Ok written) → IsRunKept words told mid o journal W.Fault → ⊥
   kept_well mid written j h = go words.keep h
     where
       go : (name : Option (List ℕ)) → IsRunKept (record words { keep = name }) told mid o journal W.Fault → ⊥
       go None k = absurd (let bad : W.Fault ≡ W.Done = k.0 in cc)
       go (Some name) k = no_fault mid (kept_counts mid written j) k.0
 
-  kept_told : (mid : TableValue) → IsRunKept words told mid o journal W.Done → mid.files ≡ None → told ≡ None
+  kept_told : (mid : DeskTold) → IsRunKept words told mid o journal W.Done → mid.files ≡ None → told ≡ None
   kept_told mid h none = go words.keep h
     where
       go : (name : Option (List ℕ)) → IsRunKept (record words { keep = name }) told mid o journal W.Done → told ≡ None
       go None k = untold told mid.files _ k.1 none
       go (Some name) k = untold told mid.files _ k none
 
-  journaled_well : (mid : TableValue) → IsRunKept words told mid o journal W.Done → IsJournaled words mid table o journal (Ok J.Fault) → ⊥
+  journaled_well : (mid : DeskTold) → IsRunKept words told mid o journal W.Done → IsJournaled words mid table o journal (Ok J.Fault) → ⊥
   journaled_well mid kept h = go words.journal h
     where
       fault : {X : Type 0} → (Rose mid.counts.faults table.counts.faults ⊎ ((mid.files ≡ None) × Rose mid.counts.missing table.counts.missing)) → X
@@ -221,7 +221,7 @@ keys_are_read o tasks same all (suc i) task h =
     key_is_read task (all_at IsTask tasks i task all is)
 
 module _ (words : RunWords) (clock : Option ℕ) (input : InputFlow) (status : ℕ) (out err : Flow) (left : Left) (quiet : IsQuiet input out err) where
-  completes : (end : RunEnd) (told : Option Files) (table : TableValue) (workers : List TableValue) (whole : IsWholeRun words clock told input table workers (made_in left end) W.Done)
+  completes : (end : RunEnd) (told : Option Files) (table : DeskTold) (workers : List DeskTold) (whole : IsWholeRun words clock told input table workers (made_in left end) W.Done)
       → EndsWell words clock told input table workers (made_in left end) (Done W.Done) whole → IsToldOf left status out err (end_of (Done W.Done)) → HasCompleted input status left.answers
   completes end told table workers whole well (inr memory) = inl (memory_so status out err quiet.warns memory)
   completes end told table workers whole well (inl said) = inr (whole.run.tasks, whole.run.input, all, status_so status left.answers (written_so _ _ status out quiet.prints said.0) (well_or_memory whole.run.tasks left.answers all))

@@ -1,11 +1,11 @@
 -- What the files of a run's desks hold in the end.
+use Rattle.ann_outside.specs.Told.{DeskTold}
 use Rattle.std.proofs.Common.{◌≡◌, ℕ, ◌+◌, List, [], ◌∷◌, subst}
 use Rattle.std.specs.Prelude.{map, Option, Some, None}
 use Rattle.std.specs.List.{concat}
 use Rattle.ann_key.specs.Keys.{Parts}
 use Rattle.ann_outside.specs.Calls.{Log}
 use Rattle.ann_outside.specs.Files.{Files}
-use Rattle.child_end.specs.Outsides.{TableValue}
 use Rattle.job_rounds.specs.Desks.{DesksDid}
 use Rattle.job_rounds.specs.ToldDesks.{AreBlank, ArePlayedNow, AreToldAt}
 use Rattle.job_rounds.proofs.TaskFiles.{tasks_are_told}
@@ -13,9 +13,9 @@ use Rattle.journal_model.specs.declared.answer.Answer.{Answer}
 use Rattle.journal_model.specs.declared.entry.Entry.{Entry}
 use Rattle.journal_model.specs.declared.opening.Opening.{Opening}
 use Rattle.journal_model.specs.Legality.{Legal}
-use Rattle.lone_work.specs.Works.{DeskTells, TaskDone}
+use Rattle.lone_work.specs.Works.{TaskDone}
 use Rattle.run_tasks.specs.Inputs.{run_setup}
-use Rattle.run_tasks.specs.Runs.{AreFresh, ArePlayedAt, table_tells}
+use Rattle.run_tasks.specs.Runs.{AreFresh, ArePlayedAt}
 use Rattle.special_laws.specs.FilesHold.{AllHold, FilesHold, FilesHoldAt, FilesHoldFrom, GotAnew, RunIsTold, RunKeeps}
 use Rattle.task_laws.specs.Changes.{Request}
 use Rattle.task_laws.specs.Faithful.{IsFaithful, IsPlayed, Told, sent}
@@ -31,18 +31,18 @@ use Rattle.task_run.specs.declared.turn.TaskTurn.{TaskTurn}
 
 -- ---- what is told
 
-blank_desks : (desks : List DeskTells) → AreFresh desks → AreBlank desks
+blank_desks : (desks : List DeskTold) → AreFresh desks → AreBlank desks
 blank_desks [] fresh = tt
 blank_desks (desk ∷ desks) fresh = (fresh.0.blank, blank_desks desks fresh.1)
 
-played_desks : (tables : List TableValue) → ArePlayedAt tables → ArePlayedNow (map table_tells tables) (map (λ (table : TableValue). table.files) tables)
+played_desks : (tables : List DeskTold) → ArePlayedAt tables → ArePlayedNow tables (map (λ (table : DeskTold). table.files) tables)
 played_desks [] played = tt
 played_desks (table ∷ tables) played = (played.0, played_desks tables played.1)
 
 pub run_is_told : RunIsTold
 run_is_told words clock before input left end at run =
     let all : ArePlayedAt (at.table ∷ at.workers) = subst ArePlayedAt at.tables at.played in
-    tasks_are_told run.opening (run_setup words run.stamp) words.starts left.journal run.before (map table_tells at.workers) (map (λ (table : TableValue). table.files) at.workers)
+    tasks_are_told run.opening (run_setup words run.stamp) words.starts left.journal run.before at.workers (map (λ (table : DeskTold). table.files) at.workers)
     run.ran.legal (blank_desks run.before run.fresh) run.ran.did (played_desks at.workers all.1)
 
 -- ---- what the files hold
@@ -82,8 +82,8 @@ module _ (o : Opening) (setup : Setup) (told : Told) (journal : List Entry) (leg
       by_origin (Some old) None x = tt
       by_origin None now x = tt
 
-  all_hold : (limit : ℕ) (past entries : List Entry) (k : ℕ) (ds : List DeskTells) (tables : List TableValue) (did : DesksDid o setup limit journal past entries k ds (map table_tells tables))
-      → AreToldAt told o setup limit journal past entries k ds (map table_tells tables) did (map (λ (table : TableValue). table.files) tables) → AllHold told o setup limit journal past entries k ds tables did
+  all_hold : (limit : ℕ) (past entries : List Entry) (k : ℕ) (ds : List DeskTold) (tables : List DeskTold) (did : DesksDid o setup limit journal past entries k ds tables)
+      → AreToldAt told o setup limit journal past entries k ds tables did (map (λ (table : DeskTold). table.files) tables) → AllHold told o setup limit journal past entries k ds tables did
   all_hold limit past entries k [] [] did so = tt
   all_hold limit past entries k [] (table ∷ tables) did so = tt
   all_hold limit past entries k (d ∷ ds) [] did so = tt

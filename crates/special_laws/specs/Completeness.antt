@@ -1,9 +1,10 @@
 -- When a run went well from outside, by what was counted, and with which answers and status it ends then.
+use Rattle.ann_outside.specs.Told.{DeskTold}
 use Rattle.std.specs.Prelude.{ℕ, ◌≡◌, ◌⊎◌, ◌<◌, Bool, true, false, List, [], ◌∷◌, map, Option, None, Ok}
 use Rattle.std.specs.List.{list_any}
 use Rattle.ann_outside.specs.Causes.{Rose}
 use Rattle.ann_outside.specs.Files.{Files}
-use Rattle.child_end.specs.Outsides.{OutsideValue, TableValue}
+use Rattle.child_end.specs.Outsides.{OutsideValue}
 use Rattle.cli_words.specs.declared.command.RunWords.{RunWords}
 use Rattle.job_rounds.specs.Completeness.{DesksFound}
 use Rattle.journal_model.specs.declared.answer.Answer.{Answer}
@@ -11,7 +12,7 @@ use Rattle.journal_model.specs.declared.answer.Answer.TheVariants.{Memory as Mem
 use Rattle.journal_model.specs.declared.entry.Entry.{Entry}
 use Rattle.keep_desk.specs.declared.writing.KeptWritten.TheVariants as W
 use Rattle.run_tasks.specs.Inputs.{InputFlow, IsTaken, run_setup}
-use Rattle.run_tasks.specs.Runs.{EndsRun, IsAtDesk, IsIdle, IsRunOf, MadeValue, table_tells}
+use Rattle.run_tasks.specs.Runs.{EndsRun, IsAtDesk, IsIdle, IsRunOf, MadeValue}
 use Rattle.run_tasks.specs.declared.made.RunEnd.{RunEnd}
 use Rattle.run_tasks.specs.declared.made.RunEnd.TheVariants.{BadKept, KeptTooLarge, FileFailed, InputFailed, Refused, Memory, Done}
 use Rattle.special_cli.specs.Doings.{end_of, made_in}
@@ -32,21 +33,21 @@ pub record IsQuiet (input : InputFlow) (out err : Flow) : Type 0 where
   pub warns : Rose err.faults err.faults' → ⊥
 
 -- the desk of the kept file counted no fault, and no missing file where it doesn't tell its files
-pub record IsKeptQuiet (told : Option Files) (table : TableValue) : Type 0 where
+pub record IsKeptQuiet (told : Option Files) (table : DeskTold) : Type 0 where
   pub faults : Rose 0 table.counts.faults → ⊥
   pub missing : told ≡ None → Rose 0 table.counts.missing → ⊥
 
 -- A start was allowed; the children of the run got ready, and ended only when they were closed; each request of a task was done, but that what a
 -- store asks before it stores may be answered in any way; no desk of a worker counted a fault, and each task found what it should.
-pub record TasksFoundWell (words : RunWords) (clock : Option ℕ) (told : Option Files) (input : InputFlow) (workers : List TableValue) (journal : List Entry) (run : IsRunOf words clock told input workers journal) : Type 0 where
+pub record TasksFoundWell (words : RunWords) (clock : Option ℕ) (told : Option Files) (input : InputFlow) (workers : List DeskTold) (journal : List Entry) (run : IsRunOf words clock told input workers journal) : Type 0 where
   pub starts : 0 < words.starts
   pub children : ChildrenWell journal
   pub asked : AreAskedWell run.opening journal
-  pub found : DesksFound run.opening (run_setup words run.stamp) words.starts journal [] journal 1 run.before (map table_tells workers) run.ran.did
+  pub found : DesksFound run.opening (run_setup words run.stamp) words.starts journal [] journal 1 run.before workers run.ran.did
 
 -- No line of the kept file or of the input was refused, and the kept file is within its limit, as it was read and as it is to be written.
 -- The tasks found what they should.
-abbrev pub EndsWell : (words : RunWords) (clock : Option ℕ) (told : Option Files) (input : InputFlow) (table : TableValue) (workers : List TableValue) (made : MadeValue) (end : RunEnd)
+abbrev pub EndsWell : (words : RunWords) (clock : Option ℕ) (told : Option Files) (input : InputFlow) (table : DeskTold) (workers : List DeskTold) (made : MadeValue) (end : RunEnd)
     → EndsRun words clock told input table workers made end → Type 0
 EndsWell words clock told input table workers made (BadKept line) ends = ⊥
 EndsWell words clock told input table workers made KeptTooLarge ends = ⊥

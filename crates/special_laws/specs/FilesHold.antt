@@ -1,10 +1,11 @@
 -- What the files of a run's desks hold in the end, where the remote was faithful.
+use Rattle.ann_outside.specs.Told.{DeskTold}
 use Rattle.std.specs.Prelude.{ℕ, ◌≡◌, ◌+◌, List, [], ◌∷◌, ◌++◌, map, Option, Some, None}
 use Rattle.std.specs.List.{concat}
 use Rattle.ann_key.specs.Keys.{Parts, key_reading}
 use Rattle.ann_outside.specs.Calls.{Log}
 use Rattle.ann_outside.specs.Files.{Files, content}
-use Rattle.child_end.specs.Outsides.{OutsideValue, TableValue}
+use Rattle.child_end.specs.Outsides.{OutsideValue}
 use Rattle.cli_words.specs.declared.command.RunWords.{RunWords}
 use Rattle.gathering.specs.JournalRuns.{JournalRun}
 use Rattle.job_rounds.specs.Desks.{DesksDid}
@@ -12,9 +13,9 @@ use Rattle.job_rounds.specs.ToldDesks.{AreToldAt}
 use Rattle.journal_model.specs.declared.answer.Answer.TheVariants.{Got}
 use Rattle.journal_model.specs.declared.entry.Entry.{Entry}
 use Rattle.journal_model.specs.declared.opening.Opening.{Opening}
-use Rattle.lone_work.specs.Works.{DeskTells, TaskDone}
+use Rattle.lone_work.specs.Works.{TaskDone}
 use Rattle.run_tasks.specs.Inputs.{InputFlow, run_setup}
-use Rattle.run_tasks.specs.Runs.{IsAtDesk, IsRunOf, table_tells}
+use Rattle.run_tasks.specs.Runs.{IsAtDesk, IsRunOf}
 use Rattle.run_tasks.specs.declared.made.RunEnd.{RunEnd}
 use Rattle.special_cli.specs.Doings.{made_in}
 use Rattle.special_cli.specs.Left.{Left}
@@ -63,8 +64,8 @@ FilesHoldAt o setup told journal done None files = Unit {0}
 FilesHoldAt o setup told journal done (Some log) files = FilesHoldFrom o setup told journal done log.origin files
 
 -- so it is at each desk
-abbrev pub AllHold : (told : Told) (o : Opening) (setup : Setup) (limit : ℕ) (journal past entries : List Entry) (k : ℕ) (desks : List DeskTells) (tables : List TableValue)
-    → DesksDid o setup limit journal past entries k desks (map table_tells tables) → Type 0
+abbrev pub AllHold : (told : Told) (o : Opening) (setup : Setup) (limit : ℕ) (journal past entries : List Entry) (k : ℕ) (desks : List DeskTold) (tables : List DeskTold)
+    → DesksDid o setup limit journal past entries k desks tables → Type 0
 AllHold told o setup limit journal past entries k [] [] did = Unit {0}
 AllHold told o setup limit journal past entries k [] (table ∷ tables) did = Unit {0}
 AllHold told o setup limit journal past entries k (d ∷ ds) [] did = Unit {0}
@@ -74,10 +75,10 @@ AllHold told o setup limit journal past entries k (d ∷ ds) (table ∷ tables) 
 -- ---- a run
 
 -- this is told of what the run's desks did, which are left in the end
-abbrev pub IsToldOfRun : (told : Told) (words : RunWords) (clock : Option ℕ) (files : Option Files) (input : InputFlow) (workers : List TableValue) (journal : List Entry)
+abbrev pub IsToldOfRun : (told : Told) (words : RunWords) (clock : Option ℕ) (files : Option Files) (input : InputFlow) (workers : List DeskTold) (journal : List Entry)
     → IsRunOf words clock files input workers journal → Type 0
 IsToldOfRun told words clock files input workers journal run =
-    AreToldAt told run.opening (run_setup words run.stamp) words.starts journal [] journal 1 run.before (map table_tells workers) run.ran.did (map (λ (table : TableValue). table.files) workers)
+    AreToldAt told run.opening (run_setup words run.stamp) words.starts journal [] journal 1 run.before workers run.ran.did (map (λ (table : DeskTold). table.files) workers)
 
 -- There are files before and after each run of a task that fit what its desks tell.
 abbrev pub RunIsTold : Type 0

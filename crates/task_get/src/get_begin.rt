@@ -52,8 +52,8 @@ pub fn begin_part<D: Desk>(
 ) -> Result<Begun, NoMemory>
     requires chunk { 0 < chunk }
     requires fresh { taken_of checker.old ≡ 0 }
-    ensures begun { Begins part.now size chunk checker.old checker.new (D.log desk.old) (D.log desk.new) result }
-    ensures causes { HasTaskCauses (D.counts desk.old) (D.counts desk.new) (answer_begun result) }
+    ensures begun { Begins part.now size chunk checker.old checker.new (D.told desk.old).log (D.told desk.new).log result }
+    ensures causes { HasTaskCauses (D.told desk.old).counts (D.told desk.new).counts (answer_begun result) }
 {
     match desk.size(part) {
         Ok(n) => {

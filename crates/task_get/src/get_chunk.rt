@@ -61,8 +61,8 @@ fn copy_over<D: Desk>(
 ) -> Result<Went, NoMemory>
     requires names { chunk.fetch.now ≢ chunk.part.now }
     requires room { taken_of checker.old + chunk.bytes < 2 ^ 64 }
-    ensures copied { CopiesOver chunk.entry.part.now chunk.entry.fetch.now chunk.entry.bytes checker.old checker.new (D.log desk.old) (D.log desk.new) result }
-    ensures causes { HasQuietCauses (D.counts desk.old) (D.counts desk.new) (answer_in result) }
+    ensures copied { CopiesOver chunk.entry.part.now chunk.entry.fetch.now chunk.entry.bytes checker.old checker.new (D.told desk.old).log (D.told desk.new).log result }
+    ensures causes { HasQuietCauses (D.told desk.old).counts (D.told desk.new).counts (answer_in result) }
 {
     match copy_in(alloc, desk, chunk.fetch, chunk.part, chunk.bytes, checker)? {
         Copied::Done(_) => match desk.remove(chunk.fetch) {
@@ -83,8 +83,8 @@ fn come_in<D: Desk>(
 ) -> Result<Went, NoMemory>
     requires names { chunk.fetch.now ≢ chunk.part.now }
     requires room { taken_of checker.old + chunk.bytes < 2 ^ 64 }
-    ensures came { Comes chunk.entry.part.now chunk.entry.fetch.now chunk.entry.bytes checker.old checker.new (D.log desk.old) (D.log desk.new) result }
-    ensures causes { HasQuietCauses (D.counts desk.old) (D.counts desk.new) (answer_in result) }
+    ensures came { Comes chunk.entry.part.now chunk.entry.fetch.now chunk.entry.bytes checker.old checker.new (D.told desk.old).log (D.told desk.new).log result }
+    ensures causes { HasQuietCauses (D.told desk.old).counts (D.told desk.new).counts (answer_in result) }
 {
     match desk.size(chunk.fetch) {
         Ok(bytes) => {
@@ -112,14 +112,14 @@ pub fn take_chunk<A: Asker, D: Desk>(
     requires line { has_newline chunk.fetch.now ≡ false }
     requires names { chunk.fetch.now ≢ chunk.part.now }
     requires room { taken_of checker.old + chunk.bytes < 2 ^ 64 }
-    requires number { number ≡ A.task asker.old }
+    requires number { number ≡ (A.told asker.old).task }
     requires ready { A.ready asker.old }
     ensures took { Takes (text_of key.entry) chunk.entry.part.now chunk.entry.fetch.now chunk.entry.bytes checker.old checker.new
-        (A.pairs asker.old) (A.pairs asker.new) (D.log desk.old) (D.log desk.new) result }
-    ensures notes { A.notes asker.new ≡ A.notes asker.old }
-    ensures same { IsSameTask (A.task asker.old) (A.task asker.new) (A.may_note asker.old) (A.may_note asker.new) (A.loans asker.old) (A.loans asker.new) }
+        (A.told asker.old).pairs (A.told asker.new).pairs (D.told desk.old).log (D.told desk.new).log result }
+    ensures notes { (A.told asker.new).notes ≡ (A.told asker.old).notes }
+    ensures same { IsSameTask (A.told asker.old) (A.told asker.new) }
     ensures on { A.goes_on asker.old asker.new }
-    ensures causes { HasQuietCauses (D.counts desk.old) (D.counts desk.new) (answer_in result) }
+    ensures causes { HasQuietCauses (D.told desk.old).counts (D.told desk.new).counts (answer_in result) }
 {
     let verdict = ask::transfer(alloc, asker, number, false, key, chunk.fetch)?;
     if is_done(verdict) {

@@ -34,16 +34,16 @@ fn next_chunk<A: Asker, D: Desk>(
     requires there { i < count_of layout.size layout.chunk }
     requires few { asked.old + 1 < 2 ^ 64 }
     requires room { taken_of checker.old ≤ from_of layout.chunk (i + 1) }
-    requires number { layout.get.turn.task ≡ A.task asker.old }
+    requires number { layout.get.turn.task ≡ (A.told asker.old).task }
     requires ready { A.ready asker.old }
     ensures ran { NextRan layout.entry.get.setup.now layout.entry.get.turn (parts_of layout.entry.get.key) layout.entry.size layout.entry.chunk i layout.entry.get.part.now asked.old
-        (A.pairs asker.old) (A.pairs asker.new) (D.log desk.old) (D.log desk.new) checker.old checker.new result }
+        (A.told asker.old).pairs (A.told asker.new).pairs (D.told desk.old).log (D.told desk.new).log checker.old checker.new result }
     ensures counted { asked.new ≡ asked.old + 1 }
     ensures room { result ≡ Ok T.Whole → taken_of checker.new ≤ from_of layout.entry.chunk (i + 2) }
-    ensures notes { A.notes asker.new ≡ A.notes asker.old }
-    ensures same { IsSameTask (A.task asker.old) (A.task asker.new) (A.may_note asker.old) (A.may_note asker.new) (A.loans asker.old) (A.loans asker.new) }
+    ensures notes { (A.told asker.new).notes ≡ (A.told asker.old).notes }
+    ensures same { IsSameTask (A.told asker.old) (A.told asker.new) }
     ensures on { A.goes_on asker.old asker.new }
-    ensures causes { HasQuietCauses (D.counts desk.old) (D.counts desk.new) (answer_in result) }
+    ensures causes { HasQuietCauses (D.told desk.old).counts (D.told desk.new).counts (answer_in result) }
 {
     let get = layout.get;
     *asked += 1;
@@ -79,14 +79,14 @@ fn chunks<A: Asker, D: Desk>(
     requires held { held ≤ count_of layout.size layout.chunk }
     requires few { asked.old + count_of layout.size layout.chunk < 2 ^ 64 }
     requires room { taken_of checker.old ≤ from_of layout.chunk (held + 1) }
-    requires number { layout.get.turn.task ≡ A.task asker.old }
+    requires number { layout.get.turn.task ≡ (A.told asker.old).task }
     requires ready { A.ready asker.old }
     ensures ran { ChunksRan layout.entry.get.setup.now layout.entry.get.turn (parts_of layout.entry.get.key) layout.entry.size layout.entry.chunk held layout.entry.get.part.now
-        asked.old asked.new (A.pairs asker.old) (A.pairs asker.new) (D.log desk.old) (D.log desk.new) checker.old checker.new result }
-    ensures notes { A.notes asker.new ≡ A.notes asker.old }
-    ensures same { IsSameTask (A.task asker.old) (A.task asker.new) (A.may_note asker.old) (A.may_note asker.new) (A.loans asker.old) (A.loans asker.new) }
+        asked.old asked.new (A.told asker.old).pairs (A.told asker.new).pairs (D.told desk.old).log (D.told desk.new).log checker.old checker.new result }
+    ensures notes { (A.told asker.new).notes ≡ (A.told asker.old).notes }
+    ensures same { IsSameTask (A.told asker.old) (A.told asker.new) }
     ensures on { A.goes_on asker.old asker.new }
-    ensures causes { HasQuietCauses (D.counts desk.old) (D.counts desk.new) (answer_in result) }
+    ensures causes { HasQuietCauses (D.told desk.old).counts (D.told desk.new).counts (answer_in result) }
 {
     let count = count(layout.size, layout.chunk);
     for i in held..count {
@@ -106,14 +106,14 @@ pub fn get_layout<A: Asker, D: Desk>(
     asker: &mut A,
     desk: &mut D,
 ) -> Result<Went, NoMemory>
-    requires number { layout.get.turn.task ≡ A.task asker.old }
+    requires number { layout.get.turn.task ≡ (A.told asker.old).task }
     requires ready { A.ready asker.old }
     ensures ran { LayoutRan layout.entry.get.setup.now layout.entry.get.turn (parts_of layout.entry.get.key) layout.entry.get.file.now layout.entry.chunk
-        asked.old asked.new (A.pairs asker.old) (A.pairs asker.new) (D.log desk.old) (D.log desk.new) result }
-    ensures notes { A.notes asker.new ≡ A.notes asker.old }
-    ensures same { IsSameTask (A.task asker.old) (A.task asker.new) (A.may_note asker.old) (A.may_note asker.new) (A.loans asker.old) (A.loans asker.new) }
+        asked.old asked.new (A.told asker.old).pairs (A.told asker.new).pairs (D.told desk.old).log (D.told desk.new).log result }
+    ensures notes { (A.told asker.new).notes ≡ (A.told asker.old).notes }
+    ensures same { IsSameTask (A.told asker.old) (A.told asker.new) }
     ensures on { A.goes_on asker.old asker.new }
-    ensures causes { HasTaskCauses (D.counts desk.old) (D.counts desk.new) (answer_in result) }
+    ensures causes { HasTaskCauses (D.told desk.old).counts (D.told desk.new).counts (answer_in result) }
 {
     let get = layout.get;
     let most = count(layout.size, layout.chunk);

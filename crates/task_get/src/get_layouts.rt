@@ -33,14 +33,14 @@ fn whole_by<A: Asker, D: Desk>(
 ) -> Result<Answer, NoMemory>
     requires line { has_newline fetch.now ≡ false }
     requires differ { fetch.now ≢ get.part.now }
-    requires number { get.turn.task ≡ A.task asker.old }
+    requires number { get.turn.task ≡ (A.told asker.old).task }
     requires ready { A.ready asker.old }
     ensures ran { (first : ℕ) → fetch.now ≡ fetch_file get.entry.setup.now get.entry.turn (first + 1) → first + 1 < 2 ^ 64
-        → WholeRan get.entry.setup.now get.entry.turn (parts_of get.entry.key) get.entry.file.now first (A.pairs asker.old) (A.pairs asker.new) (D.log desk.old) (D.log desk.new) result }
-    ensures notes { A.notes asker.new ≡ A.notes asker.old }
-    ensures same { IsSameTask (A.task asker.old) (A.task asker.new) (A.may_note asker.old) (A.may_note asker.new) (A.loans asker.old) (A.loans asker.new) }
+        → WholeRan get.entry.setup.now get.entry.turn (parts_of get.entry.key) get.entry.file.now first (A.told asker.old).pairs (A.told asker.new).pairs (D.told desk.old).log (D.told desk.new).log result }
+    ensures notes { (A.told asker.new).notes ≡ (A.told asker.old).notes }
+    ensures same { IsSameTask (A.told asker.old) (A.told asker.new) }
     ensures on { A.goes_on asker.old asker.new }
-    ensures causes { HasQuietCauses (D.counts desk.old) (D.counts desk.new) result }
+    ensures causes { HasQuietCauses (D.told desk.old).counts (D.told desk.new).counts result }
 {
     let verdict = ask::transfer(alloc, asker, get.turn.task, false, get.key, fetch)?;
     take_whole(alloc, desk, get.key, get.file, get.part, fetch, verdict)
@@ -54,13 +54,13 @@ fn get_whole<A: Asker, D: Desk>(
     asker: &mut A,
     desk: &mut D,
 ) -> Result<Answer, NoMemory>
-    requires number { get.turn.task ≡ A.task asker.old }
+    requires number { get.turn.task ≡ (A.told asker.old).task }
     requires ready { A.ready asker.old }
-    ensures ran { WholeRan get.entry.setup.now get.entry.turn (parts_of get.entry.key) get.entry.file.now asked (A.pairs asker.old) (A.pairs asker.new) (D.log desk.old) (D.log desk.new) result }
-    ensures notes { A.notes asker.new ≡ A.notes asker.old }
-    ensures same { IsSameTask (A.task asker.old) (A.task asker.new) (A.may_note asker.old) (A.may_note asker.new) (A.loans asker.old) (A.loans asker.new) }
+    ensures ran { WholeRan get.entry.setup.now get.entry.turn (parts_of get.entry.key) get.entry.file.now asked (A.told asker.old).pairs (A.told asker.new).pairs (D.told desk.old).log (D.told desk.new).log result }
+    ensures notes { (A.told asker.new).notes ≡ (A.told asker.old).notes }
+    ensures same { IsSameTask (A.told asker.old) (A.told asker.new) }
     ensures on { A.goes_on asker.old asker.new }
-    ensures causes { HasQuietCauses (D.counts desk.old) (D.counts desk.new) result }
+    ensures causes { HasQuietCauses (D.told desk.old).counts (D.told desk.new).counts result }
 {
     if asked == u64::MAX {
         return Err(NoMemory);
@@ -82,14 +82,14 @@ fn try_layouts<A: Asker, D: Desk>(
     requires size { (parts_of get.key).size ≡ Some size }
     requires sizes { are_layouts layouts.now ≡ true }
     requires first { asked.old ≡ 0 }
-    requires number { get.turn.task ≡ A.task asker.old }
+    requires number { get.turn.task ≡ (A.told asker.old).task }
     requires ready { A.ready asker.old }
     ensures ran { TriesRan get.entry.setup.now get.entry.turn (parts_of get.entry.key) get.entry.file.now layouts.now asked.new
-        (A.pairs asker.old) (A.pairs asker.new) (D.log desk.old) (D.log desk.new) result }
-    ensures notes { A.notes asker.new ≡ A.notes asker.old }
-    ensures same { IsSameTask (A.task asker.old) (A.task asker.new) (A.may_note asker.old) (A.may_note asker.new) (A.loans asker.old) (A.loans asker.new) }
+        (A.told asker.old).pairs (A.told asker.new).pairs (D.told desk.old).log (D.told desk.new).log result }
+    ensures notes { (A.told asker.new).notes ≡ (A.told asker.old).notes }
+    ensures same { IsSameTask (A.told asker.old) (A.told asker.new) }
     ensures on { A.goes_on asker.old asker.new }
-    ensures causes { HasTaskCauses (D.counts desk.old) (D.counts desk.new) (answer_in result) }
+    ensures causes { HasTaskCauses (D.told desk.old).counts (D.told desk.new).counts (answer_in result) }
 {
     for i in 0..layouts.len() {
         let (chunk, chunks) = layouts[i];
@@ -115,14 +115,14 @@ fn try_chunks<A: Asker, D: Desk>(
 ) -> Result<Went, NoMemory>
     requires sizes { are_layouts layouts.now ≡ true }
     requires first { asked.old ≡ 0 }
-    requires number { get.turn.task ≡ A.task asker.old }
+    requires number { get.turn.task ≡ (A.told asker.old).task }
     requires ready { A.ready asker.old }
     ensures ran { TriesRan get.entry.setup.now get.entry.turn (parts_of get.entry.key) get.entry.file.now layouts.now asked.new
-        (A.pairs asker.old) (A.pairs asker.new) (D.log desk.old) (D.log desk.new) result }
-    ensures notes { A.notes asker.new ≡ A.notes asker.old }
-    ensures same { IsSameTask (A.task asker.old) (A.task asker.new) (A.may_note asker.old) (A.may_note asker.new) (A.loans asker.old) (A.loans asker.new) }
+        (A.told asker.old).pairs (A.told asker.new).pairs (D.told desk.old).log (D.told desk.new).log result }
+    ensures notes { (A.told asker.new).notes ≡ (A.told asker.old).notes }
+    ensures same { IsSameTask (A.told asker.old) (A.told asker.new) }
     ensures on { A.goes_on asker.old asker.new }
-    ensures causes { HasTaskCauses (D.counts desk.old) (D.counts desk.new) (answer_in result) }
+    ensures causes { HasTaskCauses (D.told desk.old).counts (D.told desk.new).counts (answer_in result) }
 {
     match get.key.size() {
         Some(size) => try_layouts(alloc, get, size, layouts, asked, asker, desk),
@@ -139,13 +139,13 @@ fn get_from<A: Asker, D: Desk>(
     desk: &mut D,
 ) -> Result<Answer, NoMemory>
     requires sizes { are_layouts layouts.now ≡ true }
-    requires number { get.turn.task ≡ A.task asker.old }
+    requires number { get.turn.task ≡ (A.told asker.old).task }
     requires ready { A.ready asker.old }
-    ensures ran { GetRan get.entry.setup.now get.entry.turn (parts_of get.entry.key) get.entry.file.now layouts.now (A.pairs asker.old) (A.pairs asker.new) (D.log desk.old) (D.log desk.new) result }
-    ensures notes { A.notes asker.new ≡ A.notes asker.old }
-    ensures same { IsSameTask (A.task asker.old) (A.task asker.new) (A.may_note asker.old) (A.may_note asker.new) (A.loans asker.old) (A.loans asker.new) }
+    ensures ran { GetRan get.entry.setup.now get.entry.turn (parts_of get.entry.key) get.entry.file.now layouts.now (A.told asker.old).pairs (A.told asker.new).pairs (D.told desk.old).log (D.told desk.new).log result }
+    ensures notes { (A.told asker.new).notes ≡ (A.told asker.old).notes }
+    ensures same { IsSameTask (A.told asker.old) (A.told asker.new) }
     ensures on { A.goes_on asker.old asker.new }
-    ensures causes { HasTaskCauses (D.counts desk.old) (D.counts desk.new) result }
+    ensures causes { HasTaskCauses (D.told desk.old).counts (D.told desk.new).counts result }
 {
     let mut asked = 0;
     match try_chunks(alloc, get, layouts, &mut asked, asker, desk)? {
@@ -168,13 +168,13 @@ pub fn get_key<A: Asker, D: Desk>(
     requires task { IsTask task.now }
     requires work { task.now.work ≡ W.Get }
     requires folder { has_newline setup.now.work ≡ false }
-    requires number { turn.task ≡ A.task asker.old }
+    requires number { turn.task ≡ (A.told asker.old).task }
     requires ready { A.ready asker.old }
-    ensures ran { RanGet task.now turn setup.now (A.current asker.old) (A.pairs asker.old) (A.pairs asker.new) (D.log desk.old) (D.log desk.new) result }
-    ensures notes { A.notes asker.new ≡ A.notes asker.old }
-    ensures same { IsSameTask (A.task asker.old) (A.task asker.new) (A.may_note asker.old) (A.may_note asker.new) (A.loans asker.old) (A.loans asker.new) }
+    ensures ran { RanGet task.now turn setup.now (A.told asker.old).current (A.told asker.old).pairs (A.told asker.new).pairs (D.told desk.old).log (D.told desk.new).log result }
+    ensures notes { (A.told asker.new).notes ≡ (A.told asker.old).notes }
+    ensures same { IsSameTask (A.told asker.old) (A.told asker.new) }
     ensures on { A.goes_on asker.old asker.new }
-    ensures causes { HasTaskCauses (D.counts desk.old) (D.counts desk.new) result }
+    ensures causes { HasTaskCauses (D.told desk.old).counts (D.told desk.new).counts result }
 {
     let file = task.file.view();
     let part = part_name(alloc, file)?;

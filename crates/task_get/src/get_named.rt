@@ -27,13 +27,13 @@ pub fn get_export<A: Asker, D: Desk>(
     requires task { IsTask task.now }
     requires work { task.now.work ≡ W.XGet }
     requires folder { has_newline setup.now.work ≡ false }
-    requires number { turn.task ≡ A.task asker.old }
+    requires number { turn.task ≡ (A.told asker.old).task }
     requires ready { A.ready asker.old }
-    ensures ran { RanGet task.now turn setup.now (A.current asker.old) (A.pairs asker.old) (A.pairs asker.new) (D.log desk.old) (D.log desk.new) result }
-    ensures notes { A.notes asker.new ≡ A.notes asker.old }
-    ensures same { IsSameTask (A.task asker.old) (A.task asker.new) (A.may_note asker.old) (A.may_note asker.new) (A.loans asker.old) (A.loans asker.new) }
+    ensures ran { RanGet task.now turn setup.now (A.told asker.old).current (A.told asker.old).pairs (A.told asker.new).pairs (D.told desk.old).log (D.told desk.new).log result }
+    ensures notes { (A.told asker.new).notes ≡ (A.told asker.old).notes }
+    ensures same { IsSameTask (A.told asker.old) (A.told asker.new) }
     ensures on { A.goes_on asker.old asker.new }
-    ensures causes { HasQuietCauses (D.counts desk.old) (D.counts desk.new) result }
+    ensures causes { HasQuietCauses (D.told desk.old).counts (D.told desk.new).counts result }
 {
     let key = task.key.view();
     let file = task.file.view();

@@ -20,8 +20,8 @@ use task_run::answers::{is_done, is_size, refused, undone_answer};
 pub fn discard<D: Desk>(desk: &mut D, part: &str, answer: Answer) -> Result<Answer, NoMemory>
     requires content { is_of_content answer ≡ true }
     requires misfit { may_follow_refusal (Ok answer) ≡ true }
-    ensures calls { (r : Outcome) × (D.log desk.new ≡ logged (D.log desk.old) (Remove part.now r)) × (result ≡ discarded answer r) }
-    ensures causes { HasQuietCauses (D.counts desk.old) (D.counts desk.new) result }
+    ensures calls { (r : Outcome) × ((D.told desk.new).log ≡ logged (D.told desk.old).log (Remove part.now r)) × (result ≡ discarded answer r) }
+    ensures causes { HasQuietCauses (D.told desk.old).counts (D.told desk.new).counts result }
 {
     match desk.remove(part) {
         Ok(()) => Ok(answer),
@@ -32,8 +32,8 @@ pub fn discard<D: Desk>(desk: &mut D, part: &str, answer: Answer) -> Result<Answ
 
 // Keeps part as the file where its bytes fit, and else removes it.
 pub fn settle<D: Desk>(desk: &mut D, fit: Fit, file: &str, part: &str) -> Result<Answer, NoMemory>
-    ensures calls { (r : Outcome) × (D.log desk.new ≡ logged (D.log desk.old) (settling (record { file = file.now; part = part.now; fetch = [] }) fit r)) × (result ≡ settled fit r) }
-    ensures causes { HasQuietCauses (D.counts desk.old) (D.counts desk.new) result }
+    ensures calls { (r : Outcome) × ((D.told desk.new).log ≡ logged (D.told desk.old).log (settling (record { file = file.now; part = part.now; fetch = [] }) fit r)) × (result ≡ settled fit r) }
+    ensures causes { HasQuietCauses (D.told desk.old).counts (D.told desk.new).counts result }
 {
     match fit {
         Fit::Fits => match desk.rename(part, file) {
@@ -56,8 +56,8 @@ fn move_in<D: Desk>(
     n: u64,
 ) -> Result<Answer, NoMemory>
     requires { fetch.now ≢ part.now }
-    ensures calls { Moves (record { file = file.now; part = part.now; fetch = fetch.now }) (parts_of key.entry) n (D.log desk.old) (D.log desk.new) result }
-    ensures causes { HasQuietCauses (D.counts desk.old) (D.counts desk.new) result }
+    ensures calls { Moves (record { file = file.now; part = part.now; fetch = fetch.now }) (parts_of key.entry) n (D.told desk.old).log (D.told desk.new).log result }
+    ensures causes { HasQuietCauses (D.told desk.old).counts (D.told desk.new).counts result }
 {
     match desk.create(part) {
         Ok(()) => {
@@ -85,8 +85,8 @@ fn fetched<D: Desk>(
     fetch: &str,
 ) -> Result<Answer, NoMemory>
     requires { fetch.now ≢ part.now }
-    ensures calls { Fetches (record { file = file.now; part = part.now; fetch = fetch.now }) (parts_of key.entry) (D.log desk.old) (D.log desk.new) result }
-    ensures causes { HasQuietCauses (D.counts desk.old) (D.counts desk.new) result }
+    ensures calls { Fetches (record { file = file.now; part = part.now; fetch = fetch.now }) (parts_of key.entry) (D.told desk.old).log (D.told desk.new).log result }
+    ensures causes { HasQuietCauses (D.told desk.old).counts (D.told desk.new).counts result }
 {
     match desk.size(fetch) {
         Ok(n) => {
@@ -112,8 +112,8 @@ pub fn take_whole<D: Desk>(
 ) -> Result<Answer, NoMemory>
     requires differ { fetch.now ≢ part.now }
     requires verdict { is_some (change_answer Got verdict) ≡ true }
-    ensures took { TakesWhole (record { file = file.now; part = part.now; fetch = fetch.now }) (parts_of key.entry) verdict (D.log desk.old) (D.log desk.new) result }
-    ensures causes { HasQuietCauses (D.counts desk.old) (D.counts desk.new) result }
+    ensures took { TakesWhole (record { file = file.now; part = part.now; fetch = fetch.now }) (parts_of key.entry) verdict (D.told desk.old).log (D.told desk.new).log result }
+    ensures causes { HasQuietCauses (D.told desk.old).counts (D.told desk.new).counts result }
 {
     if is_done(verdict) {
         fetched(alloc, desk, key, file, part, fetch)

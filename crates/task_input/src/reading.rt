@@ -21,13 +21,13 @@ pub fn read_tasks<S: Source>(
     source: &mut S,
     limits: &Limits,
 ) -> Result<Tasks, InputError>
-    requires { S.is_open source.old ≡ true }
-    ensures input { (bytes : List ℕ) × Gave S.Source source.old source.new bytes × InputComesTo limits.now bytes (S.left source.new) result }
-    ensures told { IfSome (S.left source.old) (λ all. IsInput limits.now all result) }
-    ensures faults { IsCounted (S.faults source.old) (S.faults source.new) result }
-    ensures silent { StaysUntold (S.given source.old) (S.given source.new) × StaysUntold (S.left source.old) (S.left source.new) }
-    ensures open { S.is_open source.new ≡ true }
-    ensures number { S.number source.new ≡ S.number source.old }
+    requires { (S.told source.old).is_open ≡ true }
+    ensures input { (bytes : List ℕ) × Gave S.Source source.old source.new bytes × InputComesTo limits.now bytes (S.told source.new).left result }
+    ensures told { IfSome (S.told source.old).left (λ all. IsInput limits.now all result) }
+    ensures faults { IsCounted (S.told source.old).faults (S.told source.new).faults result }
+    ensures silent { StaysUntold (S.told source.old).given (S.told source.new).given × StaysUntold (S.told source.old).left (S.told source.new).left }
+    ensures open { (S.told source.new).is_open ≡ true }
+    ensures number { (S.told source.new).number ≡ (S.told source.old).number }
 {
     let bytes = read_bytes(alloc, source, limits.bytes)?;
     tasks_in(alloc, bytes.as_slice(), limits)
@@ -35,12 +35,12 @@ pub fn read_tasks<S: Source>(
 
 // What the source gives up to its end, or past the limit.
 fn read_bytes<S: Source>(alloc: Global, source: &mut S, limit: usize) -> Result<Vec<u8>, InputError>
-    requires { S.is_open source.old ≡ true }
-    ensures given { (bytes : List ℕ) × Gave S.Source source.old source.new bytes × Holds limit bytes (S.left source.new) result }
-    ensures faults { IsCounted (S.faults source.old) (S.faults source.new) result }
-    ensures silent { StaysUntold (S.given source.old) (S.given source.new) × StaysUntold (S.left source.old) (S.left source.new) }
-    ensures open { S.is_open source.new ≡ true }
-    ensures number { S.number source.new ≡ S.number source.old }
+    requires { (S.told source.old).is_open ≡ true }
+    ensures given { (bytes : List ℕ) × Gave S.Source source.old source.new bytes × Holds limit bytes (S.told source.new).left result }
+    ensures faults { IsCounted (S.told source.old).faults (S.told source.new).faults result }
+    ensures silent { StaysUntold (S.told source.old).given (S.told source.new).given × StaysUntold (S.told source.old).left (S.told source.new).left }
+    ensures open { (S.told source.new).is_open ≡ true }
+    ensures number { (S.told source.new).number ≡ (S.told source.old).number }
 {
     let mut bytes = Vec::new(alloc);
     while bytes.len() <= limit {
@@ -53,12 +53,12 @@ fn read_bytes<S: Source>(alloc: Global, source: &mut S, limit: usize) -> Result<
 
 // Reads once, and says whether there was something to read.
 fn read_step<S: Source>(source: &mut S, bytes: &mut Vec<u8>) -> Result<bool, InputError>
-    requires { S.is_open source.old ≡ true }
-    ensures given { (piece : List ℕ) × Gave S.Source source.old source.new piece × IsStep bytes.old.items bytes.new.items piece (S.left source.new) result }
-    ensures faults { IsCounted (S.faults source.old) (S.faults source.new) result }
-    ensures silent { StaysUntold (S.given source.old) (S.given source.new) × StaysUntold (S.left source.old) (S.left source.new) }
-    ensures open { S.is_open source.new ≡ true }
-    ensures number { S.number source.new ≡ S.number source.old }
+    requires { (S.told source.old).is_open ≡ true }
+    ensures given { (piece : List ℕ) × Gave S.Source source.old source.new piece × IsStep bytes.old.items bytes.new.items piece (S.told source.new).left result }
+    ensures faults { IsCounted (S.told source.old).faults (S.told source.new).faults result }
+    ensures silent { StaysUntold (S.told source.old).given (S.told source.new).given × StaysUntold (S.told source.old).left (S.told source.new).left }
+    ensures open { (S.told source.new).is_open ≡ true }
+    ensures number { (S.told source.new).number ≡ (S.told source.old).number }
 {
     let mut piece = [0; STEP];
     match source.read(&mut piece) {

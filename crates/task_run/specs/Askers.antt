@@ -68,8 +68,19 @@ is_said_in_line (Some name) = not (has_newline name)
 abbrev pub are_layouts : List (ℕ × ℕ) → Bool
 are_layouts layouts = list_all (λ (layout : ℕ × ℕ). not (layout.0 == 0)) layouts
 
+-- an asker as one value: the requests that were settled so far, with their names and verdicts; the notes so far; its task, and whether
+-- that stores or drops; the layouts in which the remote is known to have the task's key, which while the task is busy its own notes
+-- alone change; and the names of what it borrows
+pub record AskerTold : Type 0 where
+  pub pairs : List Asking
+  pub notes : List Noting
+  pub task : ℕ
+  pub may_note : Bool
+  pub current : List (ℕ × ℕ)
+  pub loans : List ℕ
+
 -- what no call of an asker changes: its task, whether that may note, and what the asker borrows
-pub record IsSameTask (task task' : ℕ) (may_note may_note' : Bool) (loans loans' : List ℕ) : Type 0 where
-  pub task_is : task' ≡ task
-  pub may_note_is : may_note' ≡ may_note
-  pub loans_are : loans' ≡ loans
+pub record IsSameTask (old new : AskerTold) : Type 0 where
+  pub task_is : new.task ≡ old.task
+  pub may_note_is : new.may_note ≡ old.may_note
+  pub loans_are : new.loans ≡ old.loans

@@ -21,14 +21,14 @@ pub fn present<A: Asker>(
     number: u32,
     key: KeyRef<'_>,
 ) -> Result<Verdict, NoMemory>
-    requires task { number ≡ A.task asker.old }
+    requires task { number ≡ (A.told asker.old).task }
     requires ready { A.ready asker.old }
     requires key { is_sent_key (text_of key) ≡ true }
-    ensures pairs { AskAdds (A.pairs asker.old) (A.pairs asker.new) None (Checkpresent (text_of key.entry)) result }
+    ensures pairs { AskAdds (A.told asker.old).pairs (A.told asker.new).pairs None (Checkpresent (text_of key.entry)) result }
     ensures verdict { IfOk result (λ v. is_verdict_of (Checkpresent (text_of key.entry)) v ≡ true) }
-    ensures notes { A.notes asker.new ≡ A.notes asker.old }
-    ensures layouts { A.current asker.new ≡ A.current asker.old }
-    ensures same { IsSameTask (A.task asker.old) (A.task asker.new) (A.may_note asker.old) (A.may_note asker.new) (A.loans asker.old) (A.loans asker.new) }
+    ensures notes { (A.told asker.new).notes ≡ (A.told asker.old).notes }
+    ensures layouts { (A.told asker.new).current ≡ (A.told asker.old).current }
+    ensures same { IsSameTask (A.told asker.old) (A.told asker.new) }
     ensures on { A.goes_on asker.old asker.new }
 {
     let key = Key::copy(alloc, key)?;
@@ -42,14 +42,14 @@ pub fn remove<A: Asker>(
     number: u32,
     key: KeyRef<'_>,
 ) -> Result<Verdict, NoMemory>
-    requires task { number ≡ A.task asker.old }
+    requires task { number ≡ (A.told asker.old).task }
     requires ready { A.ready asker.old }
     requires key { is_sent_key (text_of key) ≡ true }
-    ensures pairs { AskAdds (A.pairs asker.old) (A.pairs asker.new) None (Remove (text_of key.entry)) result }
+    ensures pairs { AskAdds (A.told asker.old).pairs (A.told asker.new).pairs None (Remove (text_of key.entry)) result }
     ensures verdict { IfOk result (λ v. is_verdict_of (Remove (text_of key.entry)) v ≡ true) }
-    ensures notes { A.notes asker.new ≡ A.notes asker.old }
-    ensures layouts { A.current asker.new ≡ A.current asker.old }
-    ensures same { IsSameTask (A.task asker.old) (A.task asker.new) (A.may_note asker.old) (A.may_note asker.new) (A.loans asker.old) (A.loans asker.new) }
+    ensures notes { (A.told asker.new).notes ≡ (A.told asker.old).notes }
+    ensures layouts { (A.told asker.new).current ≡ (A.told asker.old).current }
+    ensures same { IsSameTask (A.told asker.old) (A.told asker.new) }
     ensures on { A.goes_on asker.old asker.new }
 {
     let key = Key::copy(alloc, key)?;
@@ -65,15 +65,15 @@ pub fn transfer<A: Asker>(
     key: KeyRef<'_>,
     file: &str,
 ) -> Result<Verdict, NoMemory>
-    requires task { number ≡ A.task asker.old }
+    requires task { number ≡ (A.told asker.old).task }
     requires ready { A.ready asker.old }
     requires key { is_sent_key (text_of key) ≡ true }
     requires file { has_newline file.now ≡ false }
-    ensures pairs { AskAdds (A.pairs asker.old) (A.pairs asker.new) None (Transfer store (text_of key.entry) file.now) result }
+    ensures pairs { AskAdds (A.told asker.old).pairs (A.told asker.new).pairs None (Transfer store (text_of key.entry) file.now) result }
     ensures verdict { IfOk result (λ v. is_verdict_of (Transfer store (text_of key.entry) file.now) v ≡ true) }
-    ensures notes { A.notes asker.new ≡ A.notes asker.old }
-    ensures layouts { A.current asker.new ≡ A.current asker.old }
-    ensures same { IsSameTask (A.task asker.old) (A.task asker.new) (A.may_note asker.old) (A.may_note asker.new) (A.loans asker.old) (A.loans asker.new) }
+    ensures notes { (A.told asker.new).notes ≡ (A.told asker.old).notes }
+    ensures layouts { (A.told asker.new).current ≡ (A.told asker.old).current }
+    ensures same { IsSameTask (A.told asker.old) (A.told asker.new) }
     ensures on { A.goes_on asker.old asker.new }
 {
     let key = Key::copy(alloc, key)?;
@@ -89,15 +89,15 @@ pub fn present_named<A: Asker>(
     key: KeyRef<'_>,
     name: &str,
 ) -> Result<Verdict, NoMemory>
-    requires task { number ≡ A.task asker.old }
+    requires task { number ≡ (A.told asker.old).task }
     requires ready { A.ready asker.old }
     requires key { is_sent_key (text_of key) ≡ true }
     requires name { has_newline name.now ≡ false }
-    ensures pairs { AskAdds (A.pairs asker.old) (A.pairs asker.new) (Some name.now) (Checkpresentexport (text_of key.entry)) result }
+    ensures pairs { AskAdds (A.told asker.old).pairs (A.told asker.new).pairs (Some name.now) (Checkpresentexport (text_of key.entry)) result }
     ensures verdict { IfOk result (λ v. is_verdict_of (Checkpresentexport (text_of key.entry)) v ≡ true) }
-    ensures notes { A.notes asker.new ≡ A.notes asker.old }
-    ensures layouts { A.current asker.new ≡ A.current asker.old }
-    ensures same { IsSameTask (A.task asker.old) (A.task asker.new) (A.may_note asker.old) (A.may_note asker.new) (A.loans asker.old) (A.loans asker.new) }
+    ensures notes { (A.told asker.new).notes ≡ (A.told asker.old).notes }
+    ensures layouts { (A.told asker.new).current ≡ (A.told asker.old).current }
+    ensures same { IsSameTask (A.told asker.old) (A.told asker.new) }
     ensures on { A.goes_on asker.old asker.new }
 {
     let key = Key::copy(alloc, key)?;
@@ -113,15 +113,15 @@ pub fn remove_named<A: Asker>(
     key: KeyRef<'_>,
     name: &str,
 ) -> Result<Verdict, NoMemory>
-    requires task { number ≡ A.task asker.old }
+    requires task { number ≡ (A.told asker.old).task }
     requires ready { A.ready asker.old }
     requires key { is_sent_key (text_of key) ≡ true }
     requires name { has_newline name.now ≡ false }
-    ensures pairs { AskAdds (A.pairs asker.old) (A.pairs asker.new) (Some name.now) (Removeexport (text_of key.entry)) result }
+    ensures pairs { AskAdds (A.told asker.old).pairs (A.told asker.new).pairs (Some name.now) (Removeexport (text_of key.entry)) result }
     ensures verdict { IfOk result (λ v. is_verdict_of (Removeexport (text_of key.entry)) v ≡ true) }
-    ensures notes { A.notes asker.new ≡ A.notes asker.old }
-    ensures layouts { A.current asker.new ≡ A.current asker.old }
-    ensures same { IsSameTask (A.task asker.old) (A.task asker.new) (A.may_note asker.old) (A.may_note asker.new) (A.loans asker.old) (A.loans asker.new) }
+    ensures notes { (A.told asker.new).notes ≡ (A.told asker.old).notes }
+    ensures layouts { (A.told asker.new).current ≡ (A.told asker.old).current }
+    ensures same { IsSameTask (A.told asker.old) (A.told asker.new) }
     ensures on { A.goes_on asker.old asker.new }
 {
     let key = Key::copy(alloc, key)?;
@@ -138,16 +138,16 @@ pub fn rename_named<A: Asker>(
     name: &str,
     onto: &str,
 ) -> Result<Verdict, NoMemory>
-    requires task { number ≡ A.task asker.old }
+    requires task { number ≡ (A.told asker.old).task }
     requires ready { A.ready asker.old }
     requires key { is_sent_key (text_of key) ≡ true }
     requires name { has_newline name.now ≡ false }
     requires onto { has_newline onto.now ≡ false }
-    ensures pairs { AskAdds (A.pairs asker.old) (A.pairs asker.new) (Some name.now) (Renameexport (text_of key.entry) onto.now) result }
+    ensures pairs { AskAdds (A.told asker.old).pairs (A.told asker.new).pairs (Some name.now) (Renameexport (text_of key.entry) onto.now) result }
     ensures verdict { IfOk result (λ v. is_verdict_of (Renameexport (text_of key.entry) onto.now) v ≡ true) }
-    ensures notes { A.notes asker.new ≡ A.notes asker.old }
-    ensures layouts { A.current asker.new ≡ A.current asker.old }
-    ensures same { IsSameTask (A.task asker.old) (A.task asker.new) (A.may_note asker.old) (A.may_note asker.new) (A.loans asker.old) (A.loans asker.new) }
+    ensures notes { (A.told asker.new).notes ≡ (A.told asker.old).notes }
+    ensures layouts { (A.told asker.new).current ≡ (A.told asker.old).current }
+    ensures same { IsSameTask (A.told asker.old) (A.told asker.new) }
     ensures on { A.goes_on asker.old asker.new }
 {
     let key = Key::copy(alloc, key)?;
@@ -166,16 +166,16 @@ pub fn transfer_named<A: Asker>(
     file: &str,
     name: &str,
 ) -> Result<Verdict, NoMemory>
-    requires task { number ≡ A.task asker.old }
+    requires task { number ≡ (A.told asker.old).task }
     requires ready { A.ready asker.old }
     requires key { is_sent_key (text_of key) ≡ true }
     requires file { has_newline file.now ≡ false }
     requires name { has_newline name.now ≡ false }
-    ensures pairs { AskAdds (A.pairs asker.old) (A.pairs asker.new) (Some name.now) (Transferexport store (text_of key.entry) file.now) result }
+    ensures pairs { AskAdds (A.told asker.old).pairs (A.told asker.new).pairs (Some name.now) (Transferexport store (text_of key.entry) file.now) result }
     ensures verdict { IfOk result (λ v. is_verdict_of (Transferexport store (text_of key.entry) file.now) v ≡ true) }
-    ensures notes { A.notes asker.new ≡ A.notes asker.old }
-    ensures layouts { A.current asker.new ≡ A.current asker.old }
-    ensures same { IsSameTask (A.task asker.old) (A.task asker.new) (A.may_note asker.old) (A.may_note asker.new) (A.loans asker.old) (A.loans asker.new) }
+    ensures notes { (A.told asker.new).notes ≡ (A.told asker.old).notes }
+    ensures layouts { (A.told asker.new).current ≡ (A.told asker.old).current }
+    ensures same { IsSameTask (A.told asker.old) (A.told asker.new) }
     ensures on { A.goes_on asker.old asker.new }
 {
     let key = Key::copy(alloc, key)?;

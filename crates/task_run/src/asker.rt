@@ -1,11 +1,11 @@
 // How one task asks its child.
-ghost use Rattle.std.specs.Prelude.{◌≡◌, ◌<◌, ℕ, List, Bool, true, IfOk, OnErr, length};
+ghost use Rattle.std.specs.Prelude.{◌≡◌, ◌<◌, true, IfOk, OnErr, length};
 ghost use Rattle.annex_model.specs.Messages.{is_askable};
 ghost use Rattle.annex_model.specs.Turns.{turn_of};
 ghost use Rattle.annex_model.specs.declared.turn.Turn.TheVariants.{Later};
 ghost use Rattle.journal_model.specs.Projection.{IsNamed};
 ghost use Rattle.talk_serial.specs.Requests.{message_of, name_of};
-ghost use Rattle.task_run.specs.Askers.{Asking, Noting, AskAdds, NoteAdds, IsSameTask, names_in_line, is_said_in_line, are_layouts};
+ghost use Rattle.task_run.specs.Askers.{AskerTold, AskAdds, NoteAdds, IsSameTask, names_in_line, is_said_in_line, are_layouts};
 
 use ann_key::NoMemory;
 use chunk_log::Layouts;
@@ -15,22 +15,8 @@ use talk_serial::Request;
 
 /// The way of one task to its child: it asks requests one after the other, and notes what chunks the remote has.
 pub trait Asker {
-    // the requests that were settled so far, with their names and verdicts
-    ghost pairs: { Self → List Asking };
-
-    // the notes so far
-    ghost notes: { Self → List Noting };
-
-    ghost task: { Self → ℕ };
-
-    // whether the task stores or drops
-    ghost may_note: { Self → Bool };
-
-    // the layouts in which the remote is known to have the task's key; while the task is busy its own notes alone change them
-    ghost current: { Self → List (ℕ × ℕ) };
-
-    // the names of what it borrows, which no call changes
-    ghost loans: { Self → List ℕ };
+    // what was asked and noted so far, and for which task
+    ghost told: { Self → AskerTold };
 
     // it may ask and note
     ghost ready: { Self → Type 0 };
@@ -40,41 +26,41 @@ pub trait Asker {
 
     /// Asks the request and waits for its verdict. A verdict by a line says what some line of an answer to the request says.
     fn ask(&mut self, alloc: Global, number: u32, request: &Request) -> Result<Verdict, NoMemory>
-        requires task { number ≡ task self.old }
+        requires task { number ≡ (told self.old).task }
         requires ready { ready self.old }
         requires turn { turn_of (message_of request.now) ≡ Later }
         requires fields { is_askable (message_of request.now) ≡ true }
         requires file { names_in_line (message_of request.now) ≡ true }
         requires name { is_said_in_line (name_of request.now) ≡ true }
-        ensures pairs { AskAdds (pairs self.old) (pairs self.new) (name_of request.now) (message_of request.now) result }
+        ensures pairs { AskAdds (told self.old).pairs (told self.new).pairs (name_of request.now) (message_of request.now) result }
         ensures named { IfOk result (IsNamed (message_of request.now)) }
-        ensures notes { notes self.new ≡ notes self.old }
-        ensures layouts { current self.new ≡ current self.old }
-        ensures same { IsSameTask (task self.old) (task self.new) (may_note self.old) (may_note self.new) (loans self.old) (loans self.new) }
+        ensures notes { (told self.new).notes ≡ (told self.old).notes }
+        ensures layouts { (told self.new).current ≡ (told self.old).current }
+        ensures same { IsSameTask (told self.old) (told self.new) }
         ensures on { goes_on self.old self.new };
 
     /// The layouts in which the remote is known to have the task's key.
     fn layouts(&mut self, alloc: Global, number: u32) -> Result<Layouts, NoMemory>
-        requires task { number ≡ task self.old }
+        requires task { number ≡ (told self.old).task }
         requires ready { ready self.old }
-        ensures told { IfOk result (λ list. list ≡ current self.old) }
-        ensures sizes { are_layouts (current self.old) ≡ true }
-        ensures pairs { pairs self.new ≡ pairs self.old }
-        ensures notes { notes self.new ≡ notes self.old }
-        ensures layouts { current self.new ≡ current self.old }
-        ensures same { IsSameTask (task self.old) (task self.new) (may_note self.old) (may_note self.new) (loans self.old) (loans self.new) }
+        ensures told { IfOk result (λ list. list ≡ (told self.old).current) }
+        ensures sizes { are_layouts (told self.old).current ≡ true }
+        ensures pairs { (told self.new).pairs ≡ (told self.old).pairs }
+        ensures notes { (told self.new).notes ≡ (told self.old).notes }
+        ensures layouts { (told self.new).current ≡ (told self.old).current }
+        ensures same { IsSameTask (told self.old) (told self.new) }
         ensures on { goes_on self.old self.new };
 
     /// Notes that the remote has so many chunks of that size.
     fn note(&mut self, number: u32, chunk: u64, count: u64) -> Result<(), NoMemory>
-        requires task { number ≡ task self.old }
+        requires task { number ≡ (told self.old).task }
         requires ready { ready self.old }
-        requires may { may_note self.old ≡ true }
+        requires may { (told self.old).may_note ≡ true }
         requires chunk { 0 < chunk }
-        ensures notes { NoteAdds (notes self.old) (notes self.new) (record { chunk = chunk; count = count; behind = length (pairs self.old) }) result }
-        ensures pairs { pairs self.new ≡ pairs self.old }
-        ensures layouts { OnErr result (current self.new ≡ current self.old) }
-        ensures same { IsSameTask (task self.old) (task self.new) (may_note self.old) (may_note self.new) (loans self.old) (loans self.new) }
+        ensures notes { NoteAdds (told self.old).notes (told self.new).notes (record { chunk = chunk; count = count; behind = length (told self.old).pairs }) result }
+        ensures pairs { (told self.new).pairs ≡ (told self.old).pairs }
+        ensures layouts { OnErr result ((told self.new).current ≡ (told self.old).current) }
+        ensures same { IsSameTask (told self.old) (told self.new) }
         ensures on { goes_on self.old self.new };
 
     // without a call it is as it was

@@ -65,13 +65,13 @@ fn ask_there<A: Asker>(
     store: Store<'_>,
     n: u64,
 ) -> Result<Verdict, NoMemory>
-    requires task { store.turn.task ≡ A.task asker.old }
+    requires task { store.turn.task ≡ (A.told asker.old).task }
     requires ready { A.ready asker.old }
     requires first { 0 < n }
-    ensures pairs { AsksNext present_request (with_chunk store.entry.setup.now.chunk n (parts_of store.entry.key)) (A.pairs asker.old) (A.pairs asker.new) result }
+    ensures pairs { AsksNext present_request (with_chunk store.entry.setup.now.chunk n (parts_of store.entry.key)) (A.told asker.old).pairs (A.told asker.new).pairs result }
     ensures verdict { IfOk result (λ v. is_verdict_of (Checkpresent []) v ≡ true) }
-    ensures notes { A.notes asker.new ≡ A.notes asker.old }
-    ensures same { IsSameTask (A.task asker.old) (A.task asker.new) (A.may_note asker.old) (A.may_note asker.new) (A.loans asker.old) (A.loans asker.new) }
+    ensures notes { (A.told asker.new).notes ≡ (A.told asker.old).notes }
+    ensures same { IsSameTask (A.told asker.old) (A.told asker.new) }
     ensures on { A.goes_on asker.old asker.new }
 {
     let key = piece(alloc, store.key, store.setup.chunk, n)?;
@@ -86,14 +86,14 @@ fn ask_stored<A: Asker>(
     n: u64,
     name: &str,
 ) -> Result<Verdict, NoMemory>
-    requires task { store.turn.task ≡ A.task asker.old }
+    requires task { store.turn.task ≡ (A.told asker.old).task }
     requires ready { A.ready asker.old }
     requires first { 0 < n }
     requires line { has_newline name.now ≡ false }
-    ensures pairs { AsksNext (from_file name.now) (with_chunk store.entry.setup.now.chunk n (parts_of store.entry.key)) (A.pairs asker.old) (A.pairs asker.new) result }
+    ensures pairs { AsksNext (from_file name.now) (with_chunk store.entry.setup.now.chunk n (parts_of store.entry.key)) (A.told asker.old).pairs (A.told asker.new).pairs result }
     ensures verdict { IfOk result (λ v. is_verdict_of (Transfer true [] []) v ≡ true) }
-    ensures notes { A.notes asker.new ≡ A.notes asker.old }
-    ensures same { IsSameTask (A.task asker.old) (A.task asker.new) (A.may_note asker.old) (A.may_note asker.new) (A.loans asker.old) (A.loans asker.new) }
+    ensures notes { (A.told asker.new).notes ≡ (A.told asker.old).notes }
+    ensures same { IsSameTask (A.told asker.old) (A.told asker.new) }
     ensures on { A.goes_on asker.old asker.new }
 {
     let key = piece(alloc, store.key, store.setup.chunk, n)?;
@@ -107,12 +107,12 @@ fn seek<A: Asker>(
     store: Store<'_>,
     count: u64,
 ) -> Result<Sought, NoMemory>
-    requires task { store.turn.task ≡ A.task asker.old }
+    requires task { store.turn.task ≡ (A.told asker.old).task }
     requires ready { A.ready asker.old }
-    ensures pairs { Seeks (parts_of store.entry.key) store.entry.setup.now.chunk count (A.pairs asker.old) (A.pairs asker.new) result }
+    ensures pairs { Seeks (parts_of store.entry.key) store.entry.setup.now.chunk count (A.told asker.old).pairs (A.told asker.new).pairs result }
     ensures answer { IfOk result (λ sought. IsQuiet sought) }
-    ensures notes { A.notes asker.new ≡ A.notes asker.old }
-    ensures same { IsSameTask (A.task asker.old) (A.task asker.new) (A.may_note asker.old) (A.may_note asker.new) (A.loans asker.old) (A.loans asker.new) }
+    ensures notes { (A.told asker.new).notes ≡ (A.told asker.old).notes }
+    ensures same { IsSameTask (A.told asker.old) (A.told asker.new) }
     ensures on { A.goes_on asker.old asker.new }
 {
     let mut there = 0;
@@ -137,8 +137,8 @@ fn copy_chunk<D: Desk>(
     name: &str,
 ) -> Result<Option<Answer>, NoMemory>
     requires { from ≤ to }
-    ensures copied { CopiesChunk file.now name.now from to (D.log desk.old) (D.log desk.new) result }
-    ensures causes { HasQuietCauses (D.counts desk.old) (D.counts desk.new) (so_far result) }
+    ensures copied { CopiesChunk file.now name.now from to (D.told desk.old).log (D.told desk.new).log result }
+    ensures causes { HasQuietCauses (D.told desk.old).counts (D.told desk.new).counts (so_far result) }
 {
     match copy_out(alloc, desk, file, from, to, name)? {
         Copied::Done(n) => {
@@ -160,8 +160,8 @@ fn remove_chunk<D: Desk>(
     said: Option<Answer>,
 ) -> Result<Option<Answer>, NoMemory>
     requires { may_follow_refusal (so_far (Ok said)) ≡ false }
-    ensures calls { (r : Outcome) × (D.log desk.new ≡ logged (D.log desk.old) (Remove name.now r)) × (result ≡ removal_result said r) }
-    ensures causes { HasQuietCauses (D.counts desk.old) (D.counts desk.new) (so_far result) }
+    ensures calls { (r : Outcome) × ((D.told desk.new).log ≡ logged (D.told desk.old).log (Remove name.now r)) × (result ≡ removal_result said r) }
+    ensures causes { HasQuietCauses (D.told desk.old).counts (D.told desk.new).counts (so_far result) }
 {
     match desk.remove(name) {
         Ok(()) => Ok(said),
@@ -178,8 +178,8 @@ fn settle_chunk<D: Desk>(
     verdict: Verdict,
 ) -> Result<Option<Answer>, NoMemory>
     requires { is_verdict_of (Transfer true [] []) verdict ≡ true }
-    ensures settled { SettlesChunk name.now verdict (D.log desk.old) (D.log desk.new) result }
-    ensures causes { HasQuietCauses (D.counts desk.old) (D.counts desk.new) (so_far result) }
+    ensures settled { SettlesChunk name.now verdict (D.told desk.old).log (D.told desk.new).log result }
+    ensures causes { HasQuietCauses (D.told desk.old).counts (D.told desk.new).counts (so_far result) }
 {
     match verdict {
         Verdict::Done { .. } => remove_chunk(desk, name, None),
@@ -202,14 +202,14 @@ fn store_copied<A: Asker, D: Desk>(
     requires range { chunk.from ≤ chunk.to }
     requires first { 0 < chunk.number }
     requires line { has_newline chunk.name.now ≡ false }
-    requires task { store.turn.task ≡ A.task asker.old }
+    requires task { store.turn.task ≡ (A.told asker.old).task }
     requires ready { A.ready asker.old }
     ensures stored { StoresChunk store.entry.file.now chunk.entry.name.now chunk.entry.from chunk.entry.to (with_chunk store.entry.setup.now.chunk chunk.entry.number (parts_of store.entry.key))
-        (A.pairs asker.old) (A.pairs asker.new) (D.log desk.old) (D.log desk.new) result }
-    ensures notes { A.notes asker.new ≡ A.notes asker.old }
-    ensures same { IsSameTask (A.task asker.old) (A.task asker.new) (A.may_note asker.old) (A.may_note asker.new) (A.loans asker.old) (A.loans asker.new) }
+        (A.told asker.old).pairs (A.told asker.new).pairs (D.told desk.old).log (D.told desk.new).log result }
+    ensures notes { (A.told asker.new).notes ≡ (A.told asker.old).notes }
+    ensures same { IsSameTask (A.told asker.old) (A.told asker.new) }
     ensures on { A.goes_on asker.old asker.new }
-    ensures causes { HasQuietCauses (D.counts desk.old) (D.counts desk.new) (so_far result) }
+    ensures causes { HasQuietCauses (D.told desk.old).counts (D.told desk.new).counts (so_far result) }
 {
     match copy_chunk(alloc, desk, store.file, chunk.from, chunk.to, chunk.name)? {
         None => {
@@ -228,18 +228,18 @@ fn store_chunk<A: Asker, D: Desk>(
     asker: &mut A,
     desk: &mut D,
 ) -> Result<Option<Answer>, NoMemory>
-    requires task { store.turn.task ≡ A.task asker.old }
+    requires task { store.turn.task ≡ (A.told asker.old).task }
     requires ready { A.ready asker.old }
     requires first { 0 < n }
     requires last { n ≤ count_of store.size store.setup.now.chunk }
     requires small { n + 1 < 2 ^ 64 }
     ensures stored { StoresChunk store.entry.file.now (chunk_file store.entry.setup.now store.entry.turn (n + 1))
         (from_of store.entry.setup.now.chunk n) (to_of store.entry.size store.entry.setup.now.chunk n)
-        (with_chunk store.entry.setup.now.chunk n (parts_of store.entry.key)) (A.pairs asker.old) (A.pairs asker.new) (D.log desk.old) (D.log desk.new) result }
-    ensures notes { A.notes asker.new ≡ A.notes asker.old }
-    ensures same { IsSameTask (A.task asker.old) (A.task asker.new) (A.may_note asker.old) (A.may_note asker.new) (A.loans asker.old) (A.loans asker.new) }
+        (with_chunk store.entry.setup.now.chunk n (parts_of store.entry.key)) (A.told asker.old).pairs (A.told asker.new).pairs (D.told desk.old).log (D.told desk.new).log result }
+    ensures notes { (A.told asker.new).notes ≡ (A.told asker.old).notes }
+    ensures same { IsSameTask (A.told asker.old) (A.told asker.new) }
     ensures on { A.goes_on asker.old asker.new }
-    ensures causes { HasQuietCauses (D.counts desk.old) (D.counts desk.new) (so_far result) }
+    ensures causes { HasQuietCauses (D.told desk.old).counts (D.told desk.new).counts (so_far result) }
 {
     let name = chunk_name(alloc, store.setup, store.turn, n + 1)?;
     let (from, to) = range(store.size, store.setup.chunk, n);
@@ -259,13 +259,13 @@ fn note_chunks<A: Asker>(
     chunk: u64,
     count: u64,
 ) -> Result<Answer, NoMemory>
-    requires task { number ≡ A.task asker.old }
+    requires task { number ≡ (A.told asker.old).task }
     requires ready { A.ready asker.old }
-    requires may { A.may_note asker.old ≡ true }
+    requires may { (A.told asker.old).may_note ≡ true }
     requires chunk { 0 < chunk }
-    ensures notes { NotesChunks chunk count (length (A.pairs asker.old)) (A.notes asker.old) (A.notes asker.new) result }
-    ensures pairs { A.pairs asker.new ≡ A.pairs asker.old }
-    ensures same { IsSameTask (A.task asker.old) (A.task asker.new) (A.may_note asker.old) (A.may_note asker.new) (A.loans asker.old) (A.loans asker.new) }
+    ensures notes { NotesChunks chunk count (length (A.told asker.old).pairs) (A.told asker.old).notes (A.told asker.new).notes result }
+    ensures pairs { (A.told asker.new).pairs ≡ (A.told asker.old).pairs }
+    ensures same { IsSameTask (A.told asker.old) (A.told asker.new) }
     ensures on { A.goes_on asker.old asker.new }
 {
     asker.note(number, chunk, count)?;
@@ -280,16 +280,16 @@ fn store_from<A: Asker, D: Desk>(
     asker: &mut A,
     desk: &mut D,
 ) -> Result<Answer, NoMemory>
-    requires task { store.turn.task ≡ A.task asker.old }
+    requires task { store.turn.task ≡ (A.told asker.old).task }
     requires ready { A.ready asker.old }
-    requires may { A.may_note asker.old ≡ true }
+    requires may { (A.told asker.old).may_note ≡ true }
     requires missing { n < count_of store.size store.setup.now.chunk }
     requires small { count_of store.size store.setup.now.chunk + 1 < 2 ^ 64 }
-    ensures stored { StoresFrom store.entry.setup.now store.entry.turn (parts_of store.entry.key) store.entry.file.now store.entry.size n (A.pairs asker.old) (A.pairs asker.new)
-        (A.notes asker.old) (A.notes asker.new) (D.log desk.old) (D.log desk.new) result }
-    ensures same { IsSameTask (A.task asker.old) (A.task asker.new) (A.may_note asker.old) (A.may_note asker.new) (A.loans asker.old) (A.loans asker.new) }
+    ensures stored { StoresFrom store.entry.setup.now store.entry.turn (parts_of store.entry.key) store.entry.file.now store.entry.size n (A.told asker.old).pairs (A.told asker.new).pairs
+        (A.told asker.old).notes (A.told asker.new).notes (D.told desk.old).log (D.told desk.new).log result }
+    ensures same { IsSameTask (A.told asker.old) (A.told asker.new) }
     ensures on { A.goes_on asker.old asker.new }
-    ensures causes { HasQuietCauses (D.counts desk.old) (D.counts desk.new) result }
+    ensures causes { HasQuietCauses (D.told desk.old).counts (D.told desk.new).counts result }
 {
     let all = count(store.size, store.setup.chunk);
     let mut stored = n;
@@ -309,14 +309,14 @@ fn store_missing<A: Asker, D: Desk>(
     asker: &mut A,
     desk: &mut D,
 ) -> Result<Answer, NoMemory>
-    requires task { store.turn.task ≡ A.task asker.old }
+    requires task { store.turn.task ≡ (A.told asker.old).task }
     requires ready { A.ready asker.old }
-    requires may { A.may_note asker.old ≡ true }
-    ensures stored { StoresSized store.entry.setup.now store.entry.turn (parts_of store.entry.key) store.entry.file.now store.entry.size (A.pairs asker.old) (A.pairs asker.new)
-        (A.notes asker.old) (A.notes asker.new) (D.log desk.old) (D.log desk.new) result }
-    ensures same { IsSameTask (A.task asker.old) (A.task asker.new) (A.may_note asker.old) (A.may_note asker.new) (A.loans asker.old) (A.loans asker.new) }
+    requires may { (A.told asker.old).may_note ≡ true }
+    ensures stored { StoresSized store.entry.setup.now store.entry.turn (parts_of store.entry.key) store.entry.file.now store.entry.size (A.told asker.old).pairs (A.told asker.new).pairs
+        (A.told asker.old).notes (A.told asker.new).notes (D.told desk.old).log (D.told desk.new).log result }
+    ensures same { IsSameTask (A.told asker.old) (A.told asker.new) }
     ensures on { A.goes_on asker.old asker.new }
-    ensures causes { HasQuietCauses (D.counts desk.old) (D.counts desk.new) result }
+    ensures causes { HasQuietCauses (D.told desk.old).counts (D.told desk.new).counts result }
 {
     let chunk = store.setup.chunk;
     let all = count(store.size, chunk);
@@ -344,13 +344,13 @@ pub fn store_chunks<A: Asker, D: Desk>(
     requires work { task.now.work ≡ W.Store }
     requires folder { has_newline setup.now.work ≡ false }
     requires chunked { IsInChunks setup.now task.now }
-    requires number { turn.task ≡ A.task asker.old }
+    requires number { turn.task ≡ (A.told asker.old).task }
     requires ready { A.ready asker.old }
-    requires may { A.may_note asker.old ≡ true }
-    ensures ran { RanStore task.now turn setup.now (A.pairs asker.old) (A.pairs asker.new) (A.notes asker.old) (A.notes asker.new) (D.log desk.old) (D.log desk.new) result }
-    ensures same { IsSameTask (A.task asker.old) (A.task asker.new) (A.may_note asker.old) (A.may_note asker.new) (A.loans asker.old) (A.loans asker.new) }
+    requires may { (A.told asker.old).may_note ≡ true }
+    ensures ran { RanStore task.now turn setup.now (A.told asker.old).pairs (A.told asker.new).pairs (A.told asker.old).notes (A.told asker.new).notes (D.told desk.old).log (D.told desk.new).log result }
+    ensures same { IsSameTask (A.told asker.old) (A.told asker.new) }
     ensures on { A.goes_on asker.old asker.new }
-    ensures causes { HasQuietCauses (D.counts desk.old) (D.counts desk.new) result }
+    ensures causes { HasQuietCauses (D.told desk.old).counts (D.told desk.new).counts result }
 {
     let key = task.key.view();
     let file = task.file.view();

@@ -49,10 +49,10 @@ impl DoneAsker {
     /// An asker of that task, for a key with these layouts, which wasn't asked anything.
     pub fn new(alloc: Global, task: u32, may_note: bool, layouts: Vec<(u64, u64)>) -> DoneAsker
         requires { are_layouts layouts.items ≡ true }
-        ensures task { ⟦<DoneAsker as Asker>⟧.task result ≡ task }
-        ensures may_note { ⟦<DoneAsker as Asker>⟧.may_note result ≡ may_note }
-        ensures pairs { ⟦<DoneAsker as Asker>⟧.pairs result ≡ [] }
-        ensures current { ⟦<DoneAsker as Asker>⟧.current result ≡ layouts.items }
+        ensures task { (⟦<DoneAsker as Asker>⟧.told result).task ≡ task }
+        ensures may_note { (⟦<DoneAsker as Asker>⟧.told result).may_note ≡ may_note }
+        ensures pairs { (⟦<DoneAsker as Asker>⟧.told result).pairs ≡ [] }
+        ensures current { (⟦<DoneAsker as Asker>⟧.told result).current ≡ layouts.items }
     {
         DoneAsker {
             alloc,
@@ -66,17 +66,7 @@ impl DoneAsker {
 }
 
 impl Asker for DoneAsker {
-    ghost pairs = { λ a. map pair_of a.asked.items };
-
-    ghost notes = { λ a. map note_of a.notes.items };
-
-    ghost task = { λ a. a.task };
-
-    ghost may_note = { λ a. a.may_note };
-
-    ghost current = { λ a. a.layouts.items };
-
-    ghost loans = { λ a. [] };
+    ghost told = { λ a. record { pairs = map pair_of a.asked.items; notes = map note_of a.notes.items; task = a.task; may_note = a.may_note; current = a.layouts.items; loans = [] } };
 
     ghost ready = { λ a. Unit {0} };
 

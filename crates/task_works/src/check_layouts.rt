@@ -43,11 +43,11 @@ pub fn check<A: Asker>(
 ) -> Result<Answer, NoMemory>
     requires task { IsTask task.now }
     requires work { task.now.work ≡ W.Check }
-    requires number { turn.task ≡ A.task asker.old }
+    requires number { turn.task ≡ (A.told asker.old).task }
     requires ready { A.ready asker.old }
-    ensures ran { RanAsking task.now turn (A.current asker.old) (A.pairs asker.old) (A.pairs asker.new) result }
-    ensures notes { A.notes asker.new ≡ A.notes asker.old }
-    ensures same { IsSameTask (A.task asker.old) (A.task asker.new) (A.may_note asker.old) (A.may_note asker.new) (A.loans asker.old) (A.loans asker.new) }
+    ensures ran { RanAsking task.now turn (A.told asker.old).current (A.told asker.old).pairs (A.told asker.new).pairs result }
+    ensures notes { (A.told asker.new).notes ≡ (A.told asker.old).notes }
+    ensures same { IsSameTask (A.told asker.old) (A.told asker.new) }
     ensures on { A.goes_on asker.old asker.new }
     ensures content { IfOk result (λ answer. may_follow_refusal (Ok answer) ≡ false) }
 {

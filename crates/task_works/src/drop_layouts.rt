@@ -16,12 +16,12 @@ use task_text::Task;
 
 // Notes that the remote has no chunks of this size. The plain layout has none to note.
 fn note_none<A: Asker>(asker: &mut A, number: u32, chunk: u64) -> Result<(), NoMemory>
-    requires number { number ≡ A.task asker.old }
+    requires number { number ≡ (A.told asker.old).task }
     requires ready { A.ready asker.old }
-    requires may_note { A.may_note asker.old ≡ true }
-    ensures notes { NotesNone (A.notes asker.old) (A.notes asker.new) (length (A.pairs asker.old)) chunk result }
-    ensures pairs { A.pairs asker.new ≡ A.pairs asker.old }
-    ensures same { IsSameTask (A.task asker.old) (A.task asker.new) (A.may_note asker.old) (A.may_note asker.new) (A.loans asker.old) (A.loans asker.new) }
+    requires may_note { (A.told asker.old).may_note ≡ true }
+    ensures notes { NotesNone (A.told asker.old).notes (A.told asker.new).notes (length (A.told asker.old).pairs) chunk result }
+    ensures pairs { (A.told asker.new).pairs ≡ (A.told asker.old).pairs }
+    ensures same { IsSameTask (A.told asker.old) (A.told asker.new) }
     ensures on { A.goes_on asker.old asker.new }
 {
     if chunk > 0 {
@@ -40,11 +40,11 @@ pub fn drop_key<A: Asker>(
 ) -> Result<Answer, NoMemory>
     requires task { IsTask task.now }
     requires work { task.now.work ≡ W.Drop }
-    requires number { turn.task ≡ A.task asker.old }
+    requires number { turn.task ≡ (A.told asker.old).task }
     requires ready { A.ready asker.old }
-    requires may_note { A.may_note asker.old ≡ true }
-    ensures ran { RanNoting task.now turn (A.current asker.old) (A.pairs asker.old) (A.pairs asker.new) (A.notes asker.old) (A.notes asker.new) result }
-    ensures same { IsSameTask (A.task asker.old) (A.task asker.new) (A.may_note asker.old) (A.may_note asker.new) (A.loans asker.old) (A.loans asker.new) }
+    requires may_note { (A.told asker.old).may_note ≡ true }
+    ensures ran { RanNoting task.now turn (A.told asker.old).current (A.told asker.old).pairs (A.told asker.new).pairs (A.told asker.old).notes (A.told asker.new).notes result }
+    ensures same { IsSameTask (A.told asker.old) (A.told asker.new) }
     ensures on { A.goes_on asker.old asker.new }
     ensures content { IfOk result (λ answer. may_follow_refusal (Ok answer) ≡ false) }
 {

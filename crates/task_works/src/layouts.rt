@@ -95,14 +95,14 @@ fn ask_key<A: Asker>(
     query: Query,
     key: KeyRef<'_>,
 ) -> Result<Verdict, NoMemory>
-    requires task { number ≡ A.task asker.old }
+    requires task { number ≡ (A.told asker.old).task }
     requires ready { A.ready asker.old }
     requires key { is_sent_key (text_of key) ≡ true }
-    ensures pairs { AskAdds (A.pairs asker.old) (A.pairs asker.new) None (asked_by query 1 (text_of key.entry)) result }
+    ensures pairs { AskAdds (A.told asker.old).pairs (A.told asker.new).pairs None (asked_by query 1 (text_of key.entry)) result }
     ensures verdict { IfOk result (λ v. is_verdict_of (asked_by query 1 []) v ≡ true) }
-    ensures notes { A.notes asker.new ≡ A.notes asker.old }
-    ensures layouts { A.current asker.new ≡ A.current asker.old }
-    ensures same { IsSameTask (A.task asker.old) (A.task asker.new) (A.may_note asker.old) (A.may_note asker.new) (A.loans asker.old) (A.loans asker.new) }
+    ensures notes { (A.told asker.new).notes ≡ (A.told asker.old).notes }
+    ensures layouts { (A.told asker.new).current ≡ (A.told asker.old).current }
+    ensures same { IsSameTask (A.told asker.old) (A.told asker.new) }
     ensures on { A.goes_on asker.old asker.new }
 {
     match query {
@@ -120,14 +120,14 @@ pub fn ask_layout<A: Asker>(
     key: KeyRef<'_>,
     chunk: u64,
 ) -> Result<Option<Verdict>, NoMemory>
-    requires task { number ≡ A.task asker.old }
+    requires task { number ≡ (A.told asker.old).task }
     requires ready { A.ready asker.old }
     requires whole { (parts_of key).chunk ≡ None }
     requires sent { is_sent_key (text_of key) ≡ true }
-    ensures asks { RoundAsks query (A.pairs asker.old) (A.pairs asker.new) (keys_of_layout (parts_of key.entry) chunk) result }
-    ensures notes { A.notes asker.new ≡ A.notes asker.old }
-    ensures layouts { A.current asker.new ≡ A.current asker.old }
-    ensures same { IsSameTask (A.task asker.old) (A.task asker.new) (A.may_note asker.old) (A.may_note asker.new) (A.loans asker.old) (A.loans asker.new) }
+    ensures asks { RoundAsks query (A.told asker.old).pairs (A.told asker.new).pairs (keys_of_layout (parts_of key.entry) chunk) result }
+    ensures notes { (A.told asker.new).notes ≡ (A.told asker.old).notes }
+    ensures layouts { (A.told asker.new).current ≡ (A.told asker.old).current }
+    ensures same { IsSameTask (A.told asker.old) (A.told asker.new) }
     ensures on { A.goes_on asker.old asker.new }
 {
     for at in 0..key_count(key.size(), chunk) {

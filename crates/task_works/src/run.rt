@@ -39,13 +39,13 @@ fn store<A: Asker, D: Desk>(
     requires task { IsTask task.now }
     requires work { task.now.work ≡ W.Store }
     requires folder { has_newline setup.now.work ≡ false }
-    requires number { turn.task ≡ A.task asker.old }
+    requires number { turn.task ≡ (A.told asker.old).task }
     requires ready { A.ready asker.old }
-    requires may { A.may_note asker.old ≡ true }
-    ensures ran { RanStore task.now turn setup.now (A.pairs asker.old) (A.pairs asker.new) (A.notes asker.old) (A.notes asker.new) (D.log desk.old) (D.log desk.new) result }
-    ensures same { IsSameTask (A.task asker.old) (A.task asker.new) (A.may_note asker.old) (A.may_note asker.new) (A.loans asker.old) (A.loans asker.new) }
+    requires may { (A.told asker.old).may_note ≡ true }
+    ensures ran { RanStore task.now turn setup.now (A.told asker.old).pairs (A.told asker.new).pairs (A.told asker.old).notes (A.told asker.new).notes (D.told desk.old).log (D.told desk.new).log result }
+    ensures same { IsSameTask (A.told asker.old) (A.told asker.new) }
     ensures on { A.goes_on asker.old asker.new }
-    ensures causes { HasQuietCauses (D.counts desk.old) (D.counts desk.new) result }
+    ensures causes { HasQuietCauses (D.told desk.old).counts (D.told desk.new).counts result }
 {
     if is_chunked(task, setup) {
         store_chunks(alloc, task, turn, setup, asker, desk)
@@ -66,14 +66,14 @@ pub fn run_task<A: Asker, D: Desk>(
 ) -> Result<Answer, NoMemory>
     requires task { IsTask task.now }
     requires folder { has_newline setup.now.work ≡ false }
-    requires number { number ≡ A.task asker.old }
+    requires number { number ≡ (A.told asker.old).task }
     requires ready { A.ready asker.old }
-    requires notes { may_note task.now.work ≡ true → A.may_note asker.old ≡ true }
-    ensures ran { Ran task.now (record { task = number; turn = turn }) setup.now (A.current asker.old) (A.pairs asker.old) (A.pairs asker.new)
-        (A.notes asker.old) (A.notes asker.new) (D.log desk.old) (D.log desk.new) result }
-    ensures same { IsSameTask (A.task asker.old) (A.task asker.new) (A.may_note asker.old) (A.may_note asker.new) (A.loans asker.old) (A.loans asker.new) }
+    requires notes { may_note task.now.work ≡ true → (A.told asker.old).may_note ≡ true }
+    ensures ran { Ran task.now (record { task = number; turn = turn }) setup.now (A.told asker.old).current (A.told asker.old).pairs (A.told asker.new).pairs
+        (A.told asker.old).notes (A.told asker.new).notes (D.told desk.old).log (D.told desk.new).log result }
+    ensures same { IsSameTask (A.told asker.old) (A.told asker.new) }
     ensures on { A.goes_on asker.old asker.new }
-    ensures causes { HasTaskCauses (D.counts desk.old) (D.counts desk.new) result }
+    ensures causes { HasTaskCauses (D.told desk.old).counts (D.told desk.new).counts result }
 {
     let turn = TaskTurn { task: number, turn };
     match task.work {

@@ -36,9 +36,9 @@ impl MemDesk {
         files: Vec<(Text, Bytes)>,
         fails: Vec<u64>,
     ) -> Result<MemDesk, NoMemory>
-        ensures files { IfOk result (λ d. ⟦<MemDesk as Desk>⟧.files d ≡ Some files.items) }
-        ensures log { IfOk result (λ d. ⟦<MemDesk as Desk>⟧.log d ≡ Some (record { origin = Some files.items; calls = [] })) }
-        ensures counts { IfOk result (λ d. ⟦<MemDesk as Desk>⟧.counts d ≡ no_counts) }
+        ensures files { IfOk result (λ d. (⟦<MemDesk as Desk>⟧.told d).files ≡ Some files.items) }
+        ensures log { IfOk result (λ d. (⟦<MemDesk as Desk>⟧.told d).log ≡ Some (record { origin = Some files.items; calls = [] })) }
+        ensures counts { IfOk result (λ d. (⟦<MemDesk as Desk>⟧.told d).counts ≡ no_counts) }
         ensures fails { IfOk result (λ d. Begins (desk_fails d) fails.items) }
     {
         Ok(MemDesk::over(DeskState::new(alloc, files, fails)?))
@@ -56,21 +56,21 @@ impl MemDesk {
 
     /// The bytes of the file of that name, if there is one.
     pub fn content(&self, name: &str) -> Option<&Bytes>
-        ensures { IfSome (⟦<MemDesk as Desk>⟧.files self.now) (λ fs. option_copied result ≡ content name.now fs) }
+        ensures { IfSome (⟦<MemDesk as Desk>⟧.told self.now).files (λ fs. option_copied result ≡ content name.now fs) }
     {
         find(self.state.files.as_slice(), name)
     }
 
     /// Its calls so far, in order, without those that found no memory.
     pub fn log(&self) -> &[Call]
-        ensures { option_map (λ log. log.calls) (⟦<MemDesk as Desk>⟧.log self.now) ≡ Some result.now }
+        ensures { option_map (λ log. log.calls) (⟦<MemDesk as Desk>⟧.told self.now).log ≡ Some result.now }
     {
         self.state.log.as_slice()
     }
 
     /// Forgets its calls so far: its log begins with the files that it has. The numbers of the calls to come go on.
     pub fn forget_log(&mut self)
-        ensures log { ⟦<MemDesk as Desk>⟧.log self.new ≡ Some (record { origin = ⟦<MemDesk as Desk>⟧.files self.old; calls = [] }) }
+        ensures log { (⟦<MemDesk as Desk>⟧.told self.new).log ≡ Some (record { origin = (⟦<MemDesk as Desk>⟧.told self.old).files; calls = [] }) }
         ensures same { SameButLog self.old.state self.new.state }
     {
         self.origin = Snapshot::of(&self.state.files);
@@ -92,18 +92,14 @@ impl Desk for MemDesk {
     ghost use Rattle.ann_outside.specs.MemDesk.{desk_fails};
     ghost use Rattle.ann_outside.specs.DeskState.{IsCounted, IsCountedOr};
 
-    ghost counts = { λ d. record { faults = d.state.fails.faults; missing = d.state.missing } };
-
-    ghost files = { λ d. Some d.state.files.items };
-
-    ghost log = { λ d. Some (record { origin = Some d.origin.value.items; calls = d.state.log.items }) };
+    ghost told = { λ d. record { counts = record { faults = d.state.fails.faults; missing = d.state.missing }; files = Some d.state.files.items; log = Some (record { origin = Some d.origin.value.items; calls = d.state.log.items }) } };
 
     fn size(&mut self, name: &str) -> Result<u64, DeskError>
-        ensures files { ⟦<MemDesk as Desk>⟧.files self.new ≡ ⟦<MemDesk as Desk>⟧.files self.old }
-        ensures told { IfSome (⟦<MemDesk as Desk>⟧.files self.old) (λ fs. SizeIs name.now fs result) }
-        ensures causes { HasCauses (⟦<MemDesk as Desk>⟧.counts self.old) (⟦<MemDesk as Desk>⟧.counts self.new) result }
-        ensures apart { LeavesOther (⟦<MemDesk as Desk>⟧.counts self.old) (⟦<MemDesk as Desk>⟧.counts self.new) result }
-        ensures log { ⟦<MemDesk as Desk>⟧.log self.new ≡ logged (⟦<MemDesk as Desk>⟧.log self.old) (Size name.now result) }
+        ensures files { (⟦<MemDesk as Desk>⟧.told self.new).files ≡ (⟦<MemDesk as Desk>⟧.told self.old).files }
+        ensures told { IfSome (⟦<MemDesk as Desk>⟧.told self.old).files (λ fs. SizeIs name.now fs result) }
+        ensures causes { HasCauses (⟦<MemDesk as Desk>⟧.told self.old).counts (⟦<MemDesk as Desk>⟧.told self.new).counts result }
+        ensures apart { LeavesOther (⟦<MemDesk as Desk>⟧.told self.old).counts (⟦<MemDesk as Desk>⟧.told self.new).counts result }
+        ensures log { (⟦<MemDesk as Desk>⟧.told self.new).log ≡ logged (⟦<MemDesk as Desk>⟧.told self.old).log (Size name.now result) }
         ensures counted { IsCounted (desk_fails self.old) (desk_fails self.new) result }
     {
         self.state.size(name)
@@ -113,14 +109,14 @@ impl Desk for MemDesk {
         requires { 0 < length buf.old }
         ensures bound { ReadsAtMost result buf.new }
         ensures place { IfOk result (λ n. from + n < 2 ^ 64) }
-        ensures files { ⟦<MemDesk as Desk>⟧.files self.new ≡ ⟦<MemDesk as Desk>⟧.files self.old }
-        ensures told { IfSome (⟦<MemDesk as Desk>⟧.files self.old) (λ fs. ReadIs name.now from buf.new fs result) }
-        ensures much { IfSome (⟦<MemDesk as Desk>⟧.files self.old) (λ fs. IfOk result (λ n. (bytes : List ℕ) → content name.now fs ≡ Some bytes
+        ensures files { (⟦<MemDesk as Desk>⟧.told self.new).files ≡ (⟦<MemDesk as Desk>⟧.told self.old).files }
+        ensures told { IfSome (⟦<MemDesk as Desk>⟧.told self.old).files (λ fs. ReadIs name.now from buf.new fs result) }
+        ensures much { IfSome (⟦<MemDesk as Desk>⟧.told self.old).files (λ fs. IfOk result (λ n. (bytes : List ℕ) → content name.now fs ≡ Some bytes
             → n ≡ min (length bytes - from) (length buf.old))) }
         ensures behind { MatchResult result (λ n. drop n buf.new ≡ drop n buf.old) (λ _. buf.new ≡ buf.old) }
-        ensures causes { HasCauses (⟦<MemDesk as Desk>⟧.counts self.old) (⟦<MemDesk as Desk>⟧.counts self.new) result }
-        ensures apart { LeavesOther (⟦<MemDesk as Desk>⟧.counts self.old) (⟦<MemDesk as Desk>⟧.counts self.new) result }
-        ensures log { ⟦<MemDesk as Desk>⟧.log self.new ≡ logged (⟦<MemDesk as Desk>⟧.log self.old) (ReadAt name.now from (bytes_read buf.new result)) }
+        ensures causes { HasCauses (⟦<MemDesk as Desk>⟧.told self.old).counts (⟦<MemDesk as Desk>⟧.told self.new).counts result }
+        ensures apart { LeavesOther (⟦<MemDesk as Desk>⟧.told self.old).counts (⟦<MemDesk as Desk>⟧.told self.new).counts result }
+        ensures log { (⟦<MemDesk as Desk>⟧.told self.new).log ≡ logged (⟦<MemDesk as Desk>⟧.told self.old).log (ReadAt name.now from (bytes_read buf.new result)) }
         ensures counted { IsCounted (desk_fails self.old) (desk_fails self.new) result }
     {
         self.state.read_at(name, from, buf)
@@ -128,11 +124,11 @@ impl Desk for MemDesk {
 
     fn create(&mut self, name: &str) -> Result<(), DeskError>
         ensures found { result ≡ Err DeskError.Missing → ⊥ }
-        ensures files { WhereTold (⟦<MemDesk as Desk>⟧.files self.old) (⟦<MemDesk as Desk>⟧.files self.new) (CreateDoes name.now result) }
-        ensures err { OnErr result (⟦<MemDesk as Desk>⟧.files self.new ≡ ⟦<MemDesk as Desk>⟧.files self.old) }
-        ensures causes { HasCauses (⟦<MemDesk as Desk>⟧.counts self.old) (⟦<MemDesk as Desk>⟧.counts self.new) result }
-        ensures apart { LeavesOther (⟦<MemDesk as Desk>⟧.counts self.old) (⟦<MemDesk as Desk>⟧.counts self.new) result }
-        ensures log { ⟦<MemDesk as Desk>⟧.log self.new ≡ logged (⟦<MemDesk as Desk>⟧.log self.old) (Create name.now result) }
+        ensures files { WhereTold (⟦<MemDesk as Desk>⟧.told self.old).files (⟦<MemDesk as Desk>⟧.told self.new).files (CreateDoes name.now result) }
+        ensures err { OnErr result ((⟦<MemDesk as Desk>⟧.told self.new).files ≡ (⟦<MemDesk as Desk>⟧.told self.old).files) }
+        ensures causes { HasCauses (⟦<MemDesk as Desk>⟧.told self.old).counts (⟦<MemDesk as Desk>⟧.told self.new).counts result }
+        ensures apart { LeavesOther (⟦<MemDesk as Desk>⟧.told self.old).counts (⟦<MemDesk as Desk>⟧.told self.new).counts result }
+        ensures log { (⟦<MemDesk as Desk>⟧.told self.new).log ≡ logged (⟦<MemDesk as Desk>⟧.told self.old).log (Create name.now result) }
         ensures counted { IsCounted (desk_fails self.old) (desk_fails self.new) result }
     {
         self.state.create(name)
@@ -140,67 +136,67 @@ impl Desk for MemDesk {
 
     fn create_new(&mut self, name: &str) -> Result<(), DeskError>
         ensures found { result ≡ Err DeskError.Missing → ⊥ }
-        ensures files { WhereTold (⟦<MemDesk as Desk>⟧.files self.old) (⟦<MemDesk as Desk>⟧.files self.new) (CreateNewDoes name.now result) }
-        ensures err { OnErr result (⟦<MemDesk as Desk>⟧.files self.new ≡ ⟦<MemDesk as Desk>⟧.files self.old) }
-        ensures causes { HasCauses (⟦<MemDesk as Desk>⟧.counts self.old) (⟦<MemDesk as Desk>⟧.counts self.new) result }
-        ensures apart { LeavesOther (⟦<MemDesk as Desk>⟧.counts self.old) (⟦<MemDesk as Desk>⟧.counts self.new) result }
-        ensures log { ⟦<MemDesk as Desk>⟧.log self.new ≡ logged (⟦<MemDesk as Desk>⟧.log self.old) (Create name.now result) }
-        ensures counted { IfSome (⟦<MemDesk as Desk>⟧.files self.old) (λ fs. IsCountedOr (content name.now fs ≢ None) (desk_fails self.old) (desk_fails self.new) result) }
+        ensures files { WhereTold (⟦<MemDesk as Desk>⟧.told self.old).files (⟦<MemDesk as Desk>⟧.told self.new).files (CreateNewDoes name.now result) }
+        ensures err { OnErr result ((⟦<MemDesk as Desk>⟧.told self.new).files ≡ (⟦<MemDesk as Desk>⟧.told self.old).files) }
+        ensures causes { HasCauses (⟦<MemDesk as Desk>⟧.told self.old).counts (⟦<MemDesk as Desk>⟧.told self.new).counts result }
+        ensures apart { LeavesOther (⟦<MemDesk as Desk>⟧.told self.old).counts (⟦<MemDesk as Desk>⟧.told self.new).counts result }
+        ensures log { (⟦<MemDesk as Desk>⟧.told self.new).log ≡ logged (⟦<MemDesk as Desk>⟧.told self.old).log (Create name.now result) }
+        ensures counted { IfSome (⟦<MemDesk as Desk>⟧.told self.old).files (λ fs. IsCountedOr (content name.now fs ≢ None) (desk_fails self.old) (desk_fails self.new) result) }
     {
         self.state.create_new(name)
     }
 
     fn append(&mut self, name: &str, piece: &[u8]) -> Result<(), DeskError>
-        ensures files { WhereTold (⟦<MemDesk as Desk>⟧.files self.old) (⟦<MemDesk as Desk>⟧.files self.new) (AppendDoes name.now piece.now result) }
-        ensures err { OnErr result (⟦<MemDesk as Desk>⟧.files self.new ≡ ⟦<MemDesk as Desk>⟧.files self.old) }
-        ensures causes { HasCauses (⟦<MemDesk as Desk>⟧.counts self.old) (⟦<MemDesk as Desk>⟧.counts self.new) result }
-        ensures apart { LeavesOther (⟦<MemDesk as Desk>⟧.counts self.old) (⟦<MemDesk as Desk>⟧.counts self.new) result }
-        ensures log { ⟦<MemDesk as Desk>⟧.log self.new ≡ logged (⟦<MemDesk as Desk>⟧.log self.old) (Append name.now piece.now result) }
+        ensures files { WhereTold (⟦<MemDesk as Desk>⟧.told self.old).files (⟦<MemDesk as Desk>⟧.told self.new).files (AppendDoes name.now piece.now result) }
+        ensures err { OnErr result ((⟦<MemDesk as Desk>⟧.told self.new).files ≡ (⟦<MemDesk as Desk>⟧.told self.old).files) }
+        ensures causes { HasCauses (⟦<MemDesk as Desk>⟧.told self.old).counts (⟦<MemDesk as Desk>⟧.told self.new).counts result }
+        ensures apart { LeavesOther (⟦<MemDesk as Desk>⟧.told self.old).counts (⟦<MemDesk as Desk>⟧.told self.new).counts result }
+        ensures log { (⟦<MemDesk as Desk>⟧.told self.new).log ≡ logged (⟦<MemDesk as Desk>⟧.told self.old).log (Append name.now piece.now result) }
         ensures counted { IsCounted (desk_fails self.old) (desk_fails self.new) result }
     {
         self.state.append(name, piece)
     }
 
     fn cut(&mut self, name: &str, size: u64) -> Result<(), DeskError>
-        requires { IfSome (⟦<MemDesk as Desk>⟧.files self.old) (λ fs. CanCut name.now size fs) }
-        ensures files { WhereTold (⟦<MemDesk as Desk>⟧.files self.old) (⟦<MemDesk as Desk>⟧.files self.new) (CutDoes name.now size result) }
-        ensures err { OnErr result (⟦<MemDesk as Desk>⟧.files self.new ≡ ⟦<MemDesk as Desk>⟧.files self.old) }
-        ensures causes { HasCauses (⟦<MemDesk as Desk>⟧.counts self.old) (⟦<MemDesk as Desk>⟧.counts self.new) result }
-        ensures apart { LeavesOther (⟦<MemDesk as Desk>⟧.counts self.old) (⟦<MemDesk as Desk>⟧.counts self.new) result }
-        ensures log { ⟦<MemDesk as Desk>⟧.log self.new ≡ logged (⟦<MemDesk as Desk>⟧.log self.old) (Cut name.now size result) }
+        requires { IfSome (⟦<MemDesk as Desk>⟧.told self.old).files (λ fs. CanCut name.now size fs) }
+        ensures files { WhereTold (⟦<MemDesk as Desk>⟧.told self.old).files (⟦<MemDesk as Desk>⟧.told self.new).files (CutDoes name.now size result) }
+        ensures err { OnErr result ((⟦<MemDesk as Desk>⟧.told self.new).files ≡ (⟦<MemDesk as Desk>⟧.told self.old).files) }
+        ensures causes { HasCauses (⟦<MemDesk as Desk>⟧.told self.old).counts (⟦<MemDesk as Desk>⟧.told self.new).counts result }
+        ensures apart { LeavesOther (⟦<MemDesk as Desk>⟧.told self.old).counts (⟦<MemDesk as Desk>⟧.told self.new).counts result }
+        ensures log { (⟦<MemDesk as Desk>⟧.told self.new).log ≡ logged (⟦<MemDesk as Desk>⟧.told self.old).log (Cut name.now size result) }
         ensures counted { IsCounted (desk_fails self.old) (desk_fails self.new) result }
     {
         self.state.cut(name, size)
     }
 
     fn rename(&mut self, from: &str, to: &str) -> Result<(), DeskError>
-        ensures files { WhereTold (⟦<MemDesk as Desk>⟧.files self.old) (⟦<MemDesk as Desk>⟧.files self.new) (RenameDoes from.now to.now result) }
-        ensures err { OnErr result (⟦<MemDesk as Desk>⟧.files self.new ≡ ⟦<MemDesk as Desk>⟧.files self.old) }
-        ensures causes { HasCauses (⟦<MemDesk as Desk>⟧.counts self.old) (⟦<MemDesk as Desk>⟧.counts self.new) result }
-        ensures apart { LeavesOther (⟦<MemDesk as Desk>⟧.counts self.old) (⟦<MemDesk as Desk>⟧.counts self.new) result }
-        ensures log { ⟦<MemDesk as Desk>⟧.log self.new ≡ logged (⟦<MemDesk as Desk>⟧.log self.old) (Rename from.now to.now result) }
+        ensures files { WhereTold (⟦<MemDesk as Desk>⟧.told self.old).files (⟦<MemDesk as Desk>⟧.told self.new).files (RenameDoes from.now to.now result) }
+        ensures err { OnErr result ((⟦<MemDesk as Desk>⟧.told self.new).files ≡ (⟦<MemDesk as Desk>⟧.told self.old).files) }
+        ensures causes { HasCauses (⟦<MemDesk as Desk>⟧.told self.old).counts (⟦<MemDesk as Desk>⟧.told self.new).counts result }
+        ensures apart { LeavesOther (⟦<MemDesk as Desk>⟧.told self.old).counts (⟦<MemDesk as Desk>⟧.told self.new).counts result }
+        ensures log { (⟦<MemDesk as Desk>⟧.told self.new).log ≡ logged (⟦<MemDesk as Desk>⟧.told self.old).log (Rename from.now to.now result) }
         ensures counted { IsCounted (desk_fails self.old) (desk_fails self.new) result }
     {
         self.state.rename(from, to)
     }
 
     fn remove(&mut self, name: &str) -> Result<(), DeskError>
-        ensures files { WhereTold (⟦<MemDesk as Desk>⟧.files self.old) (⟦<MemDesk as Desk>⟧.files self.new) (RemoveDoes name.now result) }
-        ensures err { OnErr result (⟦<MemDesk as Desk>⟧.files self.new ≡ ⟦<MemDesk as Desk>⟧.files self.old) }
-        ensures causes { HasCauses (⟦<MemDesk as Desk>⟧.counts self.old) (⟦<MemDesk as Desk>⟧.counts self.new) result }
-        ensures apart { LeavesOther (⟦<MemDesk as Desk>⟧.counts self.old) (⟦<MemDesk as Desk>⟧.counts self.new) result }
-        ensures log { ⟦<MemDesk as Desk>⟧.log self.new ≡ logged (⟦<MemDesk as Desk>⟧.log self.old) (Remove name.now result) }
+        ensures files { WhereTold (⟦<MemDesk as Desk>⟧.told self.old).files (⟦<MemDesk as Desk>⟧.told self.new).files (RemoveDoes name.now result) }
+        ensures err { OnErr result ((⟦<MemDesk as Desk>⟧.told self.new).files ≡ (⟦<MemDesk as Desk>⟧.told self.old).files) }
+        ensures causes { HasCauses (⟦<MemDesk as Desk>⟧.told self.old).counts (⟦<MemDesk as Desk>⟧.told self.new).counts result }
+        ensures apart { LeavesOther (⟦<MemDesk as Desk>⟧.told self.old).counts (⟦<MemDesk as Desk>⟧.told self.new).counts result }
+        ensures log { (⟦<MemDesk as Desk>⟧.told self.new).log ≡ logged (⟦<MemDesk as Desk>⟧.told self.old).log (Remove name.now result) }
         ensures counted { IsCounted (desk_fails self.old) (desk_fails self.new) result }
     {
         self.state.remove(name)
     }
 
     fn sync(&mut self, name: &str) -> Result<(), DeskError>
-        ensures files { ⟦<MemDesk as Desk>⟧.files self.new ≡ ⟦<MemDesk as Desk>⟧.files self.old }
-        ensures told { IfSome (⟦<MemDesk as Desk>⟧.files self.old) (λ fs. SyncIs name.now fs result) }
-        ensures causes { HasCauses (⟦<MemDesk as Desk>⟧.counts self.old) (⟦<MemDesk as Desk>⟧.counts self.new) result }
-        ensures apart { LeavesOther (⟦<MemDesk as Desk>⟧.counts self.old) (⟦<MemDesk as Desk>⟧.counts self.new) result }
-        ensures log { ⟦<MemDesk as Desk>⟧.log self.new ≡ ⟦<MemDesk as Desk>⟧.log self.old }
+        ensures files { (⟦<MemDesk as Desk>⟧.told self.new).files ≡ (⟦<MemDesk as Desk>⟧.told self.old).files }
+        ensures told { IfSome (⟦<MemDesk as Desk>⟧.told self.old).files (λ fs. SyncIs name.now fs result) }
+        ensures causes { HasCauses (⟦<MemDesk as Desk>⟧.told self.old).counts (⟦<MemDesk as Desk>⟧.told self.new).counts result }
+        ensures apart { LeavesOther (⟦<MemDesk as Desk>⟧.told self.old).counts (⟦<MemDesk as Desk>⟧.told self.new).counts result }
+        ensures log { (⟦<MemDesk as Desk>⟧.told self.new).log ≡ (⟦<MemDesk as Desk>⟧.told self.old).log }
         ensures counted { IsCounted (desk_fails self.old) (desk_fails self.new) result }
     {
         self.state.sync(name)

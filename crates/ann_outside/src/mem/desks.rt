@@ -53,9 +53,9 @@ impl Desks for MemDesks {
 
     fn desk(&mut self, number: u32) -> Result<MemDesk, NoMemory>
         ensures made { MatchResult result
-            (λ d. AddsOne (⟦<MemDesks as Desks>⟧.made self.old) (⟦<MemDesks as Desks>⟧.made self.new) (record { number = number; files = ⟦<MemDesk as Desk>⟧.files d }))
+            (λ d. AddsOne (⟦<MemDesks as Desks>⟧.made self.old) (⟦<MemDesks as Desks>⟧.made self.new) (record { number = number; files = (⟦<MemDesk as Desk>⟧.told d).files }))
             (λ _. Stays (⟦<MemDesks as Desks>⟧.made self.old) (⟦<MemDesks as Desks>⟧.made self.new)) }
-        ensures fresh { IfOk result (λ d. (⟦<MemDesk as Desk>⟧.counts d ≡ no_counts) × IsLogBlank (⟦<MemDesk as Desk>⟧.log d) × IsLogFrom (⟦<MemDesk as Desk>⟧.log d) (⟦<MemDesk as Desk>⟧.files d)) }
+        ensures fresh { IfOk result (λ d. ((⟦<MemDesk as Desk>⟧.told d).counts ≡ no_counts) × IsLogBlank (⟦<MemDesk as Desk>⟧.told d).log × IsLogFrom (⟦<MemDesk as Desk>⟧.told d).log (⟦<MemDesk as Desk>⟧.told d).files) }
         ensures begun { IfOk result (λ d. IsBegun d (files_next (desks_left self.old)) (fails_next_desk (desks_left self.old))) }
         ensures later { MatchResult result (λ _. desks_left self.new ≡ drop 1 (desks_left self.old)) (λ _. desks_left self.new ≡ desks_left self.old) }
     {

@@ -4,7 +4,6 @@ ghost use Rattle.ann_key.specs.KeyRefs.{text_of};
 ghost use Rattle.annex_model.specs.Messages.{is_sent_key};
 ghost use Rattle.child_start.specs.Cores.{IsSameCore};
 ghost use Rattle.special_cli.specs.Informs.{IsAsked, IsComplete};
-ghost use Rattle.child_end.specs.Programs.{programs_value};
 ghost use Rattle.child_end.specs.Programs.{Leaves};
 ghost use Rattle.special_cli.specs.Interviews.{Interviewed};
 ghost use Rattle.special_cli.specs.Meetings.{Met};
@@ -32,7 +31,7 @@ where
     P::Outlet: Drop,
     requires empty { core.old.journal ≡ [] }
     requires key { IfSome key (λ k. is_sent_key (text_of k) ≡ true) }
-    ensures met { Met (Interviewed (option_map text_of key.entry) core.new.journal) core.new.journal (programs_value (P.starts programs.old) (P.faults programs.old)) (programs_value (P.starts programs.new) (P.faults programs.new)) program.now result }
+    ensures met { Met (Interviewed (option_map text_of key.entry) core.new.journal) core.new.journal (P.told programs.old) (P.told programs.new) program.now result }
     ensures core { IsSameCore core.old core.new }
 {
     match greet(alloc, programs, program, core, 0, false, Mode::Serve) {
@@ -86,8 +85,8 @@ where
     requires room { (wires.old.items ≡ []) × (0 < vec_capacity wires.old) }
     ensures asked { IsAsked (option_map text_of key.entry) core.new.journal }
     ensures complete { IfOk result (λ _. IsComplete (option_map text_of key.entry) core.new.journal) }
-    ensures leaves { Leaves (IsErr result) program.now core.new.journal (programs_value (P.starts programs.old) (P.faults programs.old))
-        (programs_value (P.starts programs.new) (P.faults programs.new)) wires.new.items }
+    ensures leaves { Leaves (IsErr result) program.now core.new.journal (P.told programs.old)
+        (P.told programs.new) wires.new.items }
     ensures core { IsSameCore core.old core.new }
 {
     match hold_interview(alloc, program, key, programs, core) {

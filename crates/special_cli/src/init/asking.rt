@@ -2,7 +2,6 @@
 ghost use Rattle.std.specs.Prelude.{◌≡◌, ◌<◌, [], Some, IfOk, IsErr, vec_capacity};
 ghost use Rattle.child_start.specs.Cores.{IsSameCore};
 ghost use Rattle.init_run.specs.Setups.{outcome_of};
-ghost use Rattle.child_end.specs.Programs.{programs_value};
 ghost use Rattle.child_end.specs.Programs.{Leaves};
 ghost use Rattle.special_cli.specs.Setups.{IsSetup, IsTalked};
 ghost use Rattle.special_cli.specs.Meetings.{Met};
@@ -29,7 +28,7 @@ where
     P::Inlet: Drop,
     P::Outlet: Drop,
     requires empty { core.old.journal ≡ [] }
-    ensures met { Met (IsTalked core.new.journal) core.new.journal (programs_value (P.starts programs.old) (P.faults programs.old)) (programs_value (P.starts programs.new) (P.faults programs.new)) program.now result }
+    ensures met { Met (IsTalked core.new.journal) core.new.journal (P.told programs.old) (P.told programs.new) program.now result }
     ensures core { IsSameCore core.old core.new }
 {
     match greet(alloc, programs, program, core, 0, false, Mode::Init) {
@@ -81,8 +80,8 @@ where
     requires room { (wires.old.items ≡ []) × (0 < vec_capacity wires.old) }
     ensures asked { IsSetup core.new.journal }
     ensures outcome { IfOk result (λ setup. outcome_of core.new.journal ≡ Some setup) }
-    ensures leaves { Leaves (IsErr result) program.now core.new.journal (programs_value (P.starts programs.old) (P.faults programs.old))
-        (programs_value (P.starts programs.new) (P.faults programs.new)) wires.new.items }
+    ensures leaves { Leaves (IsErr result) program.now core.new.journal (P.told programs.old)
+        (P.told programs.new) wires.new.items }
     ensures core { IsSameCore core.old core.new }
 {
     match hold_talk(alloc, program, programs, core) {

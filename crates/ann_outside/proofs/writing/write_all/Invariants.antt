@@ -6,11 +6,11 @@ use Rattle.ann_outside.proofs.writing.write_all.Given as goal
 abbrev pub invariant-loop-at : goal.invariant-loop-at
 invariant-loop-at g l = record {
   within : l.at ≤ length l.bytes;
-  taken : Appends (g.S.Sink.taken l.initial.sink) (g.S.Sink.taken l.sink) (take l.at l.bytes);
-  silent : StaysUntold (g.S.Sink.taken l.initial.sink) (g.S.Sink.taken l.sink);
-  faults : g.S.Sink.faults l.sink ≡ g.S.Sink.faults l.initial.sink;
-  opened : g.S.Sink.is_open l.sink ≡ true;
-  number : g.S.Sink.number l.sink ≡ g.S.Sink.number l.initial.sink;
+  taken : Appends (g.S.Sink.told l.initial.sink).taken (g.S.Sink.told l.sink).taken (take l.at l.bytes);
+  silent : StaysUntold (g.S.Sink.told l.initial.sink).taken (g.S.Sink.told l.sink).taken;
+  faults : (g.S.Sink.told l.sink).faults ≡ (g.S.Sink.told l.initial.sink).faults;
+  opened : (g.S.Sink.told l.sink).is_open ≡ true;
+  number : (g.S.Sink.told l.sink).number ≡ (g.S.Sink.told l.initial.sink).number;
 }
 
 abbrev pub decreases-loop-at : goal.decreases-loop-at

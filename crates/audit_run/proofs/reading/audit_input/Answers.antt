@@ -13,7 +13,7 @@ returns-in_err-opening-clause-input g c =
       taken.0,
       taken.1,
       rw (p.1, p.2)
-          (fault_read limits taken.0 (g.S.Source.left c.args.source.now) (g.S.Source.left c.take_all.new.source) c.in_ok-intake.intake taken.2.0 taken.2.1 c.in_err-opening.field-0.0 (λ more m. c.in_err-opening.ensures limits taken.0 more taken.2.0 m)),
+          (fault_read limits taken.0 (g.S.Source.told c.args.source.now).left (g.S.Source.told c.take_all.new.source).left c.in_ok-intake.intake taken.2.0 taken.2.1 c.in_err-opening.field-0.0 (λ more m. c.in_err-opening.ensures limits taken.0 more taken.2.0 m)),
     )
 
 pub returns-in_err-opening-clause-told : goal.returns-in_err-opening-clause-told
@@ -22,7 +22,7 @@ returns-in_err-opening-clause-told g c =
     let limits = c.args.limits.now in
     let p = err_from_is_err_and c.from_residual-in_err-opening.result c.from_residual-in_err-opening.ensures.1 in
     rw (p.1, p.2)
-    (fault_told limits taken.0 (g.S.Source.left c.args.source.now) (g.S.Source.left c.take_all.new.source) c.in_ok-intake.intake taken.2.0 taken.2.1 c.in_err-opening.field-0.0 taken.1.left_on
+    (fault_told limits taken.0 (g.S.Source.told c.args.source.now).left (g.S.Source.told c.take_all.new.source).left c.in_ok-intake.intake taken.2.0 taken.2.1 c.in_err-opening.field-0.0 taken.1.left_on
     (λ more m. c.in_err-opening.ensures limits taken.0 more taken.2.0 m))
 
 pub returns-in_err-opening-clause-faults : goal.returns-in_err-opening-clause-faults
@@ -30,7 +30,7 @@ returns-in_err-opening-clause-faults g c =
     let taken = c.in_ok-intake.ensures.given in
     let limits = c.args.limits.now in
     let p = err_from_is_err_and c.from_residual-in_err-opening.result c.from_residual-in_err-opening.ensures.1 in
-    rw (p.1, p.2) (counted_end Audit (g.S.Source.faults c.args.source.now) (g.S.Source.faults c.take_all.new.source) limits (taken.0 ++ []) c.in_err-opening.field-0.0 (c.in_err-opening.ensures limits taken.0 [] taken.2.0 (λ _. refl)) c.in_ok-intake.ensures.faults)
+    rw (p.1, p.2) (counted_end Audit (g.S.Source.told c.args.source.now).faults (g.S.Source.told c.take_all.new.source).faults limits (taken.0 ++ []) c.in_err-opening.field-0.0 (c.in_err-opening.ensures limits taken.0 [] taken.2.0 (λ _. refl)) c.in_ok-intake.ensures.faults)
 
 pub audit_all-requires : goal.audit_all-requires
 audit_all-requires g c =
@@ -45,7 +45,7 @@ returns-clause-input g c =
     let comes = c.in_ok-opening.ensures in (
       taken.0,
       taken.1,
-      found_read limits taken.0 (g.S.Source.left c.args.source.now) (g.S.Source.left c.take_all.new.source) c.in_ok-intake.intake taken.2.0 taken.2.1 c.in_ok-opening.opening c.in_ok-opening.journal c.in_ok-found.found (λ more m. comes limits taken.0 more taken.2.0 m)
+      found_read limits taken.0 (g.S.Source.told c.args.source.now).left (g.S.Source.told c.take_all.new.source).left c.in_ok-intake.intake taken.2.0 taken.2.1 c.in_ok-opening.opening c.in_ok-opening.journal c.in_ok-found.found (λ more m. comes limits taken.0 more taken.2.0 m)
           c.in_ok-found.ensures.audit,
     )
 
@@ -54,5 +54,5 @@ returns-clause-told g c =
     let taken = c.in_ok-intake.ensures.given in
     let limits = c.args.limits.now in
     let comes = c.in_ok-opening.ensures in
-    found_told limits taken.0 (g.S.Source.left c.args.source.now) (g.S.Source.left c.take_all.new.source) c.in_ok-intake.intake taken.2.0 taken.2.1 c.in_ok-opening.opening c.in_ok-opening.journal c.in_ok-found.found
+    found_told limits taken.0 (g.S.Source.told c.args.source.now).left (g.S.Source.told c.take_all.new.source).left c.in_ok-intake.intake taken.2.0 taken.2.1 c.in_ok-opening.opening c.in_ok-opening.journal c.in_ok-found.found
     (λ more m. comes limits taken.0 more taken.2.0 m) c.in_ok-found.ensures.audit taken.1.left_on

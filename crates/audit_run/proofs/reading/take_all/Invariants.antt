@@ -6,11 +6,11 @@ use Rattle.audit_run.proofs.reading.take_all.Given as goal
 
 abbrev pub invariant-loop-intake : goal.invariant-loop-intake
 invariant-loop-intake g l = record {
-  bytes : (bytes : List ℕ) × HasGiven (g.S.Source.given l.initial.source) (g.S.Source.given l.source) (g.S.Source.left l.initial.source) (g.S.Source.left l.source) bytes × Took l.limits bytes l.intake;
-  silent : StaysUntold (g.S.Source.given l.initial.source) (g.S.Source.given l.source) × StaysUntold (g.S.Source.left l.initial.source) (g.S.Source.left l.source);
-  faults : g.S.Source.faults l.source ≡ g.S.Source.faults l.initial.source;
-  opened : g.S.Source.is_open l.source ≡ true;
-  number : g.S.Source.number l.source ≡ g.S.Source.number l.initial.source;
+  bytes : (bytes : List ℕ) × HasGiven (g.S.Source.told l.initial.source).given (g.S.Source.told l.source).given (g.S.Source.told l.initial.source).left (g.S.Source.told l.source).left bytes × Took l.limits bytes l.intake;
+  silent : StaysUntold (g.S.Source.told l.initial.source).given (g.S.Source.told l.source).given × StaysUntold (g.S.Source.told l.initial.source).left (g.S.Source.told l.source).left;
+  faults : (g.S.Source.told l.source).faults ≡ (g.S.Source.told l.initial.source).faults;
+  opened : (g.S.Source.told l.source).is_open ≡ true;
+  number : (g.S.Source.told l.source).number ≡ (g.S.Source.told l.initial.source).number;
 }
 
 abbrev pub decreases-loop-intake : goal.decreases-loop-intake

@@ -10,7 +10,7 @@ use Rattle.child_start.proofs.starting.ask_both.Goals as goal
 
 pub returns-in-Gone-clause-prepares : goal.returns-in-Gone-clause-prepares
 returns-in-Gone-clause-prepares g c =
-    unprepared_first (g.D.Door.seen c.args.door.now) (g.D.Door.seen c.ask_one.new.door) c.args.link.now.ear.child c.requires.asks.jobs (g.D.Door.opening c.ask_one.new.door) (c.ask_one.ensures.door.legal c.requires.legal)
+    unprepared_first (g.D.Door.view c.args.door.now).seen (g.D.Door.view c.ask_one.new.door).seen c.args.link.now.ear.child c.requires.asks.jobs (g.D.Door.view c.ask_one.new.door).opening (c.ask_one.ensures.door.legal c.requires.legal)
     c.in-Gone.ensures.asks
 
 pub ask_one-requires-2-clause-main : goal.ask_one-requires-2-clause-main
@@ -18,29 +18,29 @@ ask_one-requires-2-clause-main g c = main_on c.ask_one.ensures.door.number c.ask
 
 pub ask_one-requires-2-clause-may : goal.ask_one-requires-2-clause-may
 ask_one-requires-2-clause-may g c = record {
-  started = greets_started (g.D.Door.seen c.args.door.now) (g.D.Door.seen c.ask_one.new.door) c.args.link.now.ear.child c.ask_one.new.link.ear.child c.ask_one.ensures.link.same_ear.0 (c.ask_one.ensures.on c.args.mode refl) c.requires.asks.started;
+  started = greets_started (g.D.Door.view c.args.door.now).seen (g.D.Door.view c.ask_one.new.door).seen c.args.link.now.ear.child c.ask_one.new.link.ear.child c.ask_one.ensures.link.same_ear.0 (c.ask_one.ensures.on c.args.mode refl) c.requires.asks.started;
   may =
-      rw c.last_request.ensures (may_prepare (g.D.Door.seen c.args.door.now) (g.D.Door.seen c.ask_one.new.door) c.args.link.now.ear.child c.requires.asks.jobs c.ask_one.result c.in_default.not-Gone c.ask_one.ensures.asks
-      c.args.mode (g.D.Door.number c.ask_one.new.door) c.ask_one.new.link.ear.child c.ask_one.ensures.link.same_ear.0
+      rw c.last_request.ensures (may_prepare (g.D.Door.view c.args.door.now).seen (g.D.Door.view c.ask_one.new.door).seen c.args.link.now.ear.child c.requires.asks.jobs c.ask_one.result c.in_default.not-Gone c.ask_one.ensures.asks
+      c.args.mode (g.D.Door.view c.ask_one.new.door).number c.ask_one.new.link.ear.child c.ask_one.ensures.link.same_ear.0
       (c.ask_one.ensures.door.number ∙ c.requires.main.first) c.requires.asks.started (c.ask_one.ensures.on c.args.mode refl));
   kind = kind_of _ c.args.mode c.last_request.ensures;
-  idle = ap (open_jobs (g.D.Door.seen c.ask_one.new.door)) c.ask_one.ensures.link.same_ear.0 ∙ (c.ask_one.ensures.on c.args.mode refl).idle;
+  idle = ap (open_jobs (g.D.Door.view c.ask_one.new.door).seen) c.ask_one.ensures.link.same_ear.0 ∙ (c.ask_one.ensures.on c.args.mode refl).idle;
 }
 
 pub returns-clause-on : goal.returns-clause-on
 returns-clause-on g c =
-    let seen = g.D.Door.seen c.args.door.now in
-    let mid = g.D.Door.seen c.ask_one.new.door in
-    let new = g.D.Door.seen c.ask_one-2.new.door in
+    let seen = (g.D.Door.view c.args.door.now).seen in
+    let mid = (g.D.Door.view c.ask_one.new.door).seen in
+    let new = (g.D.Door.view c.ask_one-2.new.door).seen in
     let first = c.ask_one.ensures.on c.args.mode refl in
     greets_both seen mid new c.args.link.now.ear.child first (greets_as mid new c.args.link.now.ear.child c.ask_one.new.link.ear.child c.ask_one.ensures.link.same_ear.0 (c.ask_one-2.ensures.on c.args.mode (asked_for _ c.args.mode c.last_request.ensures)))
     (unlost_more c.args.link.now.ear.child seen mid first.more first.is (unlost_first seen mid c.args.link.now.ear.child c.requires.asks.jobs c.ask_one.result c.in_default.not-Gone c.ask_one.ensures.asks) c.requires.asks.unlost)
 
 pub returns-clause-prepares : goal.returns-clause-prepares
 returns-clause-prepares g c =
-    let mid = g.D.Door.seen c.ask_one.new.door in
-    let new = g.D.Door.seen c.ask_one-2.new.door in
-    prepared_second (g.D.Door.seen c.args.door.now) mid c.args.link.now.ear.child c.requires.asks.jobs c.ask_one.result c.in_default.not-Gone c.ask_one.ensures.asks c.args.mode new c.ask_one-2.result c.requires.asks.unlost
+    let mid = (g.D.Door.view c.ask_one.new.door).seen in
+    let new = (g.D.Door.view c.ask_one-2.new.door).seen in
+    prepared_second (g.D.Door.view c.args.door.now).seen mid c.args.link.now.ear.child c.requires.asks.jobs c.ask_one.result c.in_default.not-Gone c.ask_one.ensures.asks c.args.mode new c.ask_one-2.result c.requires.asks.unlost
     (greets_as mid new c.args.link.now.ear.child c.ask_one.new.link.ear.child c.ask_one.ensures.link.same_ear.0 (c.ask_one-2.ensures.on c.args.mode (asked_for _ c.args.mode c.last_request.ensures)))
     (subst (λ (k : ℕ). AsksNext mid new k c.ask_one-2.result) c.ask_one.ensures.link.same_ear.0 c.ask_one-2.ensures.asks)
 

@@ -15,37 +15,37 @@ ask_alone-requires-clause-named g c = greeting_named c.args.request.now c.requir
 
 pub give_up_alone-requires-clause-started : goal.give_up_alone-requires-clause-started
 give_up_alone-requires-clause-started g c =
-    ap (is_started (g.D.Door.seen c.ask_alone.new.door)) c.ask_alone.ensures.link.same_ear.0 ∙ ap (λ (j : List Entry). is_started j c.args.link.now.ear.child) c.in-Err.ensures.none ∙ c.requires.may.started
+    ap (is_started (g.D.Door.view c.ask_alone.new.door).seen) c.ask_alone.ensures.link.same_ear.0 ∙ ap (λ (j : List Entry). is_started j c.args.link.now.ear.child) c.in-Err.ensures.none ∙ c.requires.may.started
 
 pub returns-in-Ok-clause-on : goal.returns-in-Ok-clause-on
 returns-in-Ok-clause-on g c = λ mode asked.
-    let seen = g.D.Door.seen c.args.door.now in
-    let by = g.D.Door.number c.args.door.now in
+    let seen = (g.D.Door.view c.args.door.now).seen in
+    let by = (g.D.Door.view c.args.door.now).number in
     let q = message_of c.args.request.now in
-    greets_asked (g.D.Door.opening c.args.door.now) seen (g.D.Door.seen c.ask_alone.new.door) by c.args.link.now.ear.child q c.in-Ok.verdict c.requires.main.first c.requires.may.idle
+    greets_asked (g.D.Door.view c.args.door.now).opening seen (g.D.Door.view c.ask_alone.new.door).seen by c.args.link.now.ear.child q c.in-Ok.verdict c.requires.main.first c.requires.may.idle
     (early_job seen by c.args.link.now.ear.child q mode asked c.requires.may.may)
-    (asked_plain (g.D.Door.opening c.args.door.now) seen (g.D.Door.seen c.ask_alone.new.door) by c.args.link.now.ear.child c.args.request.now c.in-Ok.verdict c.requires.may.kind c.in-Ok.ensures.asked)
+    (asked_plain (g.D.Door.view c.args.door.now).opening seen (g.D.Door.view c.ask_alone.new.door).seen by c.args.link.now.ear.child c.args.request.now c.in-Ok.verdict c.requires.may.kind c.in-Ok.ensures.asked)
 
 pub returns-in-Ok-clause-asks : goal.returns-in-Ok-clause-asks
 returns-in-Ok-clause-asks g c =
-    let seen = g.D.Door.seen c.args.door.now in
-    let new = g.D.Door.seen c.ask_alone.new.door in
+    let seen = (g.D.Door.view c.args.door.now).seen in
+    let new = (g.D.Door.view c.ask_alone.new.door).seen in
     subst (λ (a : RequestOutcome). AsksNext seen new c.args.link.now.ear.child a) (sym c.asked_as.ensures)
-    (asked_next (g.D.Door.opening c.args.door.now) (g.D.Door.opening c.ask_alone.new.door) seen new (g.D.Door.number c.args.door.now) c.args.link.now.ear.child (message_of c.args.request.now) c.in-Ok.verdict
+    (asked_next (g.D.Door.view c.args.door.now).opening (g.D.Door.view c.ask_alone.new.door).opening seen new (g.D.Door.view c.args.door.now).number c.args.link.now.ear.child (message_of c.args.request.now) c.in-Ok.verdict
     (c.ask_alone.ensures.door.legal c.requires.legal) c.requires.may.kind c.in-Ok.ensures.named
-    (asked_plain (g.D.Door.opening c.args.door.now) seen new (g.D.Door.number c.args.door.now) c.args.link.now.ear.child c.args.request.now c.in-Ok.verdict c.requires.may.kind c.in-Ok.ensures.asked))
+    (asked_plain (g.D.Door.view c.args.door.now).opening seen new (g.D.Door.view c.args.door.now).number c.args.link.now.ear.child c.args.request.now c.in-Ok.verdict c.requires.may.kind c.in-Ok.ensures.asked))
 
 pub returns-in-Err-clause-on : goal.returns-in-Err-clause-on
 returns-in-Err-clause-on g c = λ mode asked.
-    greets_goes (g.D.Door.seen c.args.door.now) (g.D.Door.seen c.give_up_alone.new.door) c.args.link.now.ear.child c.requires.main.first
+    greets_goes (g.D.Door.view c.args.door.now).seen (g.D.Door.view c.give_up_alone.new.door).seen c.args.link.now.ear.child c.requires.main.first
     (goes_as c.ask_alone.ensures.door.number c.ask_alone.ensures.link.same_ear.0 c.in-Err.ensures.none c.give_up_alone.ensures.goes) c.requires.may.idle
 
 pub returns-in-Err-clause-asks : goal.returns-in-Err-clause-asks
 returns-in-Err-clause-asks g c =
-    given_up_next (g.D.Door.opening c.args.door.now) (g.D.Door.opening c.give_up_alone.new.door) (g.D.Door.seen c.args.door.now) (g.D.Door.seen c.give_up_alone.new.door) (g.D.Door.number c.args.door.now) c.args.link.now.ear.child (message_of c.args.request.now)
+    given_up_next (g.D.Door.view c.args.door.now).opening (g.D.Door.view c.give_up_alone.new.door).opening (g.D.Door.view c.args.door.now).seen (g.D.Door.view c.give_up_alone.new.door).seen (g.D.Door.view c.args.door.now).number c.args.link.now.ear.child (message_of c.args.request.now)
     ((same_both c.ask_alone.ensures.door c.give_up_alone.ensures.door).legal c.requires.legal)
     (goes_as c.ask_alone.ensures.door.number c.ask_alone.ensures.link.same_ear.0 c.in-Err.ensures.none c.give_up_alone.ensures.goes)
-    (subst (λ (k : ℕ). is_ended (g.D.Door.seen c.give_up_alone.new.door) k ≡ true) c.ask_alone.ensures.link.same_ear.0 c.give_up_alone.ensures.over)
+    (subst (λ (k : ℕ). is_ended (g.D.Door.view c.give_up_alone.new.door).seen k ≡ true) c.ask_alone.ensures.link.same_ear.0 c.give_up_alone.ensures.over)
 
 pub returns-in-Err-clause-link : goal.returns-in-Err-clause-link
 returns-in-Err-clause-link g c = keeps_both c.ask_alone.ensures.link c.give_up_alone.ensures.link

@@ -35,7 +35,7 @@ returns-in-Some-clause-wired g c =
 
 pub returns-in-Some-clause-numbers : goal.returns-in-Some-clause-numbers
 returns-in-Some-clause-numbers g c =
-    let starts = g.P.Programs.starts c.start.new.self in
+    let starts = (g.P.Programs.told c.start.new.self).starts in
     has_link (λ (e : EarValue) (m : MouthValue). KeepsLink c.note_start.new.core.journal c.greet_child.new.core.journal c.new.result.ear e c.new.result.mouth m) (AreNumbered starts)
     c.greet_child.result
     (λ e m k. (

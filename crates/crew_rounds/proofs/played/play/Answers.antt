@@ -2,7 +2,6 @@ use Rattle.std.proofs.Common.{◌≡◌, ℕ, ◌∙◌, refl, sym, ap, subst, f
 use Rattle.std.specs.Prelude.{◌||◌}
 use Rattle.std.specs.List.{list_any}
 use Rattle.journal_model.specs.Halves.{EarValue, MouthValue}
-use Rattle.lone_work.specs.Works.{desk_tells}
 use Rattle.crew_round.specs.BackRole.{has_run}
 use Rattle.crew_rounds.specs.Roles.{CanHold, CanWork, EarRan, MouthRan, WorkerRan}
 use Rattle.crew_rounds.specs.Settled.{Settles}
@@ -44,9 +43,9 @@ gather-requires-clause-rooms g c =
     (omega (arith, same, k.rooms.0, c.cast-crew.result.0.workers.ok.0, c.run_crew-backs.result.0.workers.ok.0), omega (arith, same, k.rooms.1, c.cast-crew.result.0.workers.ok.0, c.run_crew-backs.result.0.workers.ok.0))
 
 pub gather-requires-clause-one_child : goal.gather-requires-clause-one_child
-gather-requires-clause-one_child g c = one_left (λ x. x.pass) (λ x. x.ear) (λ x. x.pass) (λ x. x.mouth) (λ x. x.pass) (λ x. x.desk) (λ k. desk_tells (g.K.Desk.log k) (g.K.Desk.counts k))
+gather-requires-clause-one_child g c = one_left (λ x. x.pass) (λ x. x.ear) (λ x. x.pass) (λ x. x.mouth) (λ x. x.pass) (λ x. x.desk) g.K.Desk.told
     (λ x y. EarRan x.hall.now x.pass y.pass x.ear y.ear) (λ x y. MouthRan x.hall.now x.pass y.pass x.mouth y.mouth)
-    (λ x y. WorkerRan x.hall.now x.setup.now x.pass y.pass false x.way.child (Unit {0}) (Unit {0}) (desk_tells (g.K.Desk.log x.desk) (g.K.Desk.counts x.desk)) (desk_tells (g.K.Desk.log y.desk) (g.K.Desk.counts y.desk)) × (y.way.child ≡ x.way.child) × (false ≡ false) × (y.way.child ≡ x.way.child))
+    (λ x y. WorkerRan x.hall.now x.setup.now x.pass y.pass false x.way.child (Unit {0}) (Unit {0}) (g.K.Desk.told x.desk) (g.K.Desk.told y.desk) × (y.way.child ≡ x.way.child) × (false ≡ false) × (y.way.child ≡ x.way.child))
     c.args.site.now.hall.now c.args.site.now.setup.now
     (λ w. (w.hall.now ≡ c.args.site.now.hall.now) × (w.tasks.now ≡ c.args.site.now.tasks.now) × (w.setup.now ≡ c.args.site.now.setup.now) × (w.way.child ≡ c.args.site.now.child))
     c.cast-crew.result.1.main c.cast-crew.result.0.ear c.cast-crew.result.0.mouth c.cast-crew.result.0.workers.items c.args.kit.passes.items c.args.kit.desks.items
@@ -65,9 +64,9 @@ gather-requires-clause-one_child g c = one_left (λ x. x.pass) (λ x. x.ear) (λ
     c.run_crew-backs.result.0.ear c.run_crew-backs.result.0.mouth c.run_crew-backs.result.0.workers.items c.run_crew-backs.ensures.ear c.run_crew-backs.ensures.mouth c.run_crew-backs.ensures.workers
 
 pub returns-clause-own : goal.returns-clause-own
-returns-clause-own g c = played_own (λ x. x.pass) (λ x. x.ear) (λ x. x.pass) (λ x. x.mouth) (λ x. x.pass) (λ x. x.desk) (λ k. desk_tells (g.K.Desk.log k) (g.K.Desk.counts k))
+returns-clause-own g c = played_own (λ x. x.pass) (λ x. x.ear) (λ x. x.pass) (λ x. x.mouth) (λ x. x.pass) (λ x. x.desk) g.K.Desk.told
     (λ x y. EarRan x.hall.now x.pass y.pass x.ear y.ear) (λ x y. MouthRan x.hall.now x.pass y.pass x.mouth y.mouth)
-    (λ x y. WorkerRan x.hall.now x.setup.now x.pass y.pass false x.way.child (Unit {0}) (Unit {0}) (desk_tells (g.K.Desk.log x.desk) (g.K.Desk.counts x.desk)) (desk_tells (g.K.Desk.log y.desk) (g.K.Desk.counts y.desk)) × (y.way.child ≡ x.way.child) × (false ≡ false) × (y.way.child ≡ x.way.child))
+    (λ x y. WorkerRan x.hall.now x.setup.now x.pass y.pass false x.way.child (Unit {0}) (Unit {0}) (g.K.Desk.told x.desk) (g.K.Desk.told y.desk) × (y.way.child ≡ x.way.child) × (false ≡ false) × (y.way.child ≡ x.way.child))
     c.args.site.now.hall.now c.args.site.now.setup.now
     (λ w. (w.hall.now ≡ c.args.site.now.hall.now) × (w.tasks.now ≡ c.args.site.now.tasks.now) × (w.setup.now ≡ c.args.site.now.setup.now) × (w.way.child ≡ c.args.site.now.child))
     c.cast-crew.result.1.main c.cast-crew.result.0.ear c.cast-crew.result.0.mouth c.cast-crew.result.0.workers.items c.args.kit.passes.items c.args.kit.desks.items
@@ -90,9 +89,9 @@ returns-clause-own g c = played_own (λ x. x.pass) (λ x. x.ear) (λ x. x.pass) 
     (c.requires.child ∙ sym (ap (λ (e : EarValue). e.child) c.cast-crew.ensures.link.0)) c.settle-outcome.ensures)
 
 pub returns-clause-left : goal.returns-clause-left
-returns-clause-left g c = played_left (λ x. x.pass) (λ x. x.ear) (λ x. x.pass) (λ x. x.mouth) (λ x. x.pass) (λ x. x.desk) (λ k. desk_tells (g.K.Desk.log k) (g.K.Desk.counts k))
+returns-clause-left g c = played_left (λ x. x.pass) (λ x. x.ear) (λ x. x.pass) (λ x. x.mouth) (λ x. x.pass) (λ x. x.desk) g.K.Desk.told
     (λ x y. EarRan x.hall.now x.pass y.pass x.ear y.ear) (λ x y. MouthRan x.hall.now x.pass y.pass x.mouth y.mouth)
-    (λ x y. WorkerRan x.hall.now x.setup.now x.pass y.pass false x.way.child (Unit {0}) (Unit {0}) (desk_tells (g.K.Desk.log x.desk) (g.K.Desk.counts x.desk)) (desk_tells (g.K.Desk.log y.desk) (g.K.Desk.counts y.desk)) × (y.way.child ≡ x.way.child) × (false ≡ false) × (y.way.child ≡ x.way.child))
+    (λ x y. WorkerRan x.hall.now x.setup.now x.pass y.pass false x.way.child (Unit {0}) (Unit {0}) (g.K.Desk.told x.desk) (g.K.Desk.told y.desk) × (y.way.child ≡ x.way.child) × (false ≡ false) × (y.way.child ≡ x.way.child))
     c.args.site.now.hall.now c.args.site.now.setup.now
     (λ w. (w.hall.now ≡ c.args.site.now.hall.now) × (w.tasks.now ≡ c.args.site.now.tasks.now) × (w.setup.now ≡ c.args.site.now.setup.now) × (w.way.child ≡ c.args.site.now.child))
     c.cast-crew.result.1.main c.cast-crew.result.0.ear c.cast-crew.result.0.mouth c.cast-crew.result.0.workers.items c.args.kit.passes.items c.args.kit.desks.items
@@ -115,9 +114,9 @@ returns-clause-left g c = played_left (λ x. x.pass) (λ x. x.ear) (λ x. x.pass
     (c.requires.child ∙ sym (ap (λ (e : EarValue). e.child) c.cast-crew.ensures.link.0)) c.settle-outcome.ensures)
 
 pub returns-clause-kept : goal.returns-clause-kept
-returns-clause-kept g c = played_kept (λ x. x.pass) (λ x. x.ear) (λ x. x.pass) (λ x. x.mouth) (λ x. x.pass) (λ x. x.desk) (λ k. desk_tells (g.K.Desk.log k) (g.K.Desk.counts k))
+returns-clause-kept g c = played_kept (λ x. x.pass) (λ x. x.ear) (λ x. x.pass) (λ x. x.mouth) (λ x. x.pass) (λ x. x.desk) g.K.Desk.told
     (λ x y. EarRan x.hall.now x.pass y.pass x.ear y.ear) (λ x y. MouthRan x.hall.now x.pass y.pass x.mouth y.mouth)
-    (λ x y. WorkerRan x.hall.now x.setup.now x.pass y.pass false x.way.child (Unit {0}) (Unit {0}) (desk_tells (g.K.Desk.log x.desk) (g.K.Desk.counts x.desk)) (desk_tells (g.K.Desk.log y.desk) (g.K.Desk.counts y.desk)) × (y.way.child ≡ x.way.child) × (false ≡ false) × (y.way.child ≡ x.way.child))
+    (λ x y. WorkerRan x.hall.now x.setup.now x.pass y.pass false x.way.child (Unit {0}) (Unit {0}) (g.K.Desk.told x.desk) (g.K.Desk.told y.desk) × (y.way.child ≡ x.way.child) × (false ≡ false) × (y.way.child ≡ x.way.child))
     c.args.site.now.hall.now c.args.site.now.setup.now
     (λ w. (w.hall.now ≡ c.args.site.now.hall.now) × (w.tasks.now ≡ c.args.site.now.tasks.now) × (w.setup.now ≡ c.args.site.now.setup.now) × (w.way.child ≡ c.args.site.now.child))
     c.cast-crew.result.1.main c.cast-crew.result.0.ear c.cast-crew.result.0.mouth c.cast-crew.result.0.workers.items c.args.kit.passes.items c.args.kit.desks.items
@@ -140,9 +139,9 @@ returns-clause-kept g c = played_kept (λ x. x.pass) (λ x. x.ear) (λ x. x.pass
     (c.requires.child ∙ sym (ap (λ (e : EarValue). e.child) c.cast-crew.ensures.link.0)) c.settle-outcome.ensures)
 
 pub returns-clause-same : goal.returns-clause-same
-returns-clause-same g c = played_same (λ x. x.pass) (λ x. x.ear) (λ x. x.pass) (λ x. x.mouth) (λ x. x.pass) (λ x. x.desk) (λ k. desk_tells (g.K.Desk.log k) (g.K.Desk.counts k))
+returns-clause-same g c = played_same (λ x. x.pass) (λ x. x.ear) (λ x. x.pass) (λ x. x.mouth) (λ x. x.pass) (λ x. x.desk) g.K.Desk.told
     (λ x y. EarRan x.hall.now x.pass y.pass x.ear y.ear) (λ x y. MouthRan x.hall.now x.pass y.pass x.mouth y.mouth)
-    (λ x y. WorkerRan x.hall.now x.setup.now x.pass y.pass false x.way.child (Unit {0}) (Unit {0}) (desk_tells (g.K.Desk.log x.desk) (g.K.Desk.counts x.desk)) (desk_tells (g.K.Desk.log y.desk) (g.K.Desk.counts y.desk)) × (y.way.child ≡ x.way.child) × (false ≡ false) × (y.way.child ≡ x.way.child))
+    (λ x y. WorkerRan x.hall.now x.setup.now x.pass y.pass false x.way.child (Unit {0}) (Unit {0}) (g.K.Desk.told x.desk) (g.K.Desk.told y.desk) × (y.way.child ≡ x.way.child) × (false ≡ false) × (y.way.child ≡ x.way.child))
     c.args.site.now.hall.now c.args.site.now.setup.now
     (λ w. (w.hall.now ≡ c.args.site.now.hall.now) × (w.tasks.now ≡ c.args.site.now.tasks.now) × (w.setup.now ≡ c.args.site.now.setup.now) × (w.way.child ≡ c.args.site.now.child))
     c.cast-crew.result.1.main c.cast-crew.result.0.ear c.cast-crew.result.0.mouth c.cast-crew.result.0.workers.items c.args.kit.passes.items c.args.kit.desks.items

@@ -9,13 +9,13 @@ use Rattle.crew_work.proofs.job_asker.ask_for.Goals as goal
 
 pub returns-in-Ok-clause-asked : goal.returns-in-Ok-clause-asked
 returns-in-Ok-clause-asked g c =
-    asked (g.D.Door.opening c.args.door.now) (g.D.Door.number c.args.door.now) c.args.task c.args.child (name_of c.args.request.now) (message_of c.args.request.now) c.in-Ok.verdict (never_untasked c.args.task) c.requires
-    (subst (λ (o : Opening). Legal o (g.D.Door.seen c.ask_job.new.door)) c.in-Ok.ensures.door.opening (c.in-Ok.ensures.door.legal c.requires.legal)) c.in-Ok.ensures.asked
+    asked (g.D.Door.view c.args.door.now).opening (g.D.Door.view c.args.door.now).number c.args.task c.args.child (name_of c.args.request.now) (message_of c.args.request.now) c.in-Ok.verdict (never_untasked c.args.task) c.requires
+    (subst (λ (o : Opening). Legal o (g.D.Door.view c.ask_job.new.door).seen) c.in-Ok.ensures.door.opening (c.in-Ok.ensures.door.legal c.requires.legal)) c.in-Ok.ensures.asked
 
 pub returns-in-Err-clause-asked : goal.returns-in-Err-clause-asked
 returns-in-Err-clause-asked g c =
-    passed (g.D.Door.opening c.args.door.now) (g.D.Door.number c.args.door.now) c.args.task c.requires
-    (subst (λ (o : Opening). Legal o (g.D.Door.seen c.ask_job.new.door)) c.in-Err.ensures.door.opening (c.in-Err.ensures.door.legal c.requires.legal)) c.in-Err.ensures.none
+    passed (g.D.Door.view c.args.door.now).opening (g.D.Door.view c.args.door.now).number c.args.task c.requires
+    (subst (λ (o : Opening). Legal o (g.D.Door.view c.ask_job.new.door).seen) c.in-Err.ensures.door.opening (c.in-Err.ensures.door.legal c.requires.legal)) c.in-Err.ensures.none
 
 pub returns-in-Ok-clause-grows : goal.returns-in-Ok-clause-grows
 returns-in-Ok-clause-grows g c = jobs_asked c.args.child c.args.task (name_of c.args.request.now) (message_of c.args.request.now) c.in-Ok.verdict c.in-Ok.ensures.asked

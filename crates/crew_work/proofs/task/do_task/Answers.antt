@@ -1,30 +1,29 @@
 use Rattle.std.proofs.Common.{◌-◌, ◌∙◌}
 use Rattle.link_roles.proofs.Roles.{same_both}
-use Rattle.lone_work.specs.Works.{desk_tells}
 use Rattle.lone_work.proofs.Turning.{is_task, task_is, task_there}
 use Rattle.crew_work.proofs.Working.{can_again, can_as, does, given_as, legal_as, stays_as}
 use Rattle.crew_work.proofs.task.do_task.Goals as goal
 
 pub task_at-task-requires : goal.task_at-task-requires
-task_at-task-requires g c = task_there (g.D.Door.opening c.args.door.now) c.args.tasks.now c.requires.begun.past c.args.turn.task c.requires.tasks.0 c.requires.begun.least
+task_at-task-requires g c = task_there (g.D.Door.view c.args.door.now).opening c.args.tasks.now c.requires.begun.past c.args.turn.task c.requires.tasks.0 c.requires.begun.least
 
 pub run-outcome-requires-clause-task : goal.run-outcome-requires-clause-task
 run-outcome-requires-clause-task g c = is_task c.args.tasks.now (c.args.turn.task - 1) c.task_at-task.result.now c.requires.tasks.1 c.task_at-task.ensures
 
 pub run-outcome-requires-clause-named : goal.run-outcome-requires-clause-named
 run-outcome-requires-clause-named g c =
-    let o = g.D.Door.opening c.args.door.now in
+    let o = (g.D.Door.view c.args.door.now).opening in
     task_is o c.args.tasks.now c.args.turn.task c.task_at-task.result.now c.requires.tasks.0 (task_there o c.args.tasks.now c.requires.begun.past c.args.turn.task c.requires.tasks.0 c.requires.begun.least).0 c.task_at-task.ensures
 
 pub returns-clause-does : goal.returns-clause-does
 returns-clause-does g c =
-    let o = g.D.Door.opening c.args.door.now in
+    let o = (g.D.Door.view c.args.door.now).opening in
     let d = c.run-outcome.ensures.door in
     let there = task_there o c.args.tasks.now c.requires.begun.past c.args.turn.task c.requires.tasks.0 c.requires.begun.least in
-    does o c.args.setup.now (g.W.Way.owns c.args.way.now) (g.D.Door.number c.args.door.now) (g.D.Door.alone c.args.door.now) (g.W.Way.serves c.args.way.now) c.args.turn c.task_at-task.result.now
-    (g.D.Door.seen c.args.door.now) (g.D.Door.seen c.run-outcome.new.door) (g.D.Door.seen c.give.new.door)
-    (desk_tells (g.K.Desk.log c.args.desk.now) (g.K.Desk.counts c.args.desk.now)) (desk_tells (g.K.Desk.log c.run-outcome.new.desk) (g.K.Desk.counts c.run-outcome.new.desk))
-    c.run-outcome.result c.answer_of.result (g.W.Way.wired c.args.way.now (g.D.Door.seen c.args.door.now)) (g.W.Way.wired c.run-outcome.new.self)
+    does o c.args.setup.now (g.W.Way.owns c.args.way.now) (g.D.Door.view c.args.door.now).number (g.D.Door.view c.args.door.now).alone (g.W.Way.serves c.args.way.now) c.args.turn c.task_at-task.result.now
+    (g.D.Door.view c.args.door.now).seen (g.D.Door.view c.run-outcome.new.door).seen (g.D.Door.view c.give.new.door).seen
+    (g.K.Desk.told c.args.desk.now) (g.K.Desk.told c.run-outcome.new.desk)
+    c.run-outcome.result c.answer_of.result (g.W.Way.wired c.args.way.now (g.D.Door.view c.args.door.now).seen) (g.W.Way.wired c.run-outcome.new.self)
     (stays_as (g.W.Way.wired c.run-outcome.new.self) (g.W.Way.serves c.args.way.now) (g.W.Way.serves c.run-outcome.new.self) c.run-outcome.ensures.child.0 (g.met.W.Way.apart c.run-outcome.new.self))
     c.requires.begun (task_is o c.args.tasks.now c.args.turn.task c.task_at-task.result.now c.requires.tasks.0 there.0 c.task_at-task.ensures) c.answer_of.ensures
     c.run-outcome.ensures.at c.run-outcome.ensures.moved c.run-outcome.ensures.ran c.run-outcome.ensures.causes
@@ -32,14 +31,14 @@ returns-clause-does g c =
 
 pub returns-clause-can : goal.returns-clause-can
 returns-clause-can g c =
-    let o = g.D.Door.opening c.args.door.now in
+    let o = (g.D.Door.view c.args.door.now).opening in
     let d = c.run-outcome.ensures.door in
     let eo = c.give.ensures.door.opening ∙ d.opening in
     can_as eo c.run-outcome.ensures.child.0
-    (can_again o c.args.setup.now (g.W.Way.owns c.args.way.now) (g.D.Door.number c.args.door.now) (g.D.Door.alone c.args.door.now) (g.W.Way.serves c.args.way.now) c.args.turn c.task_at-task.result.now
-    (g.D.Door.seen c.args.door.now) (g.D.Door.seen c.run-outcome.new.door) (g.D.Door.seen c.give.new.door)
-    (desk_tells (g.K.Desk.log c.args.desk.now) (g.K.Desk.counts c.args.desk.now)) (desk_tells (g.K.Desk.log c.run-outcome.new.desk) (g.K.Desk.counts c.run-outcome.new.desk))
-    c.run-outcome.result c.answer_of.result (g.W.Way.wired c.args.way.now (g.D.Door.seen c.args.door.now)) (g.W.Way.wired c.run-outcome.new.self)
+    (can_again o c.args.setup.now (g.W.Way.owns c.args.way.now) (g.D.Door.view c.args.door.now).number (g.D.Door.view c.args.door.now).alone (g.W.Way.serves c.args.way.now) c.args.turn c.task_at-task.result.now
+    (g.D.Door.view c.args.door.now).seen (g.D.Door.view c.run-outcome.new.door).seen (g.D.Door.view c.give.new.door).seen
+    (g.K.Desk.told c.args.desk.now) (g.K.Desk.told c.run-outcome.new.desk)
+    c.run-outcome.result c.answer_of.result (g.W.Way.wired c.args.way.now (g.D.Door.view c.args.door.now).seen) (g.W.Way.wired c.run-outcome.new.self)
     (stays_as (g.W.Way.wired c.run-outcome.new.self) (g.W.Way.serves c.args.way.now) (g.W.Way.serves c.run-outcome.new.self) c.run-outcome.ensures.child.0 (g.met.W.Way.apart c.run-outcome.new.self))
     c.requires.begun c.run-outcome.ensures.moved (given_as c.answer_of.result d.opening d.number d.alone c.give.ensures.given)
     (legal_as eo (c.give.ensures.door.legal (d.legal c.requires.begun.at.legal))))

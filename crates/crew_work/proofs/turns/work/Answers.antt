@@ -1,7 +1,6 @@
 use Rattle.std.proofs.Common.{◌∙◌, refl}
 use Rattle.link_roles.proofs.Replying.{waits_as}
 use Rattle.link_roles.proofs.Roles.{rested, same_both}
-use Rattle.lone_work.specs.Works.{desk_tells}
 use Rattle.crew_work.proofs.Working.{can_seen, passed_none, through_as, worked_seen, worked_still, worked_then}
 use Rattle.crew_work.proofs.turns.work.Goals as goal
 
@@ -10,9 +9,9 @@ loop-init g c = record {
   can = tt;
   finite = tt;
   worked =
-      worked_still (g.D.Door.opening c.args.door.now) c.args.setup.now (g.W.Way.owns c.args.way.now) (g.D.Door.number c.args.door.now) (g.D.Door.alone c.args.door.now) (g.W.Way.serves c.args.way.now)
-      (g.W.Way.wired c.args.way.now) (g.met.W.Way.apart c.args.way.now) (g.D.Door.seen c.args.door.now) (g.D.Door.seen c.args.door.now)
-      (desk_tells (g.K.Desk.log c.args.desk.now) (g.K.Desk.counts c.args.desk.now)) (passed_none (g.D.Door.number c.args.door.now) (g.D.Door.alone c.args.door.now) (g.D.Door.seen c.args.door.now));
+      worked_still (g.D.Door.view c.args.door.now).opening c.args.setup.now (g.W.Way.owns c.args.way.now) (g.D.Door.view c.args.door.now).number (g.D.Door.view c.args.door.now).alone (g.W.Way.serves c.args.way.now)
+      (g.W.Way.wired c.args.way.now) (g.met.W.Way.apart c.args.way.now) (g.D.Door.view c.args.door.now).seen (g.D.Door.view c.args.door.now).seen
+      (g.K.Desk.told c.args.desk.now) (passed_none (g.D.Door.view c.args.door.now).number (g.D.Door.view c.args.door.now).alone (g.D.Door.view c.args.door.now).seen);
   serves = c.requires.can;
   way = (refl, refl, g.met.W.Way.still c.args.way.now);
   door = record { opening = refl; number = refl; alone = refl; loans = refl; home = refl; legal = λ h. h };
@@ -25,10 +24,10 @@ loop-preserved-in-Again g c =
       can = tt;
       finite = tt;
       worked =
-          worked_then i.door.opening i.door.number i.door.alone i.way.0 i.way.1 c.args.setup.now (g.D.Door.seen c.args.door.now) (g.D.Door.seen c.loop.door) (g.D.Door.seen c.turn.new.door)
-          (g.W.Way.wired c.args.way.now (g.D.Door.seen c.args.door.now)) (g.W.Way.wired c.loop.way (g.D.Door.seen c.loop.door)) (g.W.Way.wired c.turn.new.way (g.D.Door.seen c.turn.new.door))
-          (desk_tells (g.K.Desk.log c.args.desk.now) (g.K.Desk.counts c.args.desk.now)) (desk_tells (g.K.Desk.log c.loop.desk) (g.K.Desk.counts c.loop.desk))
-          (desk_tells (g.K.Desk.log c.turn.new.desk) (g.K.Desk.counts c.turn.new.desk)) i.worked c.in-Again.ensures.worked;
+          worked_then i.door.opening i.door.number i.door.alone i.way.0 i.way.1 c.args.setup.now (g.D.Door.view c.args.door.now).seen (g.D.Door.view c.loop.door).seen (g.D.Door.view c.turn.new.door).seen
+          (g.W.Way.wired c.args.way.now (g.D.Door.view c.args.door.now).seen) (g.W.Way.wired c.loop.way (g.D.Door.view c.loop.door).seen) (g.W.Way.wired c.turn.new.way (g.D.Door.view c.turn.new.door).seen)
+          (g.K.Desk.told c.args.desk.now) (g.K.Desk.told c.loop.desk)
+          (g.K.Desk.told c.turn.new.desk) i.worked c.in-Again.ensures.worked;
       serves = c.in-Again.ensures.can;
       way = (c.in-Again.ensures.way.0 ∙ i.way.0, c.in-Again.ensures.way.1 ∙ i.way.1, g.met.W.Way.both c.args.way.now c.loop.way c.turn.new.way i.way.2 c.in-Again.ensures.way.2);
       door = same_both i.door c.in-Again.ensures.door;
@@ -45,28 +44,28 @@ loop-preserved g c =
       can = tt;
       finite = tt;
       worked =
-          worked_seen (g.D.Door.opening c.args.door.now) c.args.setup.now (g.W.Way.owns c.args.way.now) (g.D.Door.number c.args.door.now) (g.D.Door.alone c.args.door.now) (g.W.Way.serves c.args.way.now)
-          (g.D.Door.seen c.args.door.now) (g.D.Door.seen c.turn.new.door) (g.D.Door.seen c.rest.new.self) (g.W.Way.wired c.args.way.now (g.D.Door.seen c.args.door.now)) (g.W.Way.wired c.turn.new.way)
-          (desk_tells (g.K.Desk.log c.args.desk.now) (g.K.Desk.counts c.args.desk.now)) (desk_tells (g.K.Desk.log c.turn.new.desk) (g.K.Desk.counts c.turn.new.desk)) r.seen
-          (worked_then i.door.opening i.door.number i.door.alone i.way.0 i.way.1 c.args.setup.now (g.D.Door.seen c.args.door.now) (g.D.Door.seen c.loop.door) (g.D.Door.seen c.turn.new.door)
-          (g.W.Way.wired c.args.way.now (g.D.Door.seen c.args.door.now)) (g.W.Way.wired c.loop.way (g.D.Door.seen c.loop.door)) (g.W.Way.wired c.turn.new.way (g.D.Door.seen c.turn.new.door))
-          (desk_tells (g.K.Desk.log c.args.desk.now) (g.K.Desk.counts c.args.desk.now)) (desk_tells (g.K.Desk.log c.loop.desk) (g.K.Desk.counts c.loop.desk))
-          (desk_tells (g.K.Desk.log c.turn.new.desk) (g.K.Desk.counts c.turn.new.desk)) i.worked c.in-Rest.ensures.worked);
+          worked_seen (g.D.Door.view c.args.door.now).opening c.args.setup.now (g.W.Way.owns c.args.way.now) (g.D.Door.view c.args.door.now).number (g.D.Door.view c.args.door.now).alone (g.W.Way.serves c.args.way.now)
+          (g.D.Door.view c.args.door.now).seen (g.D.Door.view c.turn.new.door).seen (g.D.Door.view c.rest.new.self).seen (g.W.Way.wired c.args.way.now (g.D.Door.view c.args.door.now).seen) (g.W.Way.wired c.turn.new.way)
+          (g.K.Desk.told c.args.desk.now) (g.K.Desk.told c.turn.new.desk) r.seen
+          (worked_then i.door.opening i.door.number i.door.alone i.way.0 i.way.1 c.args.setup.now (g.D.Door.view c.args.door.now).seen (g.D.Door.view c.loop.door).seen (g.D.Door.view c.turn.new.door).seen
+          (g.W.Way.wired c.args.way.now (g.D.Door.view c.args.door.now).seen) (g.W.Way.wired c.loop.way (g.D.Door.view c.loop.door).seen) (g.W.Way.wired c.turn.new.way (g.D.Door.view c.turn.new.door).seen)
+          (g.K.Desk.told c.args.desk.now) (g.K.Desk.told c.loop.desk)
+          (g.K.Desk.told c.turn.new.desk) i.worked c.in-Rest.ensures.worked);
       serves = can_seen r.opening r.seen c.in-Rest.ensures.can;
       way = (c.in-Rest.ensures.way.0 ∙ i.way.0, c.in-Rest.ensures.way.1 ∙ i.way.1, g.met.W.Way.both c.args.way.now c.loop.way c.turn.new.way i.way.2 c.in-Rest.ensures.way.2);
-      door = rested r.opening r.number r.alone r.loans r.home r.seen (same_both i.door c.in-Rest.ensures.door);
+      door = rested r (same_both i.door c.in-Rest.ensures.door);
     }
 
 pub returns-in-Over-clause-worked : goal.returns-in-Over-clause-worked
 returns-in-Over-clause-worked g c =
     let i = c.loop.invariant in
-    worked_then i.door.opening i.door.number i.door.alone i.way.0 i.way.1 c.args.setup.now (g.D.Door.seen c.args.door.now) (g.D.Door.seen c.loop.door) (g.D.Door.seen c.turn.new.door)
-    (g.W.Way.wired c.args.way.now (g.D.Door.seen c.args.door.now)) (g.W.Way.wired c.loop.way (g.D.Door.seen c.loop.door)) (g.W.Way.wired c.turn.new.way (g.D.Door.seen c.turn.new.door))
-    (desk_tells (g.K.Desk.log c.args.desk.now) (g.K.Desk.counts c.args.desk.now)) (desk_tells (g.K.Desk.log c.loop.desk) (g.K.Desk.counts c.loop.desk))
-    (desk_tells (g.K.Desk.log c.turn.new.desk) (g.K.Desk.counts c.turn.new.desk)) i.worked c.in-Over.ensures.worked
+    worked_then i.door.opening i.door.number i.door.alone i.way.0 i.way.1 c.args.setup.now (g.D.Door.view c.args.door.now).seen (g.D.Door.view c.loop.door).seen (g.D.Door.view c.turn.new.door).seen
+    (g.W.Way.wired c.args.way.now (g.D.Door.view c.args.door.now).seen) (g.W.Way.wired c.loop.way (g.D.Door.view c.loop.door).seen) (g.W.Way.wired c.turn.new.way (g.D.Door.view c.turn.new.door).seen)
+    (g.K.Desk.told c.args.desk.now) (g.K.Desk.told c.loop.desk)
+    (g.K.Desk.told c.turn.new.desk) i.worked c.in-Over.ensures.worked
 
 pub returns-in-Over-clause-through : goal.returns-in-Over-clause-through
-returns-in-Over-clause-through g c = through_as (g.D.Door.seen c.turn.new.door) c.loop.invariant.door.opening c.loop.invariant.way.0 c.in-Over.ensures.on
+returns-in-Over-clause-through g c = through_as (g.D.Door.view c.turn.new.door).seen c.loop.invariant.door.opening c.loop.invariant.way.0 c.in-Over.ensures.on
 
 pub returns-in-Over-clause-way : goal.returns-in-Over-clause-way
 returns-in-Over-clause-way g c =

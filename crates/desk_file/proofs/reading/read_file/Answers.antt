@@ -7,7 +7,7 @@ use Rattle.desk_file.proofs.reading.read_file.Goals as goal
 pub loop-desk-init : goal.loop-desk-init
 loop-desk-init g c = record {
   reading = reading_nothing _ _ _ c.new-bytes.ensures.items;
-  told = all_told (g.D.Desk.files c.args.desk.now) (λ files. reading_nothing_of _ _ files c.new-bytes.ensures.items);
+  told = all_told (g.D.Desk.told c.args.desk.now).files (λ files. reading_nothing_of _ _ files c.new-bytes.ensures.items);
   files = refl;
   quiet = refl;
   buffer = c.in-Ok.ensures;
@@ -19,7 +19,7 @@ loop-desk-preserved g c =
     let h = c.in-Ok-true.ensures in
     record {
       reading = reading_more _ _ _ _ _ _ _ c.in-Ok-true.field-0-test i.reading h.step;
-      told = both_told (g.D.Desk.files c.args.desk.now)
+      told = both_told (g.D.Desk.told c.args.desk.now).files
           (λ files r s. reading_more_of c.args.name.now c.loop-desk.bytes.items c.read_step.new.bytes.items files c.in-Ok-true.field-0 c.in-Ok-true.field-0-test r s)
           i.told
           (told_as (λ files. IsStepOf c.args.name.now c.loop-desk.bytes.items c.read_step.new.bytes.items files (Ok c.in-Ok-true.field-0)) _ _ i.files h.told);
@@ -36,7 +36,7 @@ returns-in-Ok-false-clause-read g c =
 pub returns-in-Ok-false-clause-told : goal.returns-in-Ok-false-clause-told
 returns-in-Ok-false-clause-told g c =
     let same = step_same _ _ c.args.name.now c.loop-desk.bytes.items c.read_step.new.bytes.items c.in-Ok-false.field-0 c.in-Ok-false.field-0-test c.in-Ok-false.ensures.step in
-    both_told (g.D.Desk.files c.args.desk.now)
+    both_told (g.D.Desk.told c.args.desk.now).files
     (λ files r s. read_whole_of c.args.name.now c.loop-desk.bytes.items c.read_step.new.bytes.items c.from_vec.result c.args.limit files c.in-Ok-false.field-0 c.in-Ok-false.field-0-test same c.from_vec.ensures r s)
     c.loop-desk.invariant.told
     (told_as (λ files. IsStepOf c.args.name.now c.loop-desk.bytes.items c.read_step.new.bytes.items files (Ok c.in-Ok-false.field-0)) _ _ c.loop-desk.invariant.files c.in-Ok-false.ensures.told)
@@ -50,7 +50,7 @@ returns-in-Err-clause-read g c =
 
 pub returns-in-Err-clause-told : goal.returns-in-Err-clause-told
 returns-in-Err-clause-told g c =
-    rw c.refused.ensures (if_told (g.D.Desk.files c.args.desk.now)
+    rw c.refused.ensures (if_told (g.D.Desk.told c.args.desk.now).files
     (λ files s. read_refused_of c.args.name.now c.loop-desk.bytes.items c.read_step.new.bytes.items c.args.limit files c.in-Err.error s)
     (told_as (λ files. IsStepOf c.args.name.now c.loop-desk.bytes.items c.read_step.new.bytes.items files (Err c.in-Err.error)) _ _ c.loop-desk.invariant.files c.in-Err.ensures.told))
 
@@ -65,7 +65,7 @@ returns-clause-read g c =
 pub returns-clause-told : goal.returns-clause-told
 returns-clause-told g c =
     let high : c.args.limit < length c.loop-desk.bytes.items = omega (arith, c.len.ensures, c.loop-desk.bytes.ok.0) in
-    if_told (g.D.Desk.files c.args.desk.now) (λ files r. read_past_of c.args.name.now c.loop-desk.bytes.items c.args.limit files r high) c.loop-desk.invariant.told
+    if_told (g.D.Desk.told c.args.desk.now).files (λ files r. read_past_of c.args.name.now c.loop-desk.bytes.items c.args.limit files r high) c.loop-desk.invariant.told
 
 pub returns-clause-causes : goal.returns-clause-causes
 returns-clause-causes g c = causes_quiet _ _ _ refl c.loop-desk.invariant.quiet
@@ -74,7 +74,7 @@ pub returns-in_default-clause-read : goal.returns-in_default-clause-read
 returns-in_default-clause-read g c = read_nothing _ _ _ _
 
 pub returns-in_default-clause-told : goal.returns-in_default-clause-told
-returns-in_default-clause-told g c = all_told (g.D.Desk.files c.args.desk.now) (λ files. tt)
+returns-in_default-clause-told g c = all_told (g.D.Desk.told c.args.desk.now).files (λ files. tt)
 
 pub returns-in_default-clause-causes : goal.returns-in_default-clause-causes
 returns-in_default-clause-causes g c = causes_quiet _ _ _ refl refl

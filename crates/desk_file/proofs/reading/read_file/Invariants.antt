@@ -5,10 +5,10 @@ use Rattle.desk_file.proofs.reading.read_file.Given as goal
 
 abbrev pub invariant-loop-desk : goal.invariant-loop-desk
 invariant-loop-desk g l = record {
-  reading : IsReading (g.D.Desk.log l.fn.desk) (g.D.Desk.log l.desk) l.name l.bytes.items;
-  told : IfSome (g.D.Desk.files l.fn.desk) (λ files. IsReadingOf l.name l.bytes.items files);
-  files : g.D.Desk.files l.desk ≡ g.D.Desk.files l.fn.desk;
-  quiet : g.D.Desk.counts l.desk ≡ g.D.Desk.counts l.fn.desk;
+  reading : IsReading (g.D.Desk.told l.fn.desk).log (g.D.Desk.told l.desk).log l.name l.bytes.items;
+  told : IfSome (g.D.Desk.told l.fn.desk).files (λ files. IsReadingOf l.name l.bytes.items files);
+  files : (g.D.Desk.told l.desk).files ≡ (g.D.Desk.told l.fn.desk).files;
+  quiet : (g.D.Desk.told l.desk).counts ≡ (g.D.Desk.told l.fn.desk).counts;
   buffer : vec_len l.buffer ≡ 65536;
 }
 

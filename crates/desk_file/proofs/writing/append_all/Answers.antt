@@ -8,7 +8,7 @@ use Rattle.ann_outside.proofs.Across.{told_refl as where_same, where_then}
 pub loop-at-init : goal.loop-at-init
 loop-at-init g c = record {
   appending = appending_nothing _ _ _ refl;
-  files = where_same (HasGrown c.args.name.now []) (g.D.Desk.files c.args.desk.now) (λ files. grows_nothing c.args.name.now [] files refl);
+  files = where_same (HasGrown c.args.name.now []) (g.D.Desk.told c.args.desk.now).files (λ files. grows_nothing c.args.name.now [] files refl);
   quiet = refl;
   most = omega arith;
 }

@@ -5,9 +5,9 @@ use Rattle.desk_file.proofs.writing.append_all.Given as goal
 
 abbrev pub invariant-loop-at : goal.invariant-loop-at
 invariant-loop-at g l = record {
-  appending : IsAppending (g.D.Desk.log l.fn.desk) (g.D.Desk.log l.desk) l.name (take l.at l.text);
-  files : WhereTold (g.D.Desk.files l.fn.desk) (g.D.Desk.files l.desk) (HasGrown l.name (take l.at l.text));
-  quiet : g.D.Desk.counts l.desk ≡ g.D.Desk.counts l.fn.desk;
+  appending : IsAppending (g.D.Desk.told l.fn.desk).log (g.D.Desk.told l.desk).log l.name (take l.at l.text);
+  files : WhereTold (g.D.Desk.told l.fn.desk).files (g.D.Desk.told l.desk).files (HasGrown l.name (take l.at l.text));
+  quiet : (g.D.Desk.told l.desk).counts ≡ (g.D.Desk.told l.fn.desk).counts;
   most : l.at ≤ length l.text;
 }
 

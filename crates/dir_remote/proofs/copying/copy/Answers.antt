@@ -13,18 +13,18 @@ returns-in-Err-clause-causes g c =
 
 pub returns-in-Err-clause-others : goal.returns-in-Err-clause-others
 returns-in-Err-clause-others g c =
-    create_others c.args.to.now (Err c.in-Err.error) (g.D.Desk.files c.args.desk.now) (g.D.Desk.files c.make.new.desk) c.in-Err.ensures.files
+    create_others c.args.to.now (Err c.in-Err.error) (g.D.Desk.told c.args.desk.now).files (g.D.Desk.told c.make.new.desk).files c.in-Err.ensures.files
 
 pub returns-in-Err-clause-copied : goal.returns-in-Err-clause-copied
 returns-in-Err-clause-copied g c =
-    create_refused c.args.from.now c.args.to.now c.in-Err.error (g.D.Desk.files c.args.desk.now) (g.D.Desk.files c.make.new.desk) c.in-Err.ensures.files
+    create_refused c.args.from.now c.args.to.now c.in-Err.error (g.D.Desk.told c.args.desk.now).files (g.D.Desk.told c.make.new.desk).files c.in-Err.ensures.files
 
 pub returns-in-Err-clause-traced : goal.returns-in-Err-clause-traced
 returns-in-Err-clause-traced g c = copy_unmade_traced c.args.alone c.args.from.now c.args.to.now c.in-Err.error _ _ c.in-Err.ensures.log
 
 pub loop-buffer-init : goal.loop-buffer-init
 loop-buffer-init g c = record {
-  copying = copying_begins c.args.from.now c.args.to.now (g.D.Desk.files c.args.desk.now) (g.D.Desk.files c.make.new.desk) c.in_default-make.ensures.files;
+  copying = copying_begins c.args.from.now c.args.to.now (g.D.Desk.told c.args.desk.now).files (g.D.Desk.told c.make.new.desk).files c.in_default-make.ensures.files;
   tracing = copy_begins c.args.from.now c.args.to.now _ _ c.in_default-make.ensures.log;
   counts = c.in_default-make.ensures.causes.done;
   buffer = c.in-Ok.ensures.len;
@@ -33,28 +33,28 @@ loop-buffer-init g c = record {
 
 pub returns-in-Ok-eq0-clause-causes : goal.returns-in-Ok-eq0-clause-causes
 returns-in-Ok-eq0-clause-causes g c =
-    copy_ended c.args.alone (g.D.Desk.counts c.args.desk.now) (g.D.Desk.counts c.loop-buffer.desk) (g.D.Desk.counts c.copy_piece.new.desk) c.in-Ok-eq0.field-0 c.loop-buffer.invariant.counts c.in-Ok-eq0.ensures.causes
+    copy_ended c.args.alone (g.D.Desk.told c.args.desk.now).counts (g.D.Desk.told c.loop-buffer.desk).counts (g.D.Desk.told c.copy_piece.new.desk).counts c.in-Ok-eq0.field-0 c.loop-buffer.invariant.counts c.in-Ok-eq0.ensures.causes
 
 pub returns-in-Ok-eq0-clause-others : goal.returns-in-Ok-eq0-clause-others
 returns-in-Ok-eq0-clause-others g c =
-    copy_others c.args.from.now c.args.to.now c.loop-buffer.at (g.D.Desk.files c.args.desk.now) (g.D.Desk.files c.loop-buffer.desk) (g.D.Desk.files c.copy_piece.new.desk) c.loop-buffer.invariant.copying c.in-Ok-eq0.ensures.others
+    copy_others c.args.from.now c.args.to.now c.loop-buffer.at (g.D.Desk.told c.args.desk.now).files (g.D.Desk.told c.loop-buffer.desk).files (g.D.Desk.told c.copy_piece.new.desk).files c.loop-buffer.invariant.copying c.in-Ok-eq0.ensures.others
 
 pub returns-in-Ok-eq0-clause-copied : goal.returns-in-Ok-eq0-clause-copied
 returns-in-Ok-eq0-clause-copied g c =
-    let P : ℕ → Type 0 = λ n. WhereTold (g.D.Desk.files c.loop-buffer.desk) (g.D.Desk.files c.copy_piece.new.desk) (PieceDoes c.args.from.now c.args.to.now c.loop-buffer.at (Ok n)) in
-    copy_ends c.args.from.now c.args.to.now c.loop-buffer.at (g.D.Desk.files c.args.desk.now) (g.D.Desk.files c.loop-buffer.desk) (g.D.Desk.files c.copy_piece.new.desk) c.loop-buffer.invariant.copying
+    let P : ℕ → Type 0 = λ n. WhereTold (g.D.Desk.told c.loop-buffer.desk).files (g.D.Desk.told c.copy_piece.new.desk).files (PieceDoes c.args.from.now c.args.to.now c.loop-buffer.at (Ok n)) in
+    copy_ends c.args.from.now c.args.to.now c.loop-buffer.at (g.D.Desk.told c.args.desk.now).files (g.D.Desk.told c.loop-buffer.desk).files (g.D.Desk.told c.copy_piece.new.desk).files c.loop-buffer.invariant.copying
     (subst P c.in-Ok-eq0.field-0-test c.in-Ok-eq0.ensures.piece)
 
 pub returns-in-Ok-eq0-clause-traced : goal.returns-in-Ok-eq0-clause-traced
 returns-in-Ok-eq0-clause-traced g c =
-    let P : ℕ → Type 0 = λ n. Traced (PieceTraces c.args.from.now c.args.to.now c.loop-buffer.at (Ok n)) (g.D.Desk.log c.loop-buffer.desk) (g.D.Desk.log c.copy_piece.new.desk) in
+    let P : ℕ → Type 0 = λ n. Traced (PieceTraces c.args.from.now c.args.to.now c.loop-buffer.at (Ok n)) (g.D.Desk.told c.loop-buffer.desk).log (g.D.Desk.told c.copy_piece.new.desk).log in
     copy_ends_traced c.args.alone c.args.from.now c.args.to.now c.loop-buffer.at _ _ _ c.loop-buffer.invariant.tracing (subst P c.in-Ok-eq0.field-0-test c.in-Ok-eq0.ensures.traced)
 
 pub loop-buffer-preserved : goal.loop-buffer-preserved
 loop-buffer-preserved g c =
     let h = c.in-Ok-copy_piece.ensures in
     record {
-      copying = copying_goes_on c.args.from.now c.args.to.now c.loop-buffer.at c.in-Ok-copy_piece.count (g.D.Desk.files c.args.desk.now) (g.D.Desk.files c.loop-buffer.desk) (g.D.Desk.files c.copy_piece.new.desk) c.loop-buffer.invariant.copying h.piece h.others;
+      copying = copying_goes_on c.args.from.now c.args.to.now c.loop-buffer.at c.in-Ok-copy_piece.count (g.D.Desk.told c.args.desk.now).files (g.D.Desk.told c.loop-buffer.desk).files (g.D.Desk.told c.copy_piece.new.desk).files c.loop-buffer.invariant.copying h.piece h.others;
       tracing = copy_goes_on c.args.from.now c.args.to.now c.loop-buffer.at c.in-Ok-copy_piece.count _ _ _ c.in-Ok-copy_piece.count-test.1 c.loop-buffer.invariant.tracing h.traced;
       counts = h.causes.done ∙ c.loop-buffer.invariant.counts;
       buffer = c.loop-buffer.invariant.buffer;
@@ -65,20 +65,20 @@ pub returns-in-Err-copy_piece-clause-causes : goal.returns-in-Err-copy_piece-cla
 returns-in-Err-copy_piece-clause-causes g c =
     let h = c.in-Err-copy_piece.ensures in
     let k = c.give_up.ensures in
-    rw k.same (copy_broken c.args.alone (g.D.Desk.counts c.args.desk.now) (g.D.Desk.counts c.loop-buffer.desk) (g.D.Desk.counts c.copy_piece.new.desk) (g.D.Desk.counts c.give_up.new.desk) c.in-Err-copy_piece.error
+    rw k.same (copy_broken c.args.alone (g.D.Desk.told c.args.desk.now).counts (g.D.Desk.told c.loop-buffer.desk).counts (g.D.Desk.told c.copy_piece.new.desk).counts (g.D.Desk.told c.give_up.new.desk).counts c.in-Err-copy_piece.error
     c.loop-buffer.invariant.counts h.causes h.apart k.later k.missing k.calm)
 
 pub returns-in-Err-copy_piece-clause-others : goal.returns-in-Err-copy_piece-clause-others
 returns-in-Err-copy_piece-clause-others g c =
-    others_cleared c.args.to.now (g.D.Desk.files c.args.desk.now) (g.D.Desk.files c.copy_piece.new.desk) (g.D.Desk.files c.give_up.new.desk)
-    (copy_others c.args.from.now c.args.to.now c.loop-buffer.at (g.D.Desk.files c.args.desk.now) (g.D.Desk.files c.loop-buffer.desk) (g.D.Desk.files c.copy_piece.new.desk) c.loop-buffer.invariant.copying c.in-Err-copy_piece.ensures.others)
+    others_cleared c.args.to.now (g.D.Desk.told c.args.desk.now).files (g.D.Desk.told c.copy_piece.new.desk).files (g.D.Desk.told c.give_up.new.desk).files
+    (copy_others c.args.from.now c.args.to.now c.loop-buffer.at (g.D.Desk.told c.args.desk.now).files (g.D.Desk.told c.loop-buffer.desk).files (g.D.Desk.told c.copy_piece.new.desk).files c.loop-buffer.invariant.copying c.in-Err-copy_piece.ensures.others)
     c.give_up.ensures.others
 
 pub returns-in-Err-copy_piece-clause-copied : goal.returns-in-Err-copy_piece-clause-copied
 returns-in-Err-copy_piece-clause-copied g c =
     rw c.give_up.ensures.same
-    (refused_cleared c.args.from.now c.args.to.now c.in-Err-copy_piece.error (g.D.Desk.files c.args.desk.now) (g.D.Desk.files c.copy_piece.new.desk) (g.D.Desk.files c.give_up.new.desk)
-    (copy_refused c.args.from.now c.args.to.now c.loop-buffer.at c.in-Err-copy_piece.error (g.D.Desk.files c.args.desk.now) (g.D.Desk.files c.loop-buffer.desk) (g.D.Desk.files c.copy_piece.new.desk) c.loop-buffer.invariant.copying c.in-Err-copy_piece.ensures.piece)
+    (refused_cleared c.args.from.now c.args.to.now c.in-Err-copy_piece.error (g.D.Desk.told c.args.desk.now).files (g.D.Desk.told c.copy_piece.new.desk).files (g.D.Desk.told c.give_up.new.desk).files
+    (copy_refused c.args.from.now c.args.to.now c.loop-buffer.at c.in-Err-copy_piece.error (g.D.Desk.told c.args.desk.now).files (g.D.Desk.told c.loop-buffer.desk).files (g.D.Desk.told c.copy_piece.new.desk).files c.loop-buffer.invariant.copying c.in-Err-copy_piece.ensures.piece)
     c.give_up.ensures.others)
 
 pub returns-in-Err-copy_piece-clause-traced : goal.returns-in-Err-copy_piece-clause-traced

@@ -8,9 +8,9 @@ use Rattle.dir_remote.proofs.copying.copy.Given as goal
 
 abbrev pub invariant-loop-buffer : goal.invariant-loop-buffer
 invariant-loop-buffer g l = record {
-  copying : WhereTold (g.D.Desk.files l.fn.desk) (g.D.Desk.files l.desk) (Copying l.from l.to l.at);
-  tracing : Traced (SoFar l.from l.to l.at) (g.D.Desk.log l.fn.desk) (g.D.Desk.log l.desk);
-  counts : g.D.Desk.counts l.desk ≡ g.D.Desk.counts l.fn.desk;
+  copying : WhereTold (g.D.Desk.told l.fn.desk).files (g.D.Desk.told l.desk).files (Copying l.from l.to l.at);
+  tracing : Traced (SoFar l.from l.to l.at) (g.D.Desk.told l.fn.desk).log (g.D.Desk.told l.desk).log;
+  counts : (g.D.Desk.told l.desk).counts ≡ (g.D.Desk.told l.fn.desk).counts;
   buffer : vec_len l.buffer ≡ 65536;
   fits : l.at < 2 ^ 64;
 }

@@ -13,7 +13,7 @@ use Rattle.dir_remote.proofs.works.remove.Goals as goal
 
 pub returns-in-Err-clause-works : goal.returns-in-Err-clause-works
 returns-in-Err-clause-works g c =
-    remove_idle c.args.directory.now (text_of c.args.key) (g.D.Desk.counts c.args.desk.now) (g.D.Desk.files c.args.desk.now) c.in-Err.outcome c.in-Err.ensures
+    remove_idle c.args.directory.now (text_of c.args.key) (g.D.Desk.told c.args.desk.now).counts (g.D.Desk.told c.args.desk.now).files c.in-Err.outcome c.in-Err.ensures
 
 pub returns-in-Ok-remove-clause-works : goal.returns-in-Ok-remove-clause-works
 returns-in-Ok-remove-clause-works g c =
@@ -22,30 +22,30 @@ returns-in-Ok-remove-clause-works g c =
       word = refl;
       prepared = λ e. cc;
       text = c.in-Ok.ensures.1;
-      causes = causes_done (g.D.Desk.counts c.args.desk.now) (g.D.Desk.counts c.remove.new.self) (Ok c.in-Ok-remove.field-0) c.in-Ok-remove.ensures.causes;
-      files_do = remove_done c.args.directory.now (text_of c.args.key) c.view-place.result.now (g.D.Desk.files c.args.desk.now) (g.D.Desk.files c.remove.new.self)
+      causes = causes_done (g.D.Desk.told c.args.desk.now).counts (g.D.Desk.told c.remove.new.self).counts (Ok c.in-Ok-remove.field-0) c.in-Ok-remove.ensures.causes;
+      files_do = remove_done c.args.directory.now (text_of c.args.key) c.view-place.result.now (g.D.Desk.told c.args.desk.now).files (g.D.Desk.told c.remove.new.self).files
           (subst P (sym c.view-place.ensures) c.in-Ok.ensures.0) c.in-Ok-remove.ensures.files;
     }
 
 pub returns-in-Err-Missing-clause-works : goal.returns-in-Err-Missing-clause-works
 returns-in-Err-Missing-clause-works g c =
     let P : List ℕ → Type 0 = λ l. IsContentName c.args.directory.now (text_of c.args.key) l in
-    let Q : DeskError → Type 0 = λ e. HasCauses {T = Unit {0}} (g.D.Desk.counts c.args.desk.now) (g.D.Desk.counts c.remove.new.self) (Err e) in
-    let R : DeskError → Type 0 = λ e. WhereTold (g.D.Desk.files c.args.desk.now) (g.D.Desk.files c.remove.new.self) (RemoveDoes c.view-place.result.now (Err e)) in
+    let Q : DeskError → Type 0 = λ e. HasCauses {T = Unit {0}} (g.D.Desk.told c.args.desk.now).counts (g.D.Desk.told c.remove.new.self).counts (Err e) in
+    let R : DeskError → Type 0 = λ e. WhereTold (g.D.Desk.told c.args.desk.now).files (g.D.Desk.told c.remove.new.self).files (RemoveDoes c.view-place.result.now (Err e)) in
     record {
       word = refl;
       prepared = λ e. cc;
       text = c.in-Ok.ensures.1;
-      causes = causes_gone {T = Unit {0}} (g.D.Desk.counts c.args.desk.now) (g.D.Desk.counts c.remove.new.self) (subst Q c.in-Err-Missing.field-0-is c.in-Err-Missing.ensures.causes);
-      files_do = remove_missing c.args.directory.now (text_of c.args.key) c.view-place.result.now (g.D.Desk.files c.args.desk.now) (g.D.Desk.files c.remove.new.self)
+      causes = causes_gone {T = Unit {0}} (g.D.Desk.told c.args.desk.now).counts (g.D.Desk.told c.remove.new.self).counts (subst Q c.in-Err-Missing.field-0-is c.in-Err-Missing.ensures.causes);
+      files_do = remove_missing c.args.directory.now (text_of c.args.key) c.view-place.result.now (g.D.Desk.told c.args.desk.now).files (g.D.Desk.told c.remove.new.self).files
           (subst P (sym c.view-place.ensures) c.in-Ok.ensures.0) (subst R c.in-Err-Missing.field-0-is c.in-Err-Missing.ensures.files);
     }
 
 pub returns-in-Err-clause-traced : goal.returns-in-Err-clause-traced
-returns-in-Err-clause-traced g c = traced_none (Each (IsRemoveCall c.args.directory.now (text_of c.args.key))) (g.D.Desk.log c.args.desk.now) tt
+returns-in-Err-clause-traced g c = traced_none (Each (IsRemoveCall c.args.directory.now (text_of c.args.key))) (g.D.Desk.told c.args.desk.now).log tt
 
 pub returns-in-Err-clause-calm : goal.returns-in-Err-clause-calm
-returns-in-Err-clause-calm g c = calm_same false (g.D.Desk.counts c.args.desk.now) (g.D.Desk.counts c.args.desk.now) c.in-Err.outcome refl
+returns-in-Err-clause-calm g c = calm_same false (g.D.Desk.told c.args.desk.now).counts (g.D.Desk.told c.args.desk.now).counts c.in-Err.outcome refl
 
 pub returns-in-Ok-remove-clause-traced : goal.returns-in-Ok-remove-clause-traced
 returns-in-Ok-remove-clause-traced g c =

@@ -13,22 +13,22 @@ use Rattle.dir_remote.proofs.works.store.Goals as goal
 
 pub returns-in-Err-clause-works : goal.returns-in-Err-clause-works
 returns-in-Err-clause-works g c =
-    store_idle c.args.directory.now (text_of c.args.key) c.args.file.now (g.D.Desk.counts c.args.desk.now) (g.D.Desk.files c.args.desk.now) c.in-Err.outcome c.in-Err.ensures
+    store_idle c.args.directory.now (text_of c.args.key) c.args.file.now (g.D.Desk.told c.args.desk.now).counts (g.D.Desk.told c.args.desk.now).files c.in-Err.outcome c.in-Err.ensures
 
 pub returns-in-Err-temporary_place-clause-works : goal.returns-in-Err-temporary_place-clause-works
 returns-in-Err-temporary_place-clause-works g c =
-    store_idle c.args.directory.now (text_of c.args.key) c.args.file.now (g.D.Desk.counts c.args.desk.now) (g.D.Desk.files c.args.desk.now) c.in-Err-temporary_place.outcome c.in-Err-temporary_place.ensures
+    store_idle c.args.directory.now (text_of c.args.key) c.args.file.now (g.D.Desk.told c.args.desk.now).counts (g.D.Desk.told c.args.desk.now).files c.in-Err-temporary_place.outcome c.in-Err-temporary_place.ensures
 
 pub returns-in-Err-copy-clause-works : goal.returns-in-Err-copy-clause-works
 returns-in-Err-copy-clause-works g c =
     let W : Outcome → Type 0 = λ o. Works is_of_transfer (StoreDoes c.args.directory.now (text_of c.args.key) c.args.file.now) (text_of c.args.key)
-    (g.D.Desk.counts c.args.desk.now) (g.D.Desk.counts c.copy.new.desk) (g.D.Desk.files c.args.desk.now) (g.D.Desk.files c.copy.new.desk) o in
+    (g.D.Desk.told c.args.desk.now).counts (g.D.Desk.told c.copy.new.desk).counts (g.D.Desk.told c.args.desk.now).files (g.D.Desk.told c.copy.new.desk).files o in
     subst W (sym c.refusal.ensures)
     (transfer_refused (StoreDoes c.args.directory.now (text_of c.args.key) c.args.file.now) (text_of c.args.key)
-    (g.D.Desk.counts c.args.desk.now) (g.D.Desk.counts c.copy.new.desk) (g.D.Desk.files c.args.desk.now) (g.D.Desk.files c.copy.new.desk) c.in-Err-copy.error
+    (g.D.Desk.told c.args.desk.now).counts (g.D.Desk.told c.copy.new.desk).counts (g.D.Desk.told c.args.desk.now).files (g.D.Desk.told c.copy.new.desk).files c.in-Err-copy.error
     c.in-Ok.ensures.1
-    (refused_copy c.is_some-alone.result (g.D.Desk.counts c.args.desk.now) (g.D.Desk.counts c.copy.new.desk) c.in-Err-copy.error c.in-Err-copy.ensures.causes)
-    (store_uncopied c.args.mark.now c.requires c.args.directory.now (text_of c.args.key) c.args.file.now c.view-beside.result.now c.in-Err-copy.error (g.D.Desk.files c.args.desk.now) (g.D.Desk.files c.copy.new.desk)
+    (refused_copy c.is_some-alone.result (g.D.Desk.told c.args.desk.now).counts (g.D.Desk.told c.copy.new.desk).counts c.in-Err-copy.error c.in-Err-copy.ensures.causes)
+    (store_uncopied c.args.mark.now c.requires c.args.directory.now (text_of c.args.key) c.args.file.now c.view-beside.result.now c.in-Err-copy.error (g.D.Desk.told c.args.desk.now).files (g.D.Desk.told c.copy.new.desk).files
     (c.view-beside.ensures ∙ c.in-Ok-temporary_place.ensures) c.in-Err-copy.ensures.others c.in-Err-copy.ensures.copied))
 
 pub returns-in-Ok-rename-clause-works : goal.returns-in-Ok-rename-clause-works
@@ -38,8 +38,8 @@ returns-in-Ok-rename-clause-works g c =
       word = refl;
       prepared = λ e. cc;
       text = c.in-Ok.ensures.1;
-      causes = causes_done_behind {T = Unit {0}} (g.D.Desk.counts c.args.desk.now) (g.D.Desk.counts c.copy.new.desk) (g.D.Desk.counts c.rename.new.self) tt c.in_default.ensures.causes.done c.in-Ok-rename.ensures.causes;
-      files_do = store_done c.args.mark.now c.requires c.args.directory.now (text_of c.args.key) c.args.file.now c.view-beside.result.now c.view-place.result.now (g.D.Desk.files c.args.desk.now) (g.D.Desk.files c.copy.new.desk) (g.D.Desk.files c.rename.new.self)
+      causes = causes_done_behind {T = Unit {0}} (g.D.Desk.told c.args.desk.now).counts (g.D.Desk.told c.copy.new.desk).counts (g.D.Desk.told c.rename.new.self).counts tt c.in_default.ensures.causes.done c.in-Ok-rename.ensures.causes;
+      files_do = store_done c.args.mark.now c.requires c.args.directory.now (text_of c.args.key) c.args.file.now c.view-beside.result.now c.view-place.result.now (g.D.Desk.told c.args.desk.now).files (g.D.Desk.told c.copy.new.desk).files (g.D.Desk.told c.rename.new.self).files
           (c.view-beside.ensures ∙ c.in-Ok-temporary_place.ensures) (subst P (sym c.view-place.ensures) c.in-Ok.ensures.0) c.in_default.ensures.others c.in_default.ensures.copied c.in-Ok-rename.ensures.files;
     }
 
@@ -47,26 +47,26 @@ pub returns-clause-works : goal.returns-clause-works
 returns-clause-works g c =
     let P : List ℕ → Type 0 = λ l. IsContentName c.args.directory.now (text_of c.args.key) l in
     let W : Outcome → Type 0 = λ o. Works is_of_transfer (StoreDoes c.args.directory.now (text_of c.args.key) c.args.file.now) (text_of c.args.key)
-    (g.D.Desk.counts c.args.desk.now) (g.D.Desk.counts c.give_up.new.desk) (g.D.Desk.files c.args.desk.now) (g.D.Desk.files c.give_up.new.desk) o in
+    (g.D.Desk.told c.args.desk.now).counts (g.D.Desk.told c.give_up.new.desk).counts (g.D.Desk.told c.args.desk.now).files (g.D.Desk.told c.give_up.new.desk).files o in
     subst W (sym c.refusal-in-Err-rename.ensures)
     (transfer_refused (StoreDoes c.args.directory.now (text_of c.args.key) c.args.file.now) (text_of c.args.key)
-    (g.D.Desk.counts c.args.desk.now) (g.D.Desk.counts c.give_up.new.desk) (g.D.Desk.files c.args.desk.now) (g.D.Desk.files c.give_up.new.desk) c.in-Err-rename.error
+    (g.D.Desk.told c.args.desk.now).counts (g.D.Desk.told c.give_up.new.desk).counts (g.D.Desk.told c.args.desk.now).files (g.D.Desk.told c.give_up.new.desk).files c.in-Err-rename.error
     c.in-Ok.ensures.1
-    (causes_cleared (g.D.Desk.counts c.args.desk.now) (g.D.Desk.counts c.rename.new.self) (g.D.Desk.counts c.give_up.new.desk) (refusal_of c.in-Err-rename.error)
-    (causes_behind {T = Unit {0}} (g.D.Desk.counts c.args.desk.now) (g.D.Desk.counts c.copy.new.desk) (g.D.Desk.counts c.rename.new.self) c.in-Err-rename.error c.in_default.ensures.causes.done c.in-Err-rename.ensures.causes)
+    (causes_cleared (g.D.Desk.told c.args.desk.now).counts (g.D.Desk.told c.rename.new.self).counts (g.D.Desk.told c.give_up.new.desk).counts (refusal_of c.in-Err-rename.error)
+    (causes_behind {T = Unit {0}} (g.D.Desk.told c.args.desk.now).counts (g.D.Desk.told c.copy.new.desk).counts (g.D.Desk.told c.rename.new.self).counts c.in-Err-rename.error c.in_default.ensures.causes.done c.in-Err-rename.ensures.causes)
     c.give_up.ensures.later c.give_up.ensures.missing)
-    (store_cleared c.args.mark.now c.requires c.args.directory.now (text_of c.args.key) c.args.file.now c.view-beside.result.now (refusal_of c.in-Err-rename.error) (g.D.Desk.files c.args.desk.now) (g.D.Desk.files c.rename.new.self) (g.D.Desk.files c.give_up.new.desk)
+    (store_cleared c.args.mark.now c.requires c.args.directory.now (text_of c.args.key) c.args.file.now c.view-beside.result.now (refusal_of c.in-Err-rename.error) (g.D.Desk.told c.args.desk.now).files (g.D.Desk.told c.rename.new.self).files (g.D.Desk.told c.give_up.new.desk).files
     (c.view-beside.ensures ∙ c.in-Ok-temporary_place.ensures)
-    (store_unnamed c.args.mark.now c.requires c.args.directory.now (text_of c.args.key) c.args.file.now c.view-beside.result.now c.view-place.result.now c.in-Err-rename.error (g.D.Desk.files c.args.desk.now) (g.D.Desk.files c.copy.new.desk) (g.D.Desk.files c.rename.new.self)
+    (store_unnamed c.args.mark.now c.requires c.args.directory.now (text_of c.args.key) c.args.file.now c.view-beside.result.now c.view-place.result.now c.in-Err-rename.error (g.D.Desk.told c.args.desk.now).files (g.D.Desk.told c.copy.new.desk).files (g.D.Desk.told c.rename.new.self).files
     (c.view-beside.ensures ∙ c.in-Ok-temporary_place.ensures) c.in_default.ensures.others c.in_default.ensures.copied c.in-Err-rename.ensures.files)
     c.give_up.ensures.others))
 
 pub returns-in-Err-clause-traced : goal.returns-in-Err-clause-traced
-returns-in-Err-clause-traced g c = store_idle_traced c.args.mark.now c.args.directory.now (text_of c.args.key) c.args.file.now c.in-Err.outcome (g.D.Desk.log c.args.desk.now) c.in-Err.ensures
+returns-in-Err-clause-traced g c = store_idle_traced c.args.mark.now c.args.directory.now (text_of c.args.key) c.args.file.now c.in-Err.outcome (g.D.Desk.told c.args.desk.now).log c.in-Err.ensures
 
 pub returns-in-Err-temporary_place-clause-traced : goal.returns-in-Err-temporary_place-clause-traced
 returns-in-Err-temporary_place-clause-traced g c =
-    store_idle_traced c.args.mark.now c.args.directory.now (text_of c.args.key) c.args.file.now c.in-Err-temporary_place.outcome (g.D.Desk.log c.args.desk.now) c.in-Err-temporary_place.ensures
+    store_idle_traced c.args.mark.now c.args.directory.now (text_of c.args.key) c.args.file.now c.in-Err-temporary_place.outcome (g.D.Desk.told c.args.desk.now).log c.in-Err-temporary_place.ensures
 
 pub returns-in-Err-copy-clause-traced : goal.returns-in-Err-copy-clause-traced
 returns-in-Err-copy-clause-traced g c =
@@ -89,18 +89,18 @@ returns-clause-traced g c =
 
 pub returns-in-Err-copy-clause-calm : goal.returns-in-Err-copy-clause-calm
 returns-in-Err-copy-clause-calm g c =
-    rw (c.refusal.ensures, sym c.is_some-alone.ensures) (calm_copy c.is_some-alone.result (g.D.Desk.counts c.args.desk.now) (g.D.Desk.counts c.copy.new.desk) c.in-Err-copy.error c.in-Err-copy.ensures.causes)
+    rw (c.refusal.ensures, sym c.is_some-alone.ensures) (calm_copy c.is_some-alone.result (g.D.Desk.told c.args.desk.now).counts (g.D.Desk.told c.copy.new.desk).counts c.in-Err-copy.error c.in-Err-copy.ensures.causes)
 
 pub returns-in-Ok-rename-clause-calm : goal.returns-in-Ok-rename-clause-calm
-returns-in-Ok-rename-clause-calm g c = calm_same (is_some c.args.mark.now) (g.D.Desk.counts c.args.desk.now) (g.D.Desk.counts c.rename.new.self) O.Done (c.in-Ok-rename.ensures.causes.done ∙ c.in_default.ensures.causes.done)
+returns-in-Ok-rename-clause-calm g c = calm_same (is_some c.args.mark.now) (g.D.Desk.told c.args.desk.now).counts (g.D.Desk.told c.rename.new.self).counts O.Done (c.in-Ok-rename.ensures.causes.done ∙ c.in_default.ensures.causes.done)
 
 pub returns-clause-calm : goal.returns-clause-calm
 returns-clause-calm g c =
     rw (c.refusal-in-Err-rename.ensures, sym c.is_some-alone.ensures)
-    (calm_cleared c.is_some-alone.result (g.D.Desk.counts c.args.desk.now) (g.D.Desk.counts c.copy.new.desk) (g.D.Desk.counts c.rename.new.self) (g.D.Desk.counts c.give_up.new.desk) c.in-Err-rename.error c.in_default.ensures.causes.done c.in-Err-rename.ensures.causes c.in-Err-rename.ensures.apart c.give_up.ensures.calm)
+    (calm_cleared c.is_some-alone.result (g.D.Desk.told c.args.desk.now).counts (g.D.Desk.told c.copy.new.desk).counts (g.D.Desk.told c.rename.new.self).counts (g.D.Desk.told c.give_up.new.desk).counts c.in-Err-rename.error c.in_default.ensures.causes.done c.in-Err-rename.ensures.causes c.in-Err-rename.ensures.apart c.give_up.ensures.calm)
 
 pub returns-in-Err-clause-calm : goal.returns-in-Err-clause-calm
-returns-in-Err-clause-calm g c = calm_same (is_some c.args.mark.now) (g.D.Desk.counts c.args.desk.now) (g.D.Desk.counts c.args.desk.now) c.in-Err.outcome refl
+returns-in-Err-clause-calm g c = calm_same (is_some c.args.mark.now) (g.D.Desk.told c.args.desk.now).counts (g.D.Desk.told c.args.desk.now).counts c.in-Err.outcome refl
 
 pub returns-in-Err-temporary_place-clause-calm : goal.returns-in-Err-temporary_place-clause-calm
-returns-in-Err-temporary_place-clause-calm g c = calm_same (is_some c.args.mark.now) (g.D.Desk.counts c.args.desk.now) (g.D.Desk.counts c.args.desk.now) c.in-Err-temporary_place.outcome refl
+returns-in-Err-temporary_place-clause-calm g c = calm_same (is_some c.args.mark.now) (g.D.Desk.told c.args.desk.now).counts (g.D.Desk.told c.args.desk.now).counts c.in-Err-temporary_place.outcome refl

@@ -4,9 +4,9 @@ use Rattle.fetch_copy.proofs.kept.check_first.Given as goal
 
 abbrev pub invariant-loop-at : goal.invariant-loop-at
 invariant-loop-at g l = record {
-  reading : Reading (g.D.Desk.log l.fn.desk) (g.D.Desk.log l.desk) l.file l.fn.checker l.checker l.at;
+  reading : Reading (g.D.Desk.told l.fn.desk).log (g.D.Desk.told l.desk).log l.file l.fn.checker l.checker l.at;
   most : l.at ≤ l.n;
-  quiet : g.D.Desk.counts l.desk ≡ g.D.Desk.counts l.fn.desk;
+  quiet : (g.D.Desk.told l.desk).counts ≡ (g.D.Desk.told l.fn.desk).counts;
 }
 
 abbrev pub decreases-loop-at : goal.decreases-loop-at

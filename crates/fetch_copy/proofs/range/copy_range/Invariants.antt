@@ -6,12 +6,12 @@ use Rattle.fetch_copy.proofs.range.copy_range.Given as goal
 
 abbrev pub invariant-loop-at : goal.invariant-loop-at
 invariant-loop-at g l = record {
-  ranging : Ranging (g.D.Desk.log l.fn.desk) (g.D.Desk.log l.desk) l.file l.name l.from l.to l.at;
-  filled : WhereTold (g.D.Desk.files l.fn.desk) (g.D.Desk.files l.desk) (GrownSoFar l.file l.name l.from (l.at - l.from));
+  ranging : Ranging (g.D.Desk.told l.fn.desk).log (g.D.Desk.told l.desk).log l.file l.name l.from l.to l.at;
+  filled : WhereTold (g.D.Desk.told l.fn.desk).files (g.D.Desk.told l.desk).files (GrownSoFar l.file l.name l.from (l.at - l.from));
   as_long : length l.buffer ≡ length l.fn.buffer;
   least : l.from ≤ l.at;
   most : l.at - l.from ≤ l.to - l.from;
-  quiet : g.D.Desk.counts l.desk ≡ g.D.Desk.counts l.fn.desk;
+  quiet : (g.D.Desk.told l.desk).counts ≡ (g.D.Desk.told l.fn.desk).counts;
 }
 
 abbrev pub decreases-loop-at : goal.decreases-loop-at

@@ -16,8 +16,8 @@ pub ask_alone-requires-clause-may : goal.ask_alone-requires-clause-may
 ask_alone-requires-clause-may g c =
     let before = c.loop-request.invariant in
     let within : c.loop-request.request-index < length c.args.requests.now = omega arith in
-    may_next (map message_of (take c.loop-request.request-index c.args.requests.now)) (g.D.Door.seen c.args.door.now) (g.D.Door.seen c.loop-request.door)
-    c.args.link.now.ear.child c.loop-request.link.ear.child (g.D.Door.number c.loop-request.door) (message_of c.request-item.result) before.link.same_ear.0 (before.door.number ∙ c.requires.main.first) before.goes
+    may_next (map message_of (take c.loop-request.request-index c.args.requests.now)) (g.D.Door.view c.args.door.now).seen (g.D.Door.view c.loop-request.door).seen
+    c.args.link.now.ear.child c.loop-request.link.ear.child (g.D.Door.view c.loop-request.door).number (message_of c.request-item.result) before.link.same_ear.0 (before.door.number ∙ c.requires.main.first) before.goes
     (asked_question c.args.requests.now c.loop-request.request-index c.request-item.result c.requires.questions within c.request-item.is)
 
 pub ask_alone-requires-clause-named : goal.ask_alone-requires-clause-named
@@ -26,39 +26,39 @@ ask_alone-requires-clause-named g c =
 
 pub returns-in_err-verdict-clause-asks : goal.returns-in_err-verdict-clause-asks
 returns-in_err-verdict-clause-asks g c =
-    let old = g.D.Door.seen c.args.door.now in
+    let old = (g.D.Door.view c.args.door.now).seen in
     subst (λ (new : List Entry). (n : ℕ) × Asks (take n (map message_of c.args.requests.now)) old new c.args.link.now.ear.child) (sym c.in_err-verdict.ensures.none)
-    (front c.args.requests.now c.loop-request.request-index old (g.D.Door.seen c.loop-request.door) c.args.link.now.ear.child c.loop-request.invariant.goes.asks)
+    (front c.args.requests.now c.loop-request.request-index old (g.D.Door.view c.loop-request.door).seen c.args.link.now.ear.child c.loop-request.invariant.goes.asks)
 
 pub returns-then-not-is_final-clause-asks : goal.returns-then-not-is_final-clause-asks
 returns-then-not-is_final-clause-asks g c =
     let before = c.loop-request.invariant in
-    let mid = g.D.Door.seen c.loop-request.door in
-    let new = g.D.Door.seen c.ask_alone.new.door in
-    let o = g.D.Door.opening c.loop-request.door in
-    let by = g.D.Door.number c.loop-request.door in
+    let mid = (g.D.Door.view c.loop-request.door).seen in
+    let new = (g.D.Door.view c.ask_alone.new.door).seen in
+    let o = (g.D.Door.view c.loop-request.door).opening in
+    let by = (g.D.Door.view c.loop-request.door).number in
     let q = message_of c.request-item.result in
     let v = c.in_ok-verdict.verdict in
     let over : is_some (final_in v) ≡ false = cc in
     let within : c.loop-request.request-index < length c.args.requests.now = omega arith in
     let end =
-    stops o (g.D.Door.opening c.ask_alone.new.door) (map message_of (take c.loop-request.request-index c.args.requests.now)) (g.D.Door.seen c.args.door.now) mid new c.args.link.now.ear.child by q (before.door.number ∙ c.requires.main.first) before.goes v
+    stops o (g.D.Door.view c.ask_alone.new.door).opening (map message_of (take c.loop-request.request-index c.args.requests.now)) (g.D.Door.view c.args.door.now).seen mid new c.args.link.now.ear.child by q (before.door.number ∙ c.requires.main.first) before.goes v
     ((same_both before.door c.in_ok-verdict.ensures.door).legal c.requires.legal) over (subst (λ (k : ℕ). AskedAlone o mid new by k 0 None q v) before.link.same_ear.0
     (asked_plain o mid new by c.loop-request.link.ear.child c.request-item.result v (asked_question c.args.requests.now c.loop-request.request-index c.request-item.result c.requires.questions (omega arith) c.request-item.is) c.in_ok-verdict.ensures.asked)) in
-    front_either c.args.requests.now c.loop-request.request-index c.request-item.result (g.D.Door.seen c.args.door.now) new c.args.link.now.ear.child within c.request-item.is end.0
+    front_either c.args.requests.now c.loop-request.request-index c.request-item.result (g.D.Door.view c.args.door.now).seen new c.args.link.now.ear.child within c.request-item.is end.0
 
 pub returns-then-not-is_final-clause-comes : goal.returns-then-not-is_final-clause-comes
 returns-then-not-is_final-clause-comes g c =
     let before = c.loop-request.invariant in
-    let mid = g.D.Door.seen c.loop-request.door in
-    let new = g.D.Door.seen c.ask_alone.new.door in
-    let o = g.D.Door.opening c.loop-request.door in
-    let by = g.D.Door.number c.loop-request.door in
+    let mid = (g.D.Door.view c.loop-request.door).seen in
+    let new = (g.D.Door.view c.ask_alone.new.door).seen in
+    let o = (g.D.Door.view c.loop-request.door).opening in
+    let by = (g.D.Door.view c.loop-request.door).number in
     let q = message_of c.request-item.result in
     let v = c.in_ok-verdict.verdict in
     let over : is_some (final_in v) ≡ false = cc in
     let end =
-    stops o (g.D.Door.opening c.ask_alone.new.door) (map message_of (take c.loop-request.request-index c.args.requests.now)) (g.D.Door.seen c.args.door.now) mid new c.args.link.now.ear.child by q (before.door.number ∙ c.requires.main.first) before.goes v
+    stops o (g.D.Door.view c.ask_alone.new.door).opening (map message_of (take c.loop-request.request-index c.args.requests.now)) (g.D.Door.view c.args.door.now).seen mid new c.args.link.now.ear.child by q (before.door.number ∙ c.requires.main.first) before.goes v
     ((same_both before.door c.in_ok-verdict.ensures.door).legal c.requires.legal) over (subst (λ (k : ℕ). AskedAlone o mid new by k 0 None q v) before.link.same_ear.0
     (asked_plain o mid new by c.loop-request.link.ear.child c.request-item.result v (asked_question c.args.requests.now c.loop-request.request-index c.request-item.result c.requires.questions (omega arith) c.request-item.is) c.in_ok-verdict.ensures.asked)) in
     inr end.1
@@ -67,11 +67,11 @@ pub loop-request-preserved : goal.loop-request-preserved
 loop-request-preserved g c =
     let before = c.loop-request.invariant in
     let after = c.in_ok-verdict.ensures in
-    let old = g.D.Door.seen c.args.door.now in
-    let mid = g.D.Door.seen c.loop-request.door in
-    let new = g.D.Door.seen c.ask_alone.new.door in
-    let o = g.D.Door.opening c.loop-request.door in
-    let by = g.D.Door.number c.loop-request.door in
+    let old = (g.D.Door.view c.args.door.now).seen in
+    let mid = (g.D.Door.view c.loop-request.door).seen in
+    let new = (g.D.Door.view c.ask_alone.new.door).seen in
+    let o = (g.D.Door.view c.loop-request.door).opening in
+    let by = (g.D.Door.view c.loop-request.door).number in
     let q = message_of c.request-item.result in
     let v = c.in_ok-verdict.verdict in
     let final : is_some (final_in v) ≡ true = cc in
@@ -88,7 +88,7 @@ loop-request-preserved g c =
 
 pub returns-clause-asks : goal.returns-clause-asks
 returns-clause-asks g c =
-    front c.args.requests.now c.loop-request.request-index (g.D.Door.seen c.args.door.now) (g.D.Door.seen c.loop-request.door) c.args.link.now.ear.child c.loop-request.invariant.goes.asks
+    front c.args.requests.now c.loop-request.request-index (g.D.Door.view c.args.door.now).seen (g.D.Door.view c.loop-request.door).seen c.args.link.now.ear.child c.loop-request.invariant.goes.asks
 
 pub loop-request-init : goal.loop-request-init
 loop-request-init g c = record {
@@ -101,7 +101,7 @@ pub ask_alone-requires-clause-alone : goal.ask_alone-requires-clause-alone
 ask_alone-requires-clause-alone g c = c.loop-request.invariant.door.alone ∙ c.requires.main.lone
 
 pub ask_alone-requires-clause-started : goal.ask_alone-requires-clause-started
-ask_alone-requires-clause-started g c = ap (is_started (g.D.Door.seen c.loop-request.door)) c.loop-request.invariant.link.same_ear.0 ∙ c.loop-request.invariant.goes.started
+ask_alone-requires-clause-started g c = ap (is_started (g.D.Door.view c.loop-request.door).seen) c.loop-request.invariant.link.same_ear.0 ∙ c.loop-request.invariant.goes.started
 
 pub ask_alone-requires-clause-legal : goal.ask_alone-requires-clause-legal
 ask_alone-requires-clause-legal g c = c.loop-request.invariant.door.legal c.requires.legal

@@ -11,5 +11,5 @@ invariant-loop-request g l =
     record {
       goes : MayGoOn (map message_of (take l.request-index l.requests)) (seen l.fn.door) (seen l.door) l.fn.link.ear.child;
       link : KeepsLink (seen l.fn.door) (seen l.door) l.fn.link.ear l.link.ear l.fn.link.mouth l.link.mouth;
-      door : IsSameDoor g.D.Door.opening g.D.Door.number g.D.Door.seen g.D.Door.alone g.D.Door.loans g.D.Door.home l.fn.door l.door;
+      door : IsSameDoor (g.D.Door.view l.fn.door) (g.D.Door.view l.door);
     }

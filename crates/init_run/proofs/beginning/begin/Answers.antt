@@ -8,9 +8,9 @@ use Rattle.init_run.proofs.beginning.begin.Goals as goal
 
 pub returns-in_ok-opening-in-Kept-clause-begins : goal.returns-in_ok-opening-in-Kept-clause-begins
 returns-in_ok-opening-in-Kept-clause-begins g c =
-    let told = g.D.Desk.files c.args.desk.now in
-    let old = g.D.Desk.log c.args.desk.now in
-    let new = g.D.Desk.log c.read_kept.new.desk in
+    let told = (g.D.Desk.told c.args.desk.now).files in
+    let old = (g.D.Desk.told c.args.desk.now).log in
+    let new = (g.D.Desk.told c.read_kept.new.desk).log in
     let keep = c.args.words.now.keep in
     ready c.args.words.now told old new c.in-Kept.registers c.in-Kept.notes c.in_ok-opening-in-Kept.opening
     (subst (λ (k : KeptRead). IsReadAs old new keep (Ok k)) c.in-Kept.is

@@ -2,7 +2,6 @@ use Rattle.std.proofs.Common.{◌≡◌, ◌++◌, ◌∙◌, List, map, sym, ap
 use Rattle.std.specs.Prelude.{reverse}
 use Rattle.std.proofs.lemmas.List.{length-map, length-reverse}
 use Rattle.crew_rounds.specs.Tagged.{link_of}
-use Rattle.lone_work.specs.Works.{desk_tells}
 use Rattle.job_rounds.proofs.PoolServing.{round_beside}
 use Rattle.job_rounds.proofs.pooling.round_links.Goals as goal
 use Rattle.pool_rounds.proofs.Backs.{links_still as link_same}
@@ -27,7 +26,7 @@ returns-in-Ok-clause-round g c =
     let taken = c.in-Ok.ensures.taken in
     let links : c.in-Ok.used.len ≡ length (map (λ l. link_of l.ear l.mouth) c.args.links.items) = taken.1 ∙ c.len.ensures ∙ c.args.links.ok.0 ∙ sym (length-map c.args.links.items (λ l. link_of l.ear l.mouth)) in
     if_done c.round_pool-core.result.outcome
-    (round_beside (λ k. desk_tells (g.K.Desk.log k) (g.K.Desk.counts k)) c.args.bench.core.opening c.args.setup.now c.args.bench.core.journal c.round_pool-core.result.core.journal (map (λ l. link_of l.ear l.mouth) c.args.links.items)
+    (round_beside g.K.Desk.told c.args.bench.core.opening c.args.setup.now c.args.bench.core.journal c.round_pool-core.result.core.journal (map (λ l. link_of l.ear l.mouth) c.args.links.items)
     (map (λ l. link_of l.ear l.mouth) c.round_pool-core.result.links.items) c.args.bench.desks.items c.in-Ok.used.items c.round_pool-core.result.desks.items c.put_back.new.desks.items
     (reverse c.take_first.new.desks.items) c.in-Ok.used.len (sym c.in-Ok.used.ok.0 ∙ links) links taken.0 c.put_back.ensures.back) c.round_pool-core.ensures.round
 

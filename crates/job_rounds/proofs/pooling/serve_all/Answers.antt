@@ -8,7 +8,6 @@ use Rattle.child_end.specs.Wires.{IsHeld}
 use Rattle.crew_rounds.specs.Tagged.{link_of}
 use Rattle.gathering.specs.Laws.{children_of}
 use Rattle.gathering.specs.Rounds.{IsAtRest, LinkValue}
-use Rattle.lone_work.specs.Works.{desk_tells}
 use Rattle.job_rounds.specs.PoolSteps.{ClosesAll}
 use Rattle.job_rounds.proofs.Ends.{by_done, by_kept, legal_kept}
 use Rattle.job_rounds.proofs.PoolLinks.{all_unmapped}
@@ -32,7 +31,7 @@ serve_one-requires g c =
       );
       tasks = (ap (λ (w : Opening). w.tasks) c.round_links-links.ensures.opening ∙ c.requires.tasks.0, c.requires.tasks.1);
       folder = c.requires.folder;
-      can = can_kept (λ l. link_of l.ear l.mouth) (λ k. desk_tells (g.K.Desk.log k) (g.K.Desk.counts k)) c.args.bench.core.opening c.round_links-links.result.1.core.opening c.args.bench.core.journal c.round_links-links.result.1.core.journal
+      can = can_kept (λ l. link_of l.ear l.mouth) g.K.Desk.told c.args.bench.core.opening c.round_links-links.result.1.core.opening c.args.bench.core.journal c.round_links-links.result.1.core.journal
           c.args.links.items c.round_links-links.result.0.items c.args.bench.desks.items c.round_links-links.result.1.desks.items c.round_links-links.ensures.opening kept.0 kept.1.0 kept.1.1 c.requires.can;
     }
 
@@ -68,7 +67,7 @@ close_links-requires-in-NoMemory-clause-started g c =
     let kept = by_kept c.round_links-links.result.2 (inl c.in-NoMemory.is) c.round_links-links.ensures.kept in
     subst (λ xs. All (λ l. is_started c.round_links-links.result.1.core.journal l.ear.child ≡ true) xs) (sym c.deref-in-NoMemory.ensures.value)
     (all_unmapped (λ (l : LinkValue). is_started c.round_links-links.result.1.core.journal l.ear.child ≡ true) (λ l. link_of l.ear l.mouth) c.round_links-links.result.0.items
-    (starved_started (λ l. link_of l.ear l.mouth) (λ k. desk_tells (g.K.Desk.log k) (g.K.Desk.counts k)) c.args.bench.core.opening c.round_links-links.result.1.core.opening c.args.bench.core.journal c.round_links-links.result.1.core.journal
+    (starved_started (λ l. link_of l.ear l.mouth) g.K.Desk.told c.args.bench.core.opening c.round_links-links.result.1.core.opening c.args.bench.core.journal c.round_links-links.result.1.core.journal
     c.args.links.items c.round_links-links.result.0.items c.args.bench.desks.items c.round_links-links.result.1.desks.items c.round_links-links.ensures.opening kept.0 kept.1.0 kept.1.1 c.requires.can))
 
 pub returns-in-NoMemory : goal.returns-in-NoMemory
@@ -99,7 +98,7 @@ returns-in-NoThreads g c =
     let opening = c.round_links-links.ensures.opening in
     let then = c.serve_one.ensures in
     record {
-      serves = serves_kept (λ l. link_of l.ear l.mouth) (λ k. desk_tells (g.K.Desk.log k) (g.K.Desk.counts k)) c.args.bench.core.opening c.round_links-links.result.1.core.opening c.args.bench.core.journal c.round_links-links.result.1.core.journal
+      serves = serves_kept (λ l. link_of l.ear l.mouth) g.K.Desk.told c.args.bench.core.opening c.round_links-links.result.1.core.opening c.args.bench.core.journal c.round_links-links.result.1.core.journal
           c.args.links.items c.round_links-links.result.0.items c.args.bench.desks.items c.round_links-links.result.1.desks.items opening kept.0 kept.1.0 kept.1.1 c.args.setup.now c.serve_one.new.bench.core.journal _ then.serves;
       held = then.held;
       same = same_links_both (map (λ l. link_of l.ear l.mouth) c.args.links.items) (map (λ l. link_of l.ear l.mouth) c.round_links-links.result.0.items) (map (λ l. link_of l.ear l.mouth) c.serve_one.new.links.items) c.round_links-links.ensures.same then.same;

@@ -10,7 +10,7 @@ seats-init g c = record {
   laying = laying_begins seat_value (λ x. link_of x.ear x.mouth) c.args.seats.items c.reverse-2.new.self.items c.args.links.items c.reverse.new.self.items c.args.wires.now.items c.reverse-2.ensures.items c.reverse.ensures.items
       (c.requires.fits ∙ c.args.links.ok.0);
   room = (refl, refl);
-  starts = stays_same (g.P.Programs.starts c.args.programs.now);
+  starts = stays_same (g.P.Programs.told c.args.programs.now).starts;
   later = omega arith;
 }
 
@@ -34,7 +34,7 @@ seats-preserved g c = record {
     (let was = c.seats.invariant.room.0 in let popped = c.in-Some.ensures.len in let pushed = c.finish.ensures.room.0 in omega (arith, was, popped, pushed)),
     c.finish.ensures.room.1 ∙ c.seats.invariant.room.1,
   );
-  starts = stays_both (g.P.Programs.starts c.args.programs.now) (g.P.Programs.starts c.seats.programs) (g.P.Programs.starts c.finish.new.programs) c.seats.invariant.starts c.finish.ensures.starts;
+  starts = stays_both (g.P.Programs.told c.args.programs.now).starts (g.P.Programs.told c.seats.programs).starts (g.P.Programs.told c.finish.new.programs).starts c.seats.invariant.starts c.finish.ensures.starts;
   later = (let was = c.seats.invariant.later in let now = c.finish.ensures.later in omega (arith, was, now));
 }
 

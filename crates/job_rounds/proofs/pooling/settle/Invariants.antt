@@ -10,8 +10,8 @@ invariant-seats g l = record {
   laying : Laying seat_value
       (λ x. link_of x.ear x.mouth) l.initial.seats.items l.seats.items l.initial.links.items l.links.items l.initial.wires.items l.wires.items;
   room : (vec_len l.wires + vec_len l.seats ≡ vec_len l.initial.wires + vec_len l.initial.seats) × (vec_capacity l.wires ≡ vec_capacity l.initial.wires);
-  starts : Stays (g.P.Programs.starts l.initial.programs) (g.P.Programs.starts l.programs);
-  later : g.P.Programs.faults l.initial.programs ≤ g.P.Programs.faults l.programs;
+  starts : Stays (g.P.Programs.told l.initial.programs).starts (g.P.Programs.told l.programs).starts;
+  later : (g.P.Programs.told l.initial.programs).faults ≤ (g.P.Programs.told l.programs).faults;
 }
 
 abbrev pub decreases-seats : goal.decreases-seats

@@ -6,7 +6,6 @@ use Rattle.link_roles.specs.Alone.{Closes}
 use Rattle.gathering.specs.Laws.{GoesOn}
 use Rattle.crew_rounds.specs.TaggedRounds.{TaggedLeaves}
 use Rattle.crew_rounds.specs.Tagged.{link_of}
-use Rattle.lone_work.specs.Works.{desk_tells}
 use Rattle.job_rounds.proofs.Ends.{alone_kept, by_done, by_kept, legal_kept, round_as_many, round_closes, round_held, round_started, starved_closes, starved_held, starved_may}
 use Rattle.job_rounds.proofs.serving.serve_round.Goals as goal
 
@@ -23,12 +22,12 @@ close_child-requires-clause-idle g c =
 
 pub returns-in-Done-clause-serves : goal.returns-in-Done-clause-serves
 returns-in-Done-clause-serves g c =
-    let desks = map (λ k. desk_tells (g.K.Desk.log k) (g.K.Desk.counts k)) c.args.bench.desks.items in
-    let desks' = map (λ k. desk_tells (g.K.Desk.log k) (g.K.Desk.counts k)) c.round_tagged-core.result.desks.items in
+    let desks = map g.K.Desk.told c.args.bench.desks.items in
+    let desks' = map g.K.Desk.told c.round_tagged-core.result.desks.items in
     let old = c.args.bench.core.journal in
     let mid = c.round_tagged-core.result.core.journal in
     let link = link_of c.round_tagged-core.result.link.ear c.round_tagged-core.result.link.mouth in
-    let count : length desks ≡ c.args.bench.desks.len = length-map c.args.bench.desks.items (λ k. desk_tells (g.K.Desk.log k) (g.K.Desk.counts k)) ∙ sym c.args.bench.desks.ok.0 in
+    let count : length desks ≡ c.args.bench.desks.len = length-map c.args.bench.desks.items g.K.Desk.told ∙ sym c.args.bench.desks.ok.0 in
     record {
       many = λ one. (let some = c.requires.desks.0 in omega (arith, one, count, some));
       tagged = sym c.requires.can.tag;
@@ -48,10 +47,10 @@ returns-in-Done-clause-held g c =
 
 pub returns-in-Done-clause-desks : goal.returns-in-Done-clause-desks
 returns-in-Done-clause-desks g c =
-    c.round_tagged-core.result.desks.ok.0 ∙ sym (length-map c.round_tagged-core.result.desks.items (λ k. desk_tells (g.K.Desk.log k) (g.K.Desk.counts k)))
+    c.round_tagged-core.result.desks.ok.0 ∙ sym (length-map c.round_tagged-core.result.desks.items g.K.Desk.told)
     ∙ sym (round_as_many c.args.bench.core.opening c.args.setup.now _ c.args.bench.core.journal c.round_tagged-core.result.core.journal (link_of c.round_tagged-core.result.link.ear c.round_tagged-core.result.link.mouth) _ _
     (by_done c.round_tagged-core.result.outcome c.in-Done.is c.round_tagged-core.ensures.round))
-    ∙ length-map c.args.bench.desks.items (λ k. desk_tells (g.K.Desk.log k) (g.K.Desk.counts k)) ∙ sym c.args.bench.desks.ok.0
+    ∙ length-map c.args.bench.desks.items g.K.Desk.told ∙ sym c.args.bench.desks.ok.0
 
 pub close_child-requires-in-NoMemory-clause-started : goal.close_child-requires-in-NoMemory-clause-started
 close_child-requires-in-NoMemory-clause-started g c =
@@ -69,7 +68,7 @@ returns-in-NoMemory g c =
     let opening = c.round_tagged-core.ensures.opening in
     let same = c.round_tagged-core.ensures.same in
     let then = c.close_child-in-NoMemory.ensures in
-    let count : length (map (λ k. desk_tells (g.K.Desk.log k) (g.K.Desk.counts k)) c.args.bench.desks.items) ≡ c.args.bench.desks.len = length-map c.args.bench.desks.items (λ k. desk_tells (g.K.Desk.log k) (g.K.Desk.counts k)) ∙ sym c.args.bench.desks.ok.0 in
+    let count : length (map g.K.Desk.told c.args.bench.desks.items) ≡ c.args.bench.desks.len = length-map c.args.bench.desks.items g.K.Desk.told ∙ sym c.args.bench.desks.ok.0 in
     record {
       serves = record {
         many = λ one. (let some = c.requires.desks.0 in omega (arith, one, count, some));
@@ -93,7 +92,7 @@ returns-in-NoThreads g c =
     let same = c.round_tagged-core.ensures.same in
     let then = c.serve_alone.ensures in
     record {
-      serves = alone_kept (λ k. desk_tells (g.K.Desk.log k) (g.K.Desk.counts k)) c.args.bench.core.opening c.round_tagged-core.result.core.opening c.args.setup.now c.args.link.ear.child c.round_tagged-core.result.link.ear.child
+      serves = alone_kept g.K.Desk.told c.args.bench.core.opening c.round_tagged-core.result.core.opening c.args.setup.now c.args.link.ear.child c.round_tagged-core.result.link.ear.child
           c.args.bench.core.journal c.round_tagged-core.result.core.journal c.serve_alone.new.bench.core.journal c.args.bench.desks.items c.round_tagged-core.result.desks.items _ opening same.0.0 kept.0 kept.1.1 then.serves;
       held = then.held;
       same = ((then.same.0.0 ∙ same.0.0, then.same.0.1 ∙ same.0.1), (then.same.1.0 ∙ same.1.0, then.same.1.1 ∙ same.1.1));

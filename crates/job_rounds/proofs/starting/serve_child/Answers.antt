@@ -2,15 +2,13 @@ use Rattle.std.proofs.Common.{◌≡◌, arith, inl, inr, length, map, subst, sy
 use Rattle.std.proofs.lemmas.List.{length-map}
 use Rattle.journal_model.specs.declared.opening.Opening.{Opening}
 use Rattle.journal_model.specs.Legality.{Legal}
-use Rattle.child_end.specs.Programs.{programs_value}
-use Rattle.lone_work.specs.Works.{desk_tells}
 use Rattle.job_rounds.proofs.Firsts.{first_by, lone_leaves}
 use Rattle.job_rounds.proofs.starting.serve_child.Goals as goal
 use Rattle.job_rounds.proofs.starting.serve_child.Goals.{else-not-tagged-via-then-not-tagged+else-len-gt1, else-not-tagged-via-else-not-tagged}
 
 pub returns-clause-served : goal.returns-clause-served
 returns-clause-served g c =
-    let desks = map (λ k. desk_tells (g.K.Desk.log k) (g.K.Desk.counts k)) c.args.bench.desks.items in
+    let desks = map g.K.Desk.told c.args.bench.desks.items in
     let many : length desks ≡ vec_len c.args.bench.desks = length-map c.args.bench.desks.items _ ∙ sym c.args.bench.desks.ok.0 in
     let same = c.serve_ready-link.ensures.same in
     first_by c.serve_ready-link.result.2 c.serve_ready-link.ensures.serves
@@ -19,6 +17,6 @@ returns-clause-served g c =
       | else-not-tagged-via-else-not-tagged w ↦ inr (sym c.requires.can.tag ∙ w.if-not-tagged.false)
     ])
     c.requires.can (subst (λ (w : Opening). Legal w c.serve_ready-link.result.1.core.journal) c.serve_ready-link.ensures.core.opening (c.serve_ready-link.ensures.core.legal c.requires.can.can.legal)) c.requires.last_child
-    (λ (W : Type 0). lone_leaves W c.args.plan.now.program c.serve_ready-link.result.1.core.journal (programs_value (g.P.Programs.starts c.args.programs.now) (g.P.Programs.faults c.args.programs.now)) (programs_value (g.P.Programs.starts c.finish.new.programs) (g.P.Programs.faults c.finish.new.programs))
+    (λ (W : Type 0). lone_leaves W c.args.plan.now.program c.serve_ready-link.result.1.core.journal (g.P.Programs.told c.args.programs.now) (g.P.Programs.told c.finish.new.programs)
     c.args.link.ear c.serve_ready-link.result.0.ear c.args.link.mouth c.serve_ready-link.result.0.mouth _ _ c.finish.ensures.starts c.finish.ensures.later same.0 same.1 c.serve_ready-link.result.0.one_child c.serve_ready-link.ensures.held c.finish.ensures.laid)
     c.serve_ready-link.result.0.one_child c.finish.ensures.laid c.finish.ensures.starts c.finish.ensures.later

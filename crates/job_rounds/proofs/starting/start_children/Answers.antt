@@ -1,11 +1,10 @@
+use Rattle.ann_outside.specs.Told.{DeskTold, ProgramsTold}
 use Rattle.std.proofs.Common.{◌+◌, arith, inl, inr, map, subst, sym, ap, refl, ◌∙◌, List, length, true, vec_len}
 use Rattle.std.proofs.lemmas.Nat.{mul-le}
 use Rattle.journal_model.specs.declared.opening.Opening.{Opening}
 use Rattle.journal_model.specs.Legality.{Legal}
 use Rattle.host_core.specs.Steps.{are_all_claimed}
 use Rattle.link_roles.specs.Wires.{WireValue}
-use Rattle.child_end.specs.Programs.{ProgramsValue, programs_value}
-use Rattle.lone_work.specs.Works.{DeskTells, desk_tells}
 use Rattle.lone_rounds.proofs.Ending.{cores_both, kept_begin, left_nothing, left_some}
 use Rattle.job_rounds.proofs.Between.{at_err, at_ok, at_rest, jobs_begin}
 use Rattle.job_rounds.proofs.Objects.{wires_many}
@@ -15,8 +14,8 @@ use Rattle.ann_key.proofs.Numbers.{one_more}
 
 pub children-init : goal.children-init
 children-init g c = record {
-  between = jobs_begin c.args.bench.core.opening c.args.plan.now.setup c.args.plan.now.offers c.args.plan.now.starts c.args.bench.core.journal (map (λ k. desk_tells (g.K.Desk.log k) (g.K.Desk.counts k)) c.args.bench.desks.items) true c.requires.empty;
-  kept = kept_begin c.args.plan.now.program c.args.bench.core.journal (programs_value (g.P.Programs.starts c.args.programs.now) (g.P.Programs.faults c.args.programs.now)) c.args.wires.now.items c.requires.empty c.requires.none;
+  between = jobs_begin c.args.bench.core.opening c.args.plan.now.setup c.args.plan.now.offers c.args.plan.now.starts c.args.bench.core.journal (map g.K.Desk.told c.args.bench.desks.items) true c.requires.empty;
+  kept = kept_begin c.args.plan.now.program c.args.bench.core.journal (g.P.Programs.told c.args.programs.now) c.args.wires.now.items c.requires.empty c.requires.none;
   core = record { opening = refl; legal = λ h. h };
   room = ((let none = c.args.wires.now.ok.0 ∙ ap (λ (xs : List _). length xs) c.requires.none in omega (arith, none)), refl);
   desks = refl;
@@ -86,12 +85,12 @@ returns-in-Err-clause-started g c =
     let new = c.start_one-after.result.0.core.journal in
     let same_opening = c.children.invariant.core.opening in
     let legal : Legal o new = subst (λ (w : Opening). Legal w new) (c.start_one-after.ensures.core.opening ∙ same_opening) (c.start_one-after.ensures.core.legal (subst (λ (w : Opening). Legal w cur) (sym same_opening) c.children.invariant.between.legal)) in
-    let desks0 : List DeskTells = (map (λ k. desk_tells (g.K.Desk.log k) (g.K.Desk.counts k)) c.args.bench.desks.items) in
-    let desks : List DeskTells = (map (λ k. desk_tells (g.K.Desk.log k) (g.K.Desk.counts k)) c.children.bench.desks.items) in
-    let desks' : List DeskTells = (map (λ k. desk_tells (g.K.Desk.log k) (g.K.Desk.counts k)) c.start_one-after.result.0.desks.items) in
-    let start : ProgramsValue = (programs_value (g.P.Programs.starts c.args.programs.now) (g.P.Programs.faults c.args.programs.now)) in
-    let before : ProgramsValue = (programs_value (g.P.Programs.starts c.children.programs) (g.P.Programs.faults c.children.programs)) in
-    let after : ProgramsValue = (programs_value (g.P.Programs.starts c.start_one-after.new.programs) (g.P.Programs.faults c.start_one-after.new.programs)) in
+    let desks0 : List DeskTold = (map g.K.Desk.told c.args.bench.desks.items) in
+    let desks : List DeskTold = (map g.K.Desk.told c.children.bench.desks.items) in
+    let desks' : List DeskTold = (map g.K.Desk.told c.start_one-after.result.0.desks.items) in
+    let start : ProgramsTold = (g.P.Programs.told c.args.programs.now) in
+    let before : ProgramsTold = (g.P.Programs.told c.children.programs) in
+    let after : ProgramsTold = (g.P.Programs.told c.start_one-after.new.programs) in
     let wires : List WireValue = c.children.wires.items in
     let wires' : List WireValue = c.start_one-after.new.wires.items in
     broken_started o p c.args.plan.now.setup c.args.plan.now.offers c.args.plan.now.starts c.children.made c.children.offer c.args.plan.now.program cur new desks0 desks desks' before after wires wires' same_opening c.children.invariant.between
@@ -106,12 +105,12 @@ returns-in-Err-clause-kept g c =
     let new = c.start_one-after.result.0.core.journal in
     let same_opening = c.children.invariant.core.opening in
     let legal : Legal o new = subst (λ (w : Opening). Legal w new) (c.start_one-after.ensures.core.opening ∙ same_opening) (c.start_one-after.ensures.core.legal (subst (λ (w : Opening). Legal w cur) (sym same_opening) c.children.invariant.between.legal)) in
-    let desks0 : List DeskTells = (map (λ k. desk_tells (g.K.Desk.log k) (g.K.Desk.counts k)) c.args.bench.desks.items) in
-    let desks : List DeskTells = (map (λ k. desk_tells (g.K.Desk.log k) (g.K.Desk.counts k)) c.children.bench.desks.items) in
-    let desks' : List DeskTells = (map (λ k. desk_tells (g.K.Desk.log k) (g.K.Desk.counts k)) c.start_one-after.result.0.desks.items) in
-    let start : ProgramsValue = (programs_value (g.P.Programs.starts c.args.programs.now) (g.P.Programs.faults c.args.programs.now)) in
-    let before : ProgramsValue = (programs_value (g.P.Programs.starts c.children.programs) (g.P.Programs.faults c.children.programs)) in
-    let after : ProgramsValue = (programs_value (g.P.Programs.starts c.start_one-after.new.programs) (g.P.Programs.faults c.start_one-after.new.programs)) in
+    let desks0 : List DeskTold = (map g.K.Desk.told c.args.bench.desks.items) in
+    let desks : List DeskTold = (map g.K.Desk.told c.children.bench.desks.items) in
+    let desks' : List DeskTold = (map g.K.Desk.told c.start_one-after.result.0.desks.items) in
+    let start : ProgramsTold = (g.P.Programs.told c.args.programs.now) in
+    let before : ProgramsTold = (g.P.Programs.told c.children.programs) in
+    let after : ProgramsTold = (g.P.Programs.told c.start_one-after.new.programs) in
     let wires : List WireValue = c.children.wires.items in
     let wires' : List WireValue = c.start_one-after.new.wires.items in
     broken_kept o p c.args.plan.now.setup c.args.plan.now.offers c.args.plan.now.starts c.children.made c.children.offer c.args.plan.now.program cur new desks0 desks desks' start before after wires wires' same_opening c.children.invariant.between c.children.invariant.kept
@@ -131,12 +130,12 @@ children-preserved g c =
     let new = c.start_one-after.result.0.core.journal in
     let same_opening = c.children.invariant.core.opening in
     let legal : Legal o new = subst (λ (w : Opening). Legal w new) (c.start_one-after.ensures.core.opening ∙ same_opening) (c.start_one-after.ensures.core.legal (subst (λ (w : Opening). Legal w cur) (sym same_opening) c.children.invariant.between.legal)) in
-    let desks0 : List DeskTells = (map (λ k. desk_tells (g.K.Desk.log k) (g.K.Desk.counts k)) c.args.bench.desks.items) in
-    let desks : List DeskTells = (map (λ k. desk_tells (g.K.Desk.log k) (g.K.Desk.counts k)) c.children.bench.desks.items) in
-    let desks' : List DeskTells = (map (λ k. desk_tells (g.K.Desk.log k) (g.K.Desk.counts k)) c.start_one-after.result.0.desks.items) in
-    let start : ProgramsValue = (programs_value (g.P.Programs.starts c.args.programs.now) (g.P.Programs.faults c.args.programs.now)) in
-    let before : ProgramsValue = (programs_value (g.P.Programs.starts c.children.programs) (g.P.Programs.faults c.children.programs)) in
-    let after : ProgramsValue = (programs_value (g.P.Programs.starts c.start_one-after.new.programs) (g.P.Programs.faults c.start_one-after.new.programs)) in
+    let desks0 : List DeskTold = (map g.K.Desk.told c.args.bench.desks.items) in
+    let desks : List DeskTold = (map g.K.Desk.told c.children.bench.desks.items) in
+    let desks' : List DeskTold = (map g.K.Desk.told c.start_one-after.result.0.desks.items) in
+    let start : ProgramsTold = (g.P.Programs.told c.args.programs.now) in
+    let before : ProgramsTold = (g.P.Programs.told c.children.programs) in
+    let after : ProgramsTold = (g.P.Programs.told c.start_one-after.new.programs) in
     let wires : List WireValue = c.children.wires.items in
     let wires' : List WireValue = c.start_one-after.new.wires.items in
     let after_one = next_job_start o p c.args.plan.now.setup c.args.plan.now.offers c.args.plan.now.starts c.children.made c.children.offer c.in-Ok.next true c.args.plan.now.program cur new desks0 desks desks' start before after wires wires'

@@ -1,15 +1,13 @@
 use Rattle.std.proofs.Common.{◌≡◌, ◌≤◌, ◌*◌, map, true, vec_len, vec_capacity}
 use Rattle.child_start.specs.Cores.{IsSameCore}
-use Rattle.child_end.specs.Programs.{programs_value}
-use Rattle.lone_work.specs.Works.{desk_tells}
 use Rattle.lone_rounds.specs.Stints.{Kept}
 use Rattle.job_rounds.specs.Starts.{JobsBetween}
 use Rattle.job_rounds.proofs.starting.start_children.Given as goal
 
 abbrev pub invariant-children : goal.invariant-children
 invariant-children g l = record {
-  between : JobsBetween l.initial.bench.core.opening l.plan.setup l.plan.offers l.plan.starts l.made l.offer l.bench.core.journal (map (λ k. desk_tells (g.K.Desk.log k) (g.K.Desk.counts k)) l.initial.bench.desks.items) (map (λ k. desk_tells (g.K.Desk.log k) (g.K.Desk.counts k)) l.bench.desks.items) true;
-  kept : Kept l.plan.program l.bench.core.journal (programs_value (g.P.Programs.starts l.initial.programs) (g.P.Programs.faults l.initial.programs)) (programs_value (g.P.Programs.starts l.programs) (g.P.Programs.faults l.programs))
+  between : JobsBetween l.initial.bench.core.opening l.plan.setup l.plan.offers l.plan.starts l.made l.offer l.bench.core.journal (map g.K.Desk.told l.initial.bench.desks.items) (map g.K.Desk.told l.bench.desks.items) true;
+  kept : Kept l.plan.program l.bench.core.journal (g.P.Programs.told l.initial.programs) (g.P.Programs.told l.programs)
       l.wires.items;
   core : IsSameCore l.initial.bench.core l.bench.core;
   room : (vec_len l.wires ≤ l.made * vec_len l.initial.bench.desks) × (vec_capacity l.wires ≡ vec_capacity l.initial.wires);

@@ -1,3 +1,4 @@
+use Rattle.ann_outside.specs.Told.{DeskTold, ProgramsTold}
 use Rattle.std.proofs.Common.{◌<◌, Bool, List, ℕ, arith, false, map, refl, sym, ap, subst, ◌∙◌, length, None, true}
 use Rattle.std.specs.Prelude.{IsErr, is_ok}
 use Rattle.std.proofs.lemmas.List.{length-map}
@@ -8,11 +9,9 @@ use Rattle.journal_model.specs.declared.answer.Answer.TheVariants.{Ended, StartF
 use Rattle.journal_model.specs.declared.entry.What.TheVariants.{Start, NoStart}
 use Rattle.journal_model.specs.declared.opening.Opening.{Opening}
 use Rattle.journal_model.specs.Legality.{Legal}
-use Rattle.child_end.specs.Programs.{ProgramsValue, programs_value}
 use Rattle.link_roles.specs.Wires.{WireValue}
 use Rattle.child_end.proofs.Held.{lone_held}
 use Rattle.lone_work.specs.KnownLayouts.{IsBook}
-use Rattle.lone_work.specs.Works.{DeskTells, desk_tells}
 use Rattle.lone_rounds.specs.Stints.{AnswersOne, TurnsAway, next_child}
 use Rattle.lone_rounds.proofs.Leaving.{starts_child, starts_none}
 use Rattle.lone_rounds.proofs.Stinting.{greeting_rests, greeting_started}
@@ -74,7 +73,7 @@ turn_away-requires-in-Unsent-clause-started g c = greeting_started c.args.bench.
 
 pub answer_one-requires-clause-rest : goal.answer_one-requires-clause-rest
 answer_one-requires-clause-rest g c =
-    fault_rests c.args.bench.core.opening c.args.plan.now.setup c.args.plan.now.starts c.args.offer c.args.bench.core.journal c.greet.new.core.journal c.greet.new.core.journal (desk_tells None no_counts) c.requires.left c.requires.calm.idle c.in-StartFault.ensures.tells
+    fault_rests c.args.bench.core.opening c.args.plan.now.setup c.args.plan.now.starts c.args.offer c.args.bench.core.journal c.greet.new.core.journal c.greet.new.core.journal (record { counts = no_counts; files = None; log = None }) c.requires.left c.requires.calm.idle c.in-StartFault.ensures.tells
 
 pub returns-in-Ok-clause-starts : goal.returns-in-Ok-clause-starts
 returns-in-Ok-clause-starts g c =
@@ -82,11 +81,11 @@ returns-in-Ok-clause-starts g c =
     let old = c.args.bench.core.journal in
     let mid = c.greet.new.core.journal in
     let new = c.serve_child-bench.result.0.core.journal in
-    let desks : List DeskTells = map (λ k. desk_tells (g.K.Desk.log k) (g.K.Desk.counts k)) c.args.bench.desks.items in
-    let desks' : List DeskTells = map (λ k. desk_tells (g.K.Desk.log k) (g.K.Desk.counts k)) c.serve_child-bench.result.0.desks.items in
-    let before : ProgramsValue = programs_value (g.P.Programs.starts c.args.programs.now) (g.P.Programs.faults c.args.programs.now) in
-    let between : ProgramsValue = programs_value (g.P.Programs.starts c.greet.new.programs) (g.P.Programs.faults c.greet.new.programs) in
-    let after : ProgramsValue = programs_value (g.P.Programs.starts c.serve_child-bench.new.programs) (g.P.Programs.faults c.serve_child-bench.new.programs) in
+    let desks : List DeskTold = map g.K.Desk.told c.args.bench.desks.items in
+    let desks' : List DeskTold = map g.K.Desk.told c.serve_child-bench.result.0.desks.items in
+    let before : ProgramsTold = g.P.Programs.told c.args.programs.now in
+    let between : ProgramsTold = g.P.Programs.told c.greet.new.programs in
+    let after : ProgramsTold = g.P.Programs.told c.serve_child-bench.new.programs in
     let wires : List WireValue = c.args.wires.now.items in
     let wires' : List WireValue = c.serve_child-bench.new.wires.items in
     let r = c.serve_child-bench.result.1 in
@@ -103,11 +102,11 @@ returns-in-Err-clause-starts g c =
     let old = c.args.bench.core.journal in
     let mid = c.greet.new.core.journal in
     let new = c.serve_child-bench.result.0.core.journal in
-    let desks : List DeskTells = map (λ k. desk_tells (g.K.Desk.log k) (g.K.Desk.counts k)) c.args.bench.desks.items in
-    let desks' : List DeskTells = map (λ k. desk_tells (g.K.Desk.log k) (g.K.Desk.counts k)) c.serve_child-bench.result.0.desks.items in
-    let before : ProgramsValue = programs_value (g.P.Programs.starts c.args.programs.now) (g.P.Programs.faults c.args.programs.now) in
-    let between : ProgramsValue = programs_value (g.P.Programs.starts c.greet.new.programs) (g.P.Programs.faults c.greet.new.programs) in
-    let after : ProgramsValue = programs_value (g.P.Programs.starts c.serve_child-bench.new.programs) (g.P.Programs.faults c.serve_child-bench.new.programs) in
+    let desks : List DeskTold = map g.K.Desk.told c.args.bench.desks.items in
+    let desks' : List DeskTold = map g.K.Desk.told c.serve_child-bench.result.0.desks.items in
+    let before : ProgramsTold = g.P.Programs.told c.args.programs.now in
+    let between : ProgramsTold = g.P.Programs.told c.greet.new.programs in
+    let after : ProgramsTold = g.P.Programs.told c.serve_child-bench.new.programs in
     let wires : List WireValue = c.args.wires.now.items in
     let wires' : List WireValue = c.serve_child-bench.new.wires.items in
     let r = c.serve_child-bench.result.1 in
@@ -125,15 +124,15 @@ returns-in-Refused-clause-starts g c =
     let new = c.turn_away.new.core.journal in
     let child = c.in-Refused.link.ear.child in
     let answer : Answer = c.not_prepared-answer.result in
-    let desks : List DeskTells = map (λ k. desk_tells (g.K.Desk.log k) (g.K.Desk.counts k)) c.args.bench.desks.items in
+    let desks : List DeskTold = map g.K.Desk.told c.args.bench.desks.items in
     let away : TurnsAway o child mid new answer = subst (λ (w : Opening). TurnsAway w child mid new answer) c.greet.ensures.core.opening c.turn_away.ensures.away in
     let some : 0 < length desks = subst (λ (n : ℕ). 0 < n) (sym (length-map c.args.bench.desks.items _ ∙ sym c.args.bench.desks.ok.0)) c.requires.desks.0 in
     let quiet = away_quiet o c.args.offer old mid new child answer c.in-Refused.ensures.tells.1.undone c.in-Refused.ensures.tells.0 away in
     job_start quiet.more quiet.is
     (one_all quiet.more (quiet_none quiet)
-    (starts_child c.args.plan.now.program new child c.args.offer (programs_value (g.P.Programs.starts c.args.programs.now) (g.P.Programs.faults c.args.programs.now)) (g.P.Programs.starts c.greet.new.programs)
-    (programs_value (g.P.Programs.starts c.finish.new.programs) (g.P.Programs.faults c.finish.new.programs)) (g.P.Programs.faults c.greet.new.programs)
-    c.in-Refused.link.ear c.in-Refused.link.mouth _ _ (subst (λ (p : List ℕ). AddsOne (g.P.Programs.starts c.args.programs.now) (g.P.Programs.starts c.greet.new.programs) (p, true)) c.view-program.ensures c.in-Refused.ensures.starts)
+    (starts_child c.args.plan.now.program new child c.args.offer (g.P.Programs.told c.args.programs.now) (g.P.Programs.told c.greet.new.programs).starts
+    (g.P.Programs.told c.finish.new.programs) (g.P.Programs.told c.greet.new.programs).faults
+    c.in-Refused.link.ear c.in-Refused.link.mouth _ _ (subst (λ (p : List ℕ). AddsOne (g.P.Programs.told c.args.programs.now).starts (g.P.Programs.told c.greet.new.programs).starts (p, true)) c.view-program.ensures c.in-Refused.ensures.starts)
     c.finish.ensures.starts c.in-Refused.ensures.later c.finish.ensures.later c.in-Refused.ensures.numbers refl c.in-Refused.link.one_child
     (lone_held new c.in-Refused.link.ear c.in-Refused.link.mouth (c.turn_away.ensures.wired c.in-Refused.ensures.wired)) c.finish.ensures.laid))
     (stint_any o c.args.plan.now.setup c.args.plan.now.starts c.args.offer c.args.offer (Start child 0 c.args.offer) old new desks some
@@ -149,15 +148,15 @@ returns-in-Ended-clause-starts g c =
     let new = c.turn_away-in-Ended.new.core.journal in
     let child = c.in-Ended.link.ear.child in
     let answer : Answer = Ended c.in-Ended.why in
-    let desks : List DeskTells = map (λ k. desk_tells (g.K.Desk.log k) (g.K.Desk.counts k)) c.args.bench.desks.items in
+    let desks : List DeskTold = map g.K.Desk.told c.args.bench.desks.items in
     let away : TurnsAway o child mid new answer = subst (λ (w : Opening). TurnsAway w child mid new answer) c.greet.ensures.core.opening c.turn_away-in-Ended.ensures.away in
     let some : 0 < length desks = subst (λ (n : ℕ). 0 < n) (sym (length-map c.args.bench.desks.items _ ∙ sym c.args.bench.desks.ok.0)) c.requires.desks.0 in
     let quiet = away_quiet o c.args.offer old mid new child answer c.in-Ended.ensures.tells.1.undone c.in-Ended.ensures.tells.0 away in
     job_start quiet.more quiet.is
     (one_all quiet.more (quiet_none quiet)
-    (starts_child c.args.plan.now.program new child c.args.offer (programs_value (g.P.Programs.starts c.args.programs.now) (g.P.Programs.faults c.args.programs.now)) (g.P.Programs.starts c.greet.new.programs)
-    (programs_value (g.P.Programs.starts c.finish-in-Ended.new.programs) (g.P.Programs.faults c.finish-in-Ended.new.programs)) (g.P.Programs.faults c.greet.new.programs)
-    c.in-Ended.link.ear c.in-Ended.link.mouth _ _ (subst (λ (p : List ℕ). AddsOne (g.P.Programs.starts c.args.programs.now) (g.P.Programs.starts c.greet.new.programs) (p, true)) c.view-program.ensures c.in-Ended.ensures.starts)
+    (starts_child c.args.plan.now.program new child c.args.offer (g.P.Programs.told c.args.programs.now) (g.P.Programs.told c.greet.new.programs).starts
+    (g.P.Programs.told c.finish-in-Ended.new.programs) (g.P.Programs.told c.greet.new.programs).faults
+    c.in-Ended.link.ear c.in-Ended.link.mouth _ _ (subst (λ (p : List ℕ). AddsOne (g.P.Programs.told c.args.programs.now).starts (g.P.Programs.told c.greet.new.programs).starts (p, true)) c.view-program.ensures c.in-Ended.ensures.starts)
     c.finish-in-Ended.ensures.starts c.in-Ended.ensures.later c.finish-in-Ended.ensures.later c.in-Ended.ensures.numbers refl c.in-Ended.link.one_child
     (lone_held new c.in-Ended.link.ear c.in-Ended.link.mouth (c.turn_away-in-Ended.ensures.wired c.in-Ended.ensures.wired)) c.finish-in-Ended.ensures.laid))
     (stint_any o c.args.plan.now.setup c.args.plan.now.starts c.args.offer c.args.offer (Start child 0 c.args.offer) old new desks some
@@ -173,15 +172,15 @@ returns-in-Unsent-clause-starts g c =
     let new = c.turn_away-in-Unsent.new.core.journal in
     let child = c.in-Unsent.link.ear.child in
     let answer : Answer = Unsent in
-    let desks : List DeskTells = map (λ k. desk_tells (g.K.Desk.log k) (g.K.Desk.counts k)) c.args.bench.desks.items in
+    let desks : List DeskTold = map g.K.Desk.told c.args.bench.desks.items in
     let away : TurnsAway o child mid new answer = subst (λ (w : Opening). TurnsAway w child mid new answer) c.greet.ensures.core.opening c.turn_away-in-Unsent.ensures.away in
     let some : 0 < length desks = subst (λ (n : ℕ). 0 < n) (sym (length-map c.args.bench.desks.items _ ∙ sym c.args.bench.desks.ok.0)) c.requires.desks.0 in
     let quiet = away_quiet o c.args.offer old mid new child answer c.in-Unsent.ensures.tells.1.undone c.in-Unsent.ensures.tells.0 away in
     job_start quiet.more quiet.is
     (one_all quiet.more (quiet_none quiet)
-    (starts_child c.args.plan.now.program new child c.args.offer (programs_value (g.P.Programs.starts c.args.programs.now) (g.P.Programs.faults c.args.programs.now)) (g.P.Programs.starts c.greet.new.programs)
-    (programs_value (g.P.Programs.starts c.finish-in-Unsent.new.programs) (g.P.Programs.faults c.finish-in-Unsent.new.programs)) (g.P.Programs.faults c.greet.new.programs)
-    c.in-Unsent.link.ear c.in-Unsent.link.mouth _ _ (subst (λ (p : List ℕ). AddsOne (g.P.Programs.starts c.args.programs.now) (g.P.Programs.starts c.greet.new.programs) (p, true)) c.view-program.ensures c.in-Unsent.ensures.starts)
+    (starts_child c.args.plan.now.program new child c.args.offer (g.P.Programs.told c.args.programs.now) (g.P.Programs.told c.greet.new.programs).starts
+    (g.P.Programs.told c.finish-in-Unsent.new.programs) (g.P.Programs.told c.greet.new.programs).faults
+    c.in-Unsent.link.ear c.in-Unsent.link.mouth _ _ (subst (λ (p : List ℕ). AddsOne (g.P.Programs.told c.args.programs.now).starts (g.P.Programs.told c.greet.new.programs).starts (p, true)) c.view-program.ensures c.in-Unsent.ensures.starts)
     c.finish-in-Unsent.ensures.starts c.in-Unsent.ensures.later c.finish-in-Unsent.ensures.later c.in-Unsent.ensures.numbers refl c.in-Unsent.link.one_child
     (lone_held new c.in-Unsent.link.ear c.in-Unsent.link.mouth (c.turn_away-in-Unsent.ensures.wired c.in-Unsent.ensures.wired)) c.finish-in-Unsent.ensures.laid))
     (stint_any o c.args.plan.now.setup c.args.plan.now.starts c.args.offer c.args.offer (Start child 0 c.args.offer) old new desks some
@@ -195,15 +194,15 @@ returns-in-StartFault-clause-starts g c =
     let old = c.args.bench.core.journal in
     let mid = c.greet.new.core.journal in
     let new = c.answer_one.new.core.journal in
-    let desks : List DeskTells = map (λ k. desk_tells (g.K.Desk.log k) (g.K.Desk.counts k)) c.args.bench.desks.items in
+    let desks : List DeskTold = map g.K.Desk.told c.args.bench.desks.items in
     let one : AnswersOne o mid new (λ t. StartFault) c.answer_one.result = subst (λ (w : Opening). AnswersOne w mid new (λ t. StartFault) c.answer_one.result) c.greet.ensures.core.opening c.answer_one.ensures.answers in
     let some : 0 < length desks = subst (λ (n : ℕ). 0 < n) (sym (length-map c.args.bench.desks.items _ ∙ sym c.args.bench.desks.ok.0)) c.requires.desks.0 in
     let quiet = fault_quiet o old mid new StartFault c.answer_one.result c.in-StartFault.ensures.tells one in
     job_start quiet.more quiet.is
     (one_all quiet.more (quiet_none quiet)
-    (starts_none c.args.plan.now.program new (programs_value (g.P.Programs.starts c.args.programs.now) (g.P.Programs.faults c.args.programs.now))
-    (programs_value (g.P.Programs.starts c.greet.new.programs) (g.P.Programs.faults c.greet.new.programs)) _ _
-    (subst (λ (p : List ℕ). AddsOne (g.P.Programs.starts c.args.programs.now) (g.P.Programs.starts c.greet.new.programs) (p, false)) c.view-program.ensures c.in-StartFault.ensures.starts)
+    (starts_none c.args.plan.now.program new (g.P.Programs.told c.args.programs.now)
+    (g.P.Programs.told c.greet.new.programs) _ _
+    (subst (λ (p : List ℕ). AddsOne (g.P.Programs.told c.args.programs.now).starts (g.P.Programs.told c.greet.new.programs).starts (p, false)) c.view-program.ensures c.in-StartFault.ensures.starts)
     (c.in-StartFault.ensures.fault refl) c.in-StartFault.ensures.later refl))
     (stint_any o c.args.plan.now.setup c.args.plan.now.starts c.args.offer c.args.offer (NoStart 0) old new desks some
     (λ d. fault_stint o c.args.plan.now.setup (more_than new) c.args.offer old mid new d c.requires.left c.requires.calm.idle c.in-StartFault.ensures.tells c.answer_one.result one)

@@ -12,10 +12,10 @@ returns-clause-calls g c =
     made_then c.args.name.now (journal_lines c.args.opening.now c.args.journal.now.entries) _ _ _ c.append_lines.result c.in_default-create.ensures.log c.append_lines.ensures.calls
 
 pub returns-in_default-clause-calls : goal.returns-in_default-clause-calls
-returns-in_default-clause-calls g c = made_nothing c.args.name.now (journal_lines c.args.opening.now c.args.journal.now.entries) (g.D.Desk.log c.args.desk.now)
+returns-in_default-clause-calls g c = made_nothing c.args.name.now (journal_lines c.args.opening.now c.args.journal.now.entries) (g.D.Desk.told c.args.desk.now).log
 
 pub returns-in_default-line_count-clause-calls : goal.returns-in_default-line_count-clause-calls
-returns-in_default-line_count-clause-calls g c = made_nothing c.args.name.now (journal_lines c.args.opening.now c.args.journal.now.entries) (g.D.Desk.log c.args.desk.now)
+returns-in_default-line_count-clause-calls g c = made_nothing c.args.name.now (journal_lines c.args.opening.now c.args.journal.now.entries) (g.D.Desk.told c.args.desk.now).log
 
 pub returns-in_default-lines-clause-calls : goal.returns-in_default-lines-clause-calls
-returns-in_default-lines-clause-calls g c = made_nothing c.args.name.now (journal_lines c.args.opening.now c.args.journal.now.entries) (g.D.Desk.log c.args.desk.now)
+returns-in_default-lines-clause-calls g c = made_nothing c.args.name.now (journal_lines c.args.opening.now c.args.journal.now.entries) (g.D.Desk.told c.args.desk.now).log

@@ -28,7 +28,7 @@ loop-preserved g c =
       can = tt;
       finite = tt;
       wrote =
-          writer_on c.args.writer.now.hall.now c.loop.writer.hall.now c.args.writer.now.pass c.loop.writer.pass c.turn-wrote.new.self.pass (mouth_of (g.W.Sink.taken c.args.writer.now.sink) (half_of (g.W.Sink.faults c.args.writer.now.sink) (g.W.Sink.is_open c.args.writer.now.sink) (g.W.Sink.number c.args.writer.now.sink))) (mouth_of (g.W.Sink.taken c.loop.writer.sink) (half_of (g.W.Sink.faults c.loop.writer.sink) (g.W.Sink.is_open c.loop.writer.sink) (g.W.Sink.number c.loop.writer.sink))) (mouth_of (g.W.Sink.taken c.turn-wrote.new.self.sink) (half_of (g.W.Sink.faults c.turn-wrote.new.self.sink) (g.W.Sink.is_open c.turn-wrote.new.self.sink) (g.W.Sink.number c.turn-wrote.new.self.sink)))
+          writer_on c.args.writer.now.hall.now c.loop.writer.hall.now c.args.writer.now.pass c.loop.writer.pass c.turn-wrote.new.self.pass (mouth_of (g.W.Sink.told c.args.writer.now.sink).taken (half_of (g.W.Sink.told c.args.writer.now.sink).faults (g.W.Sink.told c.args.writer.now.sink).is_open (g.W.Sink.told c.args.writer.now.sink).number)) (mouth_of (g.W.Sink.told c.loop.writer.sink).taken (half_of (g.W.Sink.told c.loop.writer.sink).faults (g.W.Sink.told c.loop.writer.sink).is_open (g.W.Sink.told c.loop.writer.sink).number)) (mouth_of (g.W.Sink.told c.turn-wrote.new.self.sink).taken (half_of (g.W.Sink.told c.turn-wrote.new.self.sink).faults (g.W.Sink.told c.turn-wrote.new.self.sink).is_open (g.W.Sink.told c.turn-wrote.new.self.sink).number))
           c.args.writer.now.why c.loop.writer.why c.turn-wrote.new.self.why i.hall i.wrote c.turn-wrote.ensures.went;
       writer = c.turn-wrote.ensures.can;
       hall = c.turn-wrote.ensures.hall ∙ i.hall;
@@ -38,7 +38,7 @@ loop-preserved g c =
 pub returns-then-not-wrote-clause-wrote : goal.returns-then-not-wrote-clause-wrote
 returns-then-not-wrote-clause-wrote g c =
     let i = c.loop.invariant in
-    writer_on c.args.writer.now.hall.now c.loop.writer.hall.now c.args.writer.now.pass c.loop.writer.pass c.turn-wrote.new.self.pass (mouth_of (g.W.Sink.taken c.args.writer.now.sink) (half_of (g.W.Sink.faults c.args.writer.now.sink) (g.W.Sink.is_open c.args.writer.now.sink) (g.W.Sink.number c.args.writer.now.sink))) (mouth_of (g.W.Sink.taken c.loop.writer.sink) (half_of (g.W.Sink.faults c.loop.writer.sink) (g.W.Sink.is_open c.loop.writer.sink) (g.W.Sink.number c.loop.writer.sink))) (mouth_of (g.W.Sink.taken c.turn-wrote.new.self.sink) (half_of (g.W.Sink.faults c.turn-wrote.new.self.sink) (g.W.Sink.is_open c.turn-wrote.new.self.sink) (g.W.Sink.number c.turn-wrote.new.self.sink)))
+    writer_on c.args.writer.now.hall.now c.loop.writer.hall.now c.args.writer.now.pass c.loop.writer.pass c.turn-wrote.new.self.pass (mouth_of (g.W.Sink.told c.args.writer.now.sink).taken (half_of (g.W.Sink.told c.args.writer.now.sink).faults (g.W.Sink.told c.args.writer.now.sink).is_open (g.W.Sink.told c.args.writer.now.sink).number)) (mouth_of (g.W.Sink.told c.loop.writer.sink).taken (half_of (g.W.Sink.told c.loop.writer.sink).faults (g.W.Sink.told c.loop.writer.sink).is_open (g.W.Sink.told c.loop.writer.sink).number)) (mouth_of (g.W.Sink.told c.turn-wrote.new.self.sink).taken (half_of (g.W.Sink.told c.turn-wrote.new.self.sink).faults (g.W.Sink.told c.turn-wrote.new.self.sink).is_open (g.W.Sink.told c.turn-wrote.new.self.sink).number))
     c.args.writer.now.why c.loop.writer.why c.turn-wrote.new.self.why i.hall i.wrote c.turn-wrote.ensures.went
 
 pub returns-then-not-wrote-clause-workers : goal.returns-then-not-wrote-clause-workers

@@ -15,10 +15,10 @@ pub returns-in_default-clause-own : goal.returns-in_default-clause-own
 returns-in_default-clause-own g c = (fresh_own c.args.site.now.hall.now 1 c.args.kit.passes.items c.requires.fresh, refl)
 
 pub returns-in_default-clause-read : goal.returns-in_default-clause-read
-returns-in_default-clause-read g c = ([], reader_idle c.args.site.now.hall.now c.args.kit.passes.items (length c.args.kit.remotes.items) (ear_of (g.S.Source.given c.args.kit.source) (g.S.Source.left c.args.kit.source) (half_of (g.S.Source.faults c.args.kit.source) (g.S.Source.is_open c.args.kit.source) (g.S.Source.number c.args.kit.source)) []) c.requires.fresh (let long = c.requires.remotes.1 in omega (arith, long, c.args.kit.passes.ok.0, c.args.kit.remotes.ok.0)) c.requires.open.0)
+returns-in_default-clause-read g c = ([], reader_idle c.args.site.now.hall.now c.args.kit.passes.items (length c.args.kit.remotes.items) (ear_of (g.S.Source.told c.args.kit.source).given (g.S.Source.told c.args.kit.source).left (half_of (g.S.Source.told c.args.kit.source).faults (g.S.Source.told c.args.kit.source).is_open (g.S.Source.told c.args.kit.source).number) []) c.requires.fresh (let long = c.requires.remotes.1 in omega (arith, long, c.args.kit.passes.ok.0, c.args.kit.remotes.ok.0)) c.requires.open.0)
 
 pub returns-in_default-clause-wrote : goal.returns-in_default-clause-wrote
-returns-in_default-clause-wrote g c = writer_idle c.args.site.now.hall.now c.args.kit.passes.items (length c.args.kit.remotes.items) (mouth_of (g.W.Sink.taken c.args.kit.sink) (half_of (g.W.Sink.faults c.args.kit.sink) (g.W.Sink.is_open c.args.kit.sink) (g.W.Sink.number c.args.kit.sink))) c.requires.fresh (let long = c.requires.remotes.1 in omega (arith, long, c.args.kit.passes.ok.0, c.args.kit.remotes.ok.0)) c.requires.open.1
+returns-in_default-clause-wrote g c = writer_idle c.args.site.now.hall.now c.args.kit.passes.items (length c.args.kit.remotes.items) (mouth_of (g.W.Sink.told c.args.kit.sink).taken (half_of (g.W.Sink.told c.args.kit.sink).faults (g.W.Sink.told c.args.kit.sink).is_open (g.W.Sink.told c.args.kit.sink).number)) c.requires.fresh (let long = c.requires.remotes.1 in omega (arith, long, c.args.kit.passes.ok.0, c.args.kit.remotes.ok.0)) c.requires.open.1
 
 pub returns-in_default-clause-worked : goal.returns-in_default-clause-worked
 returns-in_default-clause-worked g c = workers_idle (λ k. hand_of (g.K.Remote.calls k) (g.K.Remote.settings k)) c.args.site.now.hall.now c.args.kit.passes.items c.args.kit.remotes.items c.requires.fresh (let long = c.requires.remotes.1 in omega (arith, long, c.args.kit.passes.ok.0, c.args.kit.remotes.ok.0))
@@ -38,7 +38,7 @@ run-crew-requires-clause-reader g c κs within =
     let k = c.cast-crew.ensures in
     let fresh = subst (AreFresh c.args.site.now.hall.now 1) k.passes c.requires.fresh in (
       subst (λ (h : KitHall). Stands h 1 c.cast-crew.result.0.ear.pass) (sym k.holders.0) fresh.0.0,
-      subst (λ s. g.S.Source.is_open s ≡ true) (sym k.reader.0) c.requires.open.0,
+      subst (λ s. (g.S.Source.told s).is_open ≡ true) (sym k.reader.0) c.requires.open.0,
       k.reader.2,
       k.reader.3,
     )
@@ -48,7 +48,7 @@ run-crew-requires-clause-writer g c κs within =
     let k = c.cast-crew.ensures in
     let fresh = subst (AreFresh c.args.site.now.hall.now 1) k.passes c.requires.fresh in (
       subst (λ (h : KitHall). Stands h 2 c.cast-crew.result.0.mouth.pass) (sym k.holders.1) fresh.1.0.0,
-      subst (λ s. g.W.Sink.is_open s ≡ true) (sym k.writer.0) c.requires.open.1,
+      subst (λ s. (g.W.Sink.told s).is_open ≡ true) (sym k.writer.0) c.requires.open.1,
       k.writer.1,
     )
 
@@ -80,24 +80,24 @@ returns-clause-read g c =
     let k = c.cast-crew.ensures in
     let r = c.run-crew.ensures in
     let b = c.gather.ensures in
-    reader_back (λ s held. (ear_of (g.S.Source.given s) (g.S.Source.left s) (half_of (g.S.Source.faults s) (g.S.Source.is_open s) (g.S.Source.number s)) held)) c.args.site.now.hall.now c.gather.result.0.passes.items c.cast-crew.result.0.ear.source c.args.kit.source c.run-crew.result.ear.source c.gather.result.0.source
+    reader_back (λ s held. (ear_of (g.S.Source.told s).given (g.S.Source.told s).left (half_of (g.S.Source.told s).faults (g.S.Source.told s).is_open (g.S.Source.told s).number) held)) c.args.site.now.hall.now c.gather.result.0.passes.items c.cast-crew.result.0.ear.source c.args.kit.source c.run-crew.result.ear.source c.gather.result.0.source
     c.cast-crew.result.0.ear.splitter.bytes c.run-crew.result.ear.splitter.bytes c.run-crew.result.ear.why c.gather.result.1.read k.reader.0 k.reader.1 b.ends.0 b.ends.2
     (reader_did (λ w. w.hall.now) (λ w. w.number) (λ w. w.pass) (λ w. w.remote) (λ k. hand_of (g.K.Remote.calls k) (g.K.Remote.settings k)) c.args.site.now.hall.now c.args.kit.passes.items c.gather.result.0.passes.items
     c.cast-crew.result.0.ear.pass c.run-crew.result.ear.pass c.cast-crew.result.0.mouth.pass c.run-crew.result.mouth.pass c.cast-crew.result.0.workers.items c.run-crew.result.workers.items
     k.passes b.passes k.holders.2 k.numbers c.requires.fresh r.worked
-    c.cast-crew.result.0.ear.hall.now (ear_of (g.S.Source.given c.cast-crew.result.0.ear.source) (g.S.Source.left c.cast-crew.result.0.ear.source) (half_of (g.S.Source.faults c.cast-crew.result.0.ear.source) (g.S.Source.is_open c.cast-crew.result.0.ear.source) (g.S.Source.number c.cast-crew.result.0.ear.source)) c.cast-crew.result.0.ear.splitter.bytes) (ear_of (g.S.Source.given c.run-crew.result.ear.source) (g.S.Source.left c.run-crew.result.ear.source) (half_of (g.S.Source.faults c.run-crew.result.ear.source) (g.S.Source.is_open c.run-crew.result.ear.source) (g.S.Source.number c.run-crew.result.ear.source)) c.run-crew.result.ear.splitter.bytes) c.run-crew.result.ear.why k.holders.0 r.read)
+    c.cast-crew.result.0.ear.hall.now (ear_of (g.S.Source.told c.cast-crew.result.0.ear.source).given (g.S.Source.told c.cast-crew.result.0.ear.source).left (half_of (g.S.Source.told c.cast-crew.result.0.ear.source).faults (g.S.Source.told c.cast-crew.result.0.ear.source).is_open (g.S.Source.told c.cast-crew.result.0.ear.source).number) c.cast-crew.result.0.ear.splitter.bytes) (ear_of (g.S.Source.told c.run-crew.result.ear.source).given (g.S.Source.told c.run-crew.result.ear.source).left (half_of (g.S.Source.told c.run-crew.result.ear.source).faults (g.S.Source.told c.run-crew.result.ear.source).is_open (g.S.Source.told c.run-crew.result.ear.source).number) c.run-crew.result.ear.splitter.bytes) c.run-crew.result.ear.why k.holders.0 r.read)
 
 pub returns-clause-wrote : goal.returns-clause-wrote
 returns-clause-wrote g c =
     let k = c.cast-crew.ensures in
     let r = c.run-crew.ensures in
     let b = c.gather.ensures in
-    writer_back (λ s. (mouth_of (g.W.Sink.taken s) (half_of (g.W.Sink.faults s) (g.W.Sink.is_open s) (g.W.Sink.number s)))) c.args.site.now.hall.now c.gather.result.0.passes.items c.cast-crew.result.0.mouth.sink c.args.kit.sink c.run-crew.result.mouth.sink c.gather.result.0.sink
+    writer_back (λ s. (mouth_of (g.W.Sink.told s).taken (half_of (g.W.Sink.told s).faults (g.W.Sink.told s).is_open (g.W.Sink.told s).number))) c.args.site.now.hall.now c.gather.result.0.passes.items c.cast-crew.result.0.mouth.sink c.args.kit.sink c.run-crew.result.mouth.sink c.gather.result.0.sink
     c.run-crew.result.mouth.why c.gather.result.1.wrote k.writer.0 b.ends.1 b.ends.3
     (writer_did (λ w. w.hall.now) (λ w. w.number) (λ w. w.pass) (λ w. w.remote) (λ k. hand_of (g.K.Remote.calls k) (g.K.Remote.settings k)) c.args.site.now.hall.now c.args.kit.passes.items c.gather.result.0.passes.items
     c.cast-crew.result.0.ear.pass c.run-crew.result.ear.pass c.cast-crew.result.0.mouth.pass c.run-crew.result.mouth.pass c.cast-crew.result.0.workers.items c.run-crew.result.workers.items
     k.passes b.passes k.holders.2 k.numbers c.requires.fresh r.worked
-    c.cast-crew.result.0.mouth.hall.now (mouth_of (g.W.Sink.taken c.cast-crew.result.0.mouth.sink) (half_of (g.W.Sink.faults c.cast-crew.result.0.mouth.sink) (g.W.Sink.is_open c.cast-crew.result.0.mouth.sink) (g.W.Sink.number c.cast-crew.result.0.mouth.sink))) (mouth_of (g.W.Sink.taken c.run-crew.result.mouth.sink) (half_of (g.W.Sink.faults c.run-crew.result.mouth.sink) (g.W.Sink.is_open c.run-crew.result.mouth.sink) (g.W.Sink.number c.run-crew.result.mouth.sink))) c.run-crew.result.mouth.why k.holders.1 r.wrote)
+    c.cast-crew.result.0.mouth.hall.now (mouth_of (g.W.Sink.told c.cast-crew.result.0.mouth.sink).taken (half_of (g.W.Sink.told c.cast-crew.result.0.mouth.sink).faults (g.W.Sink.told c.cast-crew.result.0.mouth.sink).is_open (g.W.Sink.told c.cast-crew.result.0.mouth.sink).number)) (mouth_of (g.W.Sink.told c.run-crew.result.mouth.sink).taken (half_of (g.W.Sink.told c.run-crew.result.mouth.sink).faults (g.W.Sink.told c.run-crew.result.mouth.sink).is_open (g.W.Sink.told c.run-crew.result.mouth.sink).number)) c.run-crew.result.mouth.why k.holders.1 r.wrote)
 
 pub returns-clause-worked : goal.returns-clause-worked
 returns-clause-worked g c =

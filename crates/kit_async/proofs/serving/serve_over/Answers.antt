@@ -12,10 +12,10 @@ returns-clause-serves g c =
     let p = c.play-kit.ensures in
     let e = c.end.ensures in
     let b = c.in-Ok.ensures.hall in
-    served g.K.Remote.settings g.K.Remote.calls g.S.Source.given g.S.Source.left (λ s. (half_of (g.S.Source.faults s) (g.S.Source.is_open s) (g.S.Source.number s))) g.W.Sink.taken (λ w. (half_of (g.W.Sink.faults w) (g.W.Sink.is_open w) (g.W.Sink.number w)))
+    served g.K.Remote.settings g.K.Remote.calls g.S.Source.given (g.S.Source.told (λ s. (half_of (g.S.Source.told s).faults (g.S.Source.told s).is_open (g.S.Source.told s).number))).left (g.W.Sink.told (λ w. (half_of (g.W.Sink.told w).faults (g.W.Sink.told w).is_open (g.W.Sink.told w).number))).taken
     c.in-Ok.hall c.play-kit.result.0.passes.items c.args.source c.end.result.source c.args.sink c.end.result.sink c.args.remotes.items c.end.result.remotes.items p.read.0 c.play-kit.result.1.read c.play-kit.result.1.wrote c.end.result.journal
-    (subst (λ x. ReaderDid c.in-Ok.hall c.play-kit.result.0.passes.items (ear_of (g.S.Source.given c.args.source) (g.S.Source.left c.args.source) (half_of (g.S.Source.faults c.args.source) (g.S.Source.is_open c.args.source) (g.S.Source.number c.args.source)) []) (ear_of (g.S.Source.given x) (g.S.Source.left x) (half_of (g.S.Source.faults x) (g.S.Source.is_open x) (g.S.Source.number x)) p.read.0) c.play-kit.result.1.read) (sym e.kept.1) p.read.1)
-    (subst (λ x. WriterDid c.in-Ok.hall c.play-kit.result.0.passes.items (mouth_of (g.W.Sink.taken c.args.sink) (half_of (g.W.Sink.faults c.args.sink) (g.W.Sink.is_open c.args.sink) (g.W.Sink.number c.args.sink))) (mouth_of (g.W.Sink.taken x) (half_of (g.W.Sink.faults x) (g.W.Sink.is_open x) (g.W.Sink.number x))) c.play-kit.result.1.wrote) (sym e.kept.2) p.wrote)
+    (subst (λ x. ReaderDid c.in-Ok.hall c.play-kit.result.0.passes.items (ear_of (g.S.Source.told c.args.source).given (g.S.Source.told c.args.source).left (half_of (g.S.Source.told c.args.source).faults (g.S.Source.told c.args.source).is_open (g.S.Source.told c.args.source).number) []) (ear_of (g.S.Source.told x).given (g.S.Source.told x).left (half_of (g.S.Source.told x).faults (g.S.Source.told x).is_open (g.S.Source.told x).number) p.read.0) c.play-kit.result.1.read) (sym e.kept.1) p.read.1)
+    (subst (λ x. WriterDid c.in-Ok.hall c.play-kit.result.0.passes.items (mouth_of (g.W.Sink.told c.args.sink).taken (half_of (g.W.Sink.told c.args.sink).faults (g.W.Sink.told c.args.sink).is_open (g.W.Sink.told c.args.sink).number)) (mouth_of (g.W.Sink.told x).taken (half_of (g.W.Sink.told x).faults (g.W.Sink.told x).is_open (g.W.Sink.told x).number)) c.play-kit.result.1.wrote) (sym e.kept.2) p.wrote)
     (subst (λ x. AllWorked c.in-Ok.hall c.play-kit.result.0.passes.items 0 (map (λ k. hand_of (g.K.Remote.calls k) (g.K.Remote.settings k)) c.args.remotes.items) (map (λ k. hand_of (g.K.Remote.calls k) (g.K.Remote.settings k)) x.items)) (sym e.kept.0) p.worked)
     e.why
     c.args.setup e.closed b.0 b.1
@@ -24,10 +24,10 @@ pub returns-clause-causes : goal.returns-clause-causes
 returns-clause-causes g c =
     let p = c.play-kit.ensures in
     let e = c.end.ensures in
-    caused g.K.Remote.settings g.K.Remote.calls g.S.Source.given g.S.Source.left (λ s. (half_of (g.S.Source.faults s) (g.S.Source.is_open s) (g.S.Source.number s))) g.W.Sink.taken (λ w. (half_of (g.W.Sink.faults w) (g.W.Sink.is_open w) (g.W.Sink.number w)))
+    caused g.K.Remote.settings g.K.Remote.calls g.S.Source.given (g.S.Source.told (λ s. (half_of (g.S.Source.told s).faults (g.S.Source.told s).is_open (g.S.Source.told s).number))).left (g.W.Sink.told (λ w. (half_of (g.W.Sink.told w).faults (g.W.Sink.told w).is_open (g.W.Sink.told w).number))).taken
     c.in-Ok.hall c.play-kit.result.0.passes.items c.args.source c.end.result.source c.args.sink c.end.result.sink c.args.remotes.items c.end.result.remotes.items p.read.0 c.play-kit.result.1.read c.play-kit.result.1.wrote c.end.result.journal
-    (subst (λ x. ReaderDid c.in-Ok.hall c.play-kit.result.0.passes.items (ear_of (g.S.Source.given c.args.source) (g.S.Source.left c.args.source) (half_of (g.S.Source.faults c.args.source) (g.S.Source.is_open c.args.source) (g.S.Source.number c.args.source)) []) (ear_of (g.S.Source.given x) (g.S.Source.left x) (half_of (g.S.Source.faults x) (g.S.Source.is_open x) (g.S.Source.number x)) p.read.0) c.play-kit.result.1.read) (sym e.kept.1) p.read.1)
-    (subst (λ x. WriterDid c.in-Ok.hall c.play-kit.result.0.passes.items (mouth_of (g.W.Sink.taken c.args.sink) (half_of (g.W.Sink.faults c.args.sink) (g.W.Sink.is_open c.args.sink) (g.W.Sink.number c.args.sink))) (mouth_of (g.W.Sink.taken x) (half_of (g.W.Sink.faults x) (g.W.Sink.is_open x) (g.W.Sink.number x))) c.play-kit.result.1.wrote) (sym e.kept.2) p.wrote)
+    (subst (λ x. ReaderDid c.in-Ok.hall c.play-kit.result.0.passes.items (ear_of (g.S.Source.told c.args.source).given (g.S.Source.told c.args.source).left (half_of (g.S.Source.told c.args.source).faults (g.S.Source.told c.args.source).is_open (g.S.Source.told c.args.source).number) []) (ear_of (g.S.Source.told x).given (g.S.Source.told x).left (half_of (g.S.Source.told x).faults (g.S.Source.told x).is_open (g.S.Source.told x).number) p.read.0) c.play-kit.result.1.read) (sym e.kept.1) p.read.1)
+    (subst (λ x. WriterDid c.in-Ok.hall c.play-kit.result.0.passes.items (mouth_of (g.W.Sink.told c.args.sink).taken (half_of (g.W.Sink.told c.args.sink).faults (g.W.Sink.told c.args.sink).is_open (g.W.Sink.told c.args.sink).number)) (mouth_of (g.W.Sink.told x).taken (half_of (g.W.Sink.told x).faults (g.W.Sink.told x).is_open (g.W.Sink.told x).number)) c.play-kit.result.1.wrote) (sym e.kept.2) p.wrote)
     (subst (λ x. AllWorked c.in-Ok.hall c.play-kit.result.0.passes.items 0 (map (λ k. hand_of (g.K.Remote.calls k) (g.K.Remote.settings k)) c.args.remotes.items) (map (λ k. hand_of (g.K.Remote.calls k) (g.K.Remote.settings k)) x.items)) (sym e.kept.0) p.worked)
     e.why
 
@@ -35,9 +35,9 @@ pub returns-clause-settings : goal.returns-clause-settings
 returns-clause-settings g c =
     let p = c.play-kit.ensures in
     let e = c.end.ensures in
-    same_settings g.K.Remote.settings g.K.Remote.calls g.S.Source.given g.S.Source.left (λ s. (half_of (g.S.Source.faults s) (g.S.Source.is_open s) (g.S.Source.number s))) g.W.Sink.taken (λ w. (half_of (g.W.Sink.faults w) (g.W.Sink.is_open w) (g.W.Sink.number w)))
+    same_settings g.K.Remote.settings g.K.Remote.calls g.S.Source.given (g.S.Source.told (λ s. (half_of (g.S.Source.told s).faults (g.S.Source.told s).is_open (g.S.Source.told s).number))).left (g.W.Sink.told (λ w. (half_of (g.W.Sink.told w).faults (g.W.Sink.told w).is_open (g.W.Sink.told w).number))).taken
     c.in-Ok.hall c.play-kit.result.0.passes.items c.args.source c.end.result.source c.args.sink c.end.result.sink c.args.remotes.items c.end.result.remotes.items p.read.0 c.play-kit.result.1.read c.play-kit.result.1.wrote c.end.result.journal
-    (subst (λ x. ReaderDid c.in-Ok.hall c.play-kit.result.0.passes.items (ear_of (g.S.Source.given c.args.source) (g.S.Source.left c.args.source) (half_of (g.S.Source.faults c.args.source) (g.S.Source.is_open c.args.source) (g.S.Source.number c.args.source)) []) (ear_of (g.S.Source.given x) (g.S.Source.left x) (half_of (g.S.Source.faults x) (g.S.Source.is_open x) (g.S.Source.number x)) p.read.0) c.play-kit.result.1.read) (sym e.kept.1) p.read.1)
-    (subst (λ x. WriterDid c.in-Ok.hall c.play-kit.result.0.passes.items (mouth_of (g.W.Sink.taken c.args.sink) (half_of (g.W.Sink.faults c.args.sink) (g.W.Sink.is_open c.args.sink) (g.W.Sink.number c.args.sink))) (mouth_of (g.W.Sink.taken x) (half_of (g.W.Sink.faults x) (g.W.Sink.is_open x) (g.W.Sink.number x))) c.play-kit.result.1.wrote) (sym e.kept.2) p.wrote)
+    (subst (λ x. ReaderDid c.in-Ok.hall c.play-kit.result.0.passes.items (ear_of (g.S.Source.told c.args.source).given (g.S.Source.told c.args.source).left (half_of (g.S.Source.told c.args.source).faults (g.S.Source.told c.args.source).is_open (g.S.Source.told c.args.source).number) []) (ear_of (g.S.Source.told x).given (g.S.Source.told x).left (half_of (g.S.Source.told x).faults (g.S.Source.told x).is_open (g.S.Source.told x).number) p.read.0) c.play-kit.result.1.read) (sym e.kept.1) p.read.1)
+    (subst (λ x. WriterDid c.in-Ok.hall c.play-kit.result.0.passes.items (mouth_of (g.W.Sink.told c.args.sink).taken (half_of (g.W.Sink.told c.args.sink).faults (g.W.Sink.told c.args.sink).is_open (g.W.Sink.told c.args.sink).number)) (mouth_of (g.W.Sink.told x).taken (half_of (g.W.Sink.told x).faults (g.W.Sink.told x).is_open (g.W.Sink.told x).number)) c.play-kit.result.1.wrote) (sym e.kept.2) p.wrote)
     (subst (λ x. AllWorked c.in-Ok.hall c.play-kit.result.0.passes.items 0 (map (λ k. hand_of (g.K.Remote.calls k) (g.K.Remote.settings k)) c.args.remotes.items) (map (λ k. hand_of (g.K.Remote.calls k) (g.K.Remote.settings k)) x.items)) (sym e.kept.0) p.worked)
     e.why

@@ -10,6 +10,6 @@ invariant-loop g l = record {
   finite : (goal.iterator-loop g).is_finite l.iterator';
   limit : l.splitter.limit ≡ longest_line;
   ran : ReaderRan l.hall l.initial.pass l.pass
-      (ear_of (g.S.Source.given l.initial.source) (g.S.Source.left l.initial.source) (half_of (g.S.Source.faults l.initial.source) (g.S.Source.is_open l.initial.source) (g.S.Source.number l.initial.source)) l.initial.splitter.bytes)
-      (ear_of (g.S.Source.given l.source) (g.S.Source.left l.source) (half_of (g.S.Source.faults l.source) (g.S.Source.is_open l.source) (g.S.Source.number l.source)) l.splitter.bytes) None;
+      (ear_of (g.S.Source.told l.initial.source).given (g.S.Source.told l.initial.source).left (half_of (g.S.Source.told l.initial.source).faults (g.S.Source.told l.initial.source).is_open (g.S.Source.told l.initial.source).number) l.initial.splitter.bytes)
+      (ear_of (g.S.Source.told l.source).given (g.S.Source.told l.source).left (half_of (g.S.Source.told l.source).faults (g.S.Source.told l.source).is_open (g.S.Source.told l.source).number) l.splitter.bytes) None;
 }

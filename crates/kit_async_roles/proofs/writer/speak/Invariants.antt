@@ -8,6 +8,6 @@ invariant-loop g l = record {
   can : (goal.iterator-loop g).can_next l.iterator';
   finite : (goal.iterator-loop g).is_finite l.iterator';
   ran : WriterRan l.hall l.initial.pass l.pass
-      (mouth_of (g.W.Sink.taken l.initial.sink) (half_of (g.W.Sink.faults l.initial.sink) (g.W.Sink.is_open l.initial.sink) (g.W.Sink.number l.initial.sink)))
-      (mouth_of (g.W.Sink.taken l.sink) (half_of (g.W.Sink.faults l.sink) (g.W.Sink.is_open l.sink) (g.W.Sink.number l.sink))) None;
+      (mouth_of (g.W.Sink.told l.initial.sink).taken (half_of (g.W.Sink.told l.initial.sink).faults (g.W.Sink.told l.initial.sink).is_open (g.W.Sink.told l.initial.sink).number))
+      (mouth_of (g.W.Sink.told l.sink).taken (half_of (g.W.Sink.told l.sink).faults (g.W.Sink.told l.sink).is_open (g.W.Sink.told l.sink).number)) None;
 }

@@ -10,7 +10,7 @@ enter-requires g c = numbered _ _ _ c.requires.stands
 
 pub returns-in-Ok : goal.returns-in-Ok
 returns-in-Ok g c =
-    let took = subst (λ (l : List ℕ). Appends (g.W.Sink.taken c.args.sink.now) (g.W.Sink.taken c.put.new.sink) (l ++ 10 ∷ [])) c.view.ensures c.in-Ok.ensures.ok in
+    let took = subst (λ (l : List ℕ). Appends (g.W.Sink.told c.args.sink.now).taken (g.W.Sink.told c.put.new.sink).taken (l ++ 10 ∷ [])) c.view.ensures c.in-Ok.ensures.ok in
     record {
       ran =
           ran_put _ _ _ _ _ _ c.put.result _ c.requires.stands c.enter.ensures.stands (answered _ _ _ Wrote c.enter.result (c.enter.ensures.free refl) c.enter.ensures.some)
@@ -22,7 +22,7 @@ stop_for-requires g c = numbered _ _ _ c.requires.stands
 
 pub returns-in-Err : goal.returns-in-Err
 returns-in-Err g c =
-    let took = subst (λ (l : List ℕ). (n : ℕ) × Appends (g.W.Sink.taken c.args.sink.now) (g.W.Sink.taken c.put.new.sink) (take n (l ++ 10 ∷ []))) c.view.ensures c.put.ensures.prefix in
+    let took = subst (λ (l : List ℕ). (n : ℕ) × Appends (g.W.Sink.told c.args.sink.now).taken (g.W.Sink.told c.put.new.sink).taken (take n (l ++ 10 ∷ []))) c.view.ensures c.put.ensures.prefix in
     record {
       ran =
           ran_failed _ _ _ _ _ _ c.put.result _ c.stop_for.result c.requires.stands c.stop_for.ensures.stands c.stop_for.ensures.broken

@@ -13,17 +13,17 @@ talk-end-requires-clause-begins g c = begins_spoke g.R.Remote.settings g.R.Remot
 pub returns-clause-serves : goal.returns-clause-serves
 returns-clause-serves g c =
     let settings = g.R.Remote.settings in
-    let before : Bytes = record { given = g.S.Source.given c.args.source.now; taken = g.W.Sink.taken c.args.sink.now } in
-    let after : Bytes = record { given = g.S.Source.given c.talk-end.new.source; taken = g.W.Sink.taken c.talk-end.new.sink } in
+    let before : Bytes = record { given = (g.S.Source.told c.args.source.now).given; taken = (g.W.Sink.told c.args.sink.now).taken } in
+    let after : Bytes = record { given = (g.S.Source.told c.talk-end.new.source).given; taken = (g.W.Sink.told c.talk-end.new.sink).taken } in
     let calls = g.R.Remote.calls in
-    let ended : Ended (settings c.args.remote) (record { given = g.S.Source.given c.args.source.now; taken = g.W.Sink.taken c.args.sink.now; calls = calls c.args.remote })
-    (record { given = g.S.Source.given c.talk-end.new.source; taken = g.W.Sink.taken c.talk-end.new.sink; calls = calls c.close.result }) c.talk-end.result =
+    let ended : Ended (settings c.args.remote) (record { given = (g.S.Source.told c.args.source.now).given; taken = (g.W.Sink.told c.args.sink.now).taken; calls = calls c.args.remote })
+    (record { given = (g.S.Source.told c.talk-end.new.source).given; taken = (g.W.Sink.told c.talk-end.new.sink).taken; calls = calls c.close.result }) c.talk-end.result =
     rw (← c.new-kit.ensures.remote, c.close.ensures) (ended_of settings calls c.new-kit.result c.talk-end.new.voice before after c.talk-end.result c.talk-end.ensures.ended) in
     record { end = c.talk-end.result; is = c.status.ensures; ended = ended }
 
 pub returns-clause-settings : goal.returns-clause-settings
 returns-clause-settings g c =
     let settings = g.R.Remote.settings in
-    let before : Bytes = record { given = g.S.Source.given c.args.source.now; taken = g.W.Sink.taken c.args.sink.now } in
-    let after : Bytes = record { given = g.S.Source.given c.talk-end.new.source; taken = g.W.Sink.taken c.talk-end.new.sink } in
+    let before : Bytes = record { given = (g.S.Source.told c.args.source.now).given; taken = (g.W.Sink.told c.args.sink.now).taken } in
+    let after : Bytes = record { given = (g.S.Source.told c.talk-end.new.source).given; taken = (g.W.Sink.told c.talk-end.new.sink).taken } in
     ap settings c.close.ensures ∙ settings_kept settings g.R.Remote.calls c.new-kit.result c.talk-end.new.voice before after c.talk-end.result c.talk-end.ensures.ended ∙ ap settings c.new-kit.ensures.remote

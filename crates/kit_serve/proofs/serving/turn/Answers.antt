@@ -13,9 +13,9 @@ pub returns-in-Line-clause-goes : goal.returns-in-Line-clause-goes
 returns-in-Line-clause-goes g c =
     let v = g.V.Voice in
     let held = c.args.splitter.now.bytes in
-    heard_goes v.spoke v.is_over v.is_foul v.lacks (g.S.Source.given c.args.source.now) (g.W.Sink.taken c.args.sink.now) (g.W.Sink.taken c.hear-heard.new.sink)
+    heard_goes v.spoke v.is_over v.is_foul v.lacks (g.S.Source.told c.args.source.now).given (g.W.Sink.told c.args.sink.now).taken (g.W.Sink.told c.hear-heard.new.sink).taken
     c.args.voice.now c.hear-heard.new.voice held c.drop_line.new.self.bytes c.hear-heard.result
-    (subst (λ (l : List ℕ). Hears v.spoke v.is_over v.is_foul v.lacks c.args.voice.now c.hear-heard.new.voice (g.W.Sink.taken c.args.sink.now) (g.W.Sink.taken c.hear-heard.new.sink) l c.hear-heard.result)
+    (subst (λ (l : List ℕ). Hears v.spoke v.is_over v.is_foul v.lacks c.args.voice.now c.hear-heard.new.voice (g.W.Sink.told c.args.sink.now).taken (g.W.Sink.told c.hear-heard.new.sink).taken l c.hear-heard.result)
     c.in-Line.ensures.next.1 c.hear-heard.ensures.heard)
     c.drop_line.ensures.cut (subst (λ (n : ℕ). IsTrue (has_line n held)) c.requires.limit c.in-Line.ensures.next.0)
 
@@ -23,9 +23,9 @@ pub returns-in-Line-clause-ended : goal.returns-in-Line-clause-ended
 returns-in-Line-clause-ended g c =
     let v = g.V.Voice in
     let held = c.args.splitter.now.bytes in
-    heard_ends v.spoke v.is_over v.is_foul v.lacks (g.S.Source.given c.args.source.now) (g.W.Sink.taken c.args.sink.now) (g.W.Sink.taken c.hear-heard.new.sink)
+    heard_ends v.spoke v.is_over v.is_foul v.lacks (g.S.Source.told c.args.source.now).given (g.W.Sink.told c.args.sink.now).taken (g.W.Sink.told c.hear-heard.new.sink).taken
     c.args.voice.now c.hear-heard.new.voice held c.drop_line.new.self.bytes c.hear-heard.result
-    (subst (λ (l : List ℕ). Hears v.spoke v.is_over v.is_foul v.lacks c.args.voice.now c.hear-heard.new.voice (g.W.Sink.taken c.args.sink.now) (g.W.Sink.taken c.hear-heard.new.sink) l c.hear-heard.result)
+    (subst (λ (l : List ℕ). Hears v.spoke v.is_over v.is_foul v.lacks c.args.voice.now c.hear-heard.new.voice (g.W.Sink.told c.args.sink.now).taken (g.W.Sink.told c.hear-heard.new.sink).taken l c.hear-heard.result)
     c.in-Line.ensures.next.1 c.hear-heard.ensures.heard)
     c.drop_line.ensures.cut c.drop_line.ensures.line (subst (λ (n : ℕ). IsTrue (has_line n held)) c.requires.limit c.in-Line.ensures.next.0) c.requires.live
 
@@ -39,14 +39,14 @@ returns-in-Long-clause-ended g c =
 
 pub returns-in-More-clause-goes : goal.returns-in-More-clause-goes
 returns-in-More-clause-goes g c =
-    read_goes g.V.Voice.spoke (g.S.Source.given c.args.source.now) (g.S.Source.given c.fill.new.source) (g.W.Sink.taken c.args.sink.now) c.args.voice.now
+    read_goes g.V.Voice.spoke (g.S.Source.told c.args.source.now).given (g.S.Source.told c.fill.new.source).given (g.W.Sink.told c.args.sink.now).taken c.args.voice.now
     c.args.splitter.now.bytes c.fill.new.splitter.bytes c.fill.result c.fill.ensures.reads
 
 pub returns-in-More-clause-ended : goal.returns-in-More-clause-ended
 returns-in-More-clause-ended g c =
     let v = g.V.Voice in
     let held = c.args.splitter.now.bytes in
-    read_ends v.spoke v.is_over v.is_foul v.lacks (g.S.Source.given c.args.source.now) (g.S.Source.given c.fill.new.source) (g.W.Sink.taken c.args.sink.now) c.args.voice.now
+    read_ends v.spoke v.is_over v.is_foul v.lacks (g.S.Source.told c.args.source.now).given (g.S.Source.told c.fill.new.source).given (g.W.Sink.told c.args.sink.now).taken c.args.voice.now
     held c.fill.new.splitter.bytes c.fill.result c.fill.ensures.reads c.fill.ensures.kept
     (no_line held (subst (λ (n : ℕ). IsTrue (not (has_line n held))) c.requires.limit c.in-More.ensures.next.0)
     (subst (λ (n : ℕ). length held ≤ n) c.requires.limit c.in-More.ensures.next.1)) c.requires.live c.fill.ensures.others.0 c.fill.ensures.others.1

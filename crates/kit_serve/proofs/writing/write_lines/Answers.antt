@@ -13,8 +13,8 @@ loop-line-preserved g c =
     let within : i < length ls = omega arith in
     let line : get_or ls i [] ≡ c.view.result.now = sym (get_or_read ls i _ within c.line-item.is []) ∙ sym c.view.ensures in
     record {
-      took = subst (λ (l : List ℕ). Appends (g.W.Sink.taken c.args.sink.now) (g.W.Sink.taken c.write_line.new.sink) l) (text_next ls i c.view.result.now within line)
-          (appends_both (g.W.Sink.taken c.args.sink.now) (g.W.Sink.taken c.loop-line.sink) (g.W.Sink.taken c.write_line.new.sink) (text (take i ls)) (c.view.result.now ++ 10 ∷ [])
+      took = subst (λ (l : List ℕ). Appends (g.W.Sink.told c.args.sink.now).taken (g.W.Sink.told c.write_line.new.sink).taken l) (text_next ls i c.view.result.now within line)
+          (appends_both (g.W.Sink.told c.args.sink.now).taken (g.W.Sink.told c.loop-line.sink).taken (g.W.Sink.told c.write_line.new.sink).taken (text (take i ls)) (c.view.result.now ++ 10 ∷ [])
           c.loop-line.invariant.took c.in_ok-write_line.ensures.ok);
       silent = λ untold. c.write_line.ensures.silent (c.loop-line.invariant.silent untold);
       quiet = c.in_ok-write_line.ensures.done ∙ c.loop-line.invariant.quiet;
@@ -29,9 +29,9 @@ returns-in_err-write_line-clause-prefix g c =
     let i : ℕ = c.loop-line.line-index in
     let within : i < length ls = omega arith in
     let line : get_or ls i [] ≡ c.view.result.now = sym (get_or_read ls i _ within c.line-item.is []) ∙ sym c.view.ensures in
-    subst (λ (l : List ℕ). (n : ℕ) × Appends (g.W.Sink.taken c.args.sink.now) (g.W.Sink.taken c.write_line.new.sink) (take n l))
+    subst (λ (l : List ℕ). (n : ℕ) × Appends (g.W.Sink.told c.args.sink.now).taken (g.W.Sink.told c.write_line.new.sink).taken (take n l))
     (sym (text_behind ls i c.view.result.now within line) ∙ ap text c.view-line-items.ensures)
-    (prefix_more (g.W.Sink.taken c.args.sink.now) (g.W.Sink.taken c.loop-line.sink) (g.W.Sink.taken c.write_line.new.sink) (text (take i ls)) (c.view.result.now ++ 10 ∷ []) (text (drop (i + 1) ls))
+    (prefix_more (g.W.Sink.told c.args.sink.now).taken (g.W.Sink.told c.loop-line.sink).taken (g.W.Sink.told c.write_line.new.sink).taken (text (take i ls)) (c.view.result.now ++ 10 ∷ []) (text (drop (i + 1) ls))
     c.loop-line.invariant.took c.write_line.ensures.prefix)
 
 pub returns-clause-prefix : goal.returns-clause-prefix
@@ -39,6 +39,6 @@ returns-clause-prefix g c =
     let ls : List (List ℕ) = c.view-line-items.result.now in
     let i : ℕ = c.loop-line.line-index in
     let past : length ls ≤ i = omega arith in
-    prefix_whole (g.W.Sink.taken c.args.sink.now) (g.W.Sink.taken c.hand_on.new.self) (text c.args.lines.now)
-    (subst (λ t. Appends (g.W.Sink.taken c.args.sink.now) t (text c.args.lines.now)) (sym c.hand_on.ensures.bytes)
-    (subst (λ (l : List ℕ). Appends (g.W.Sink.taken c.args.sink.now) (g.W.Sink.taken c.loop-line.sink) l) (text_all ls i past ∙ ap text c.view-line-items.ensures) c.loop-line.invariant.took))
+    prefix_whole (g.W.Sink.told c.args.sink.now).taken (g.W.Sink.told c.hand_on.new.self).taken (text c.args.lines.now)
+    (subst (λ t. Appends (g.W.Sink.told c.args.sink.now).taken t (text c.args.lines.now)) (sym c.hand_on.ensures.bytes)
+    (subst (λ (l : List ℕ). Appends (g.W.Sink.told c.args.sink.now).taken (g.W.Sink.told c.loop-line.sink).taken l) (text_all ls i past ∙ ap text c.view-line-items.ensures) c.loop-line.invariant.took))

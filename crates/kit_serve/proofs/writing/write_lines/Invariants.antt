@@ -7,10 +7,10 @@ use Rattle.kit_serve.proofs.writing.write_lines.Given as goal
 -- the lines so far were written
 abbrev pub invariant-loop-line : goal.invariant-loop-line
 invariant-loop-line g l = record {
-  took : Appends (g.W.Sink.taken l.initial.sink) (g.W.Sink.taken l.sink) (text (take l.line-index l.line-items));
-  silent : StaysUntold (g.W.Sink.taken l.initial.sink) (g.W.Sink.taken l.sink);
-  quiet : g.W.Sink.faults l.sink ≡ g.W.Sink.faults l.initial.sink;
-  later : g.W.Sink.faults l.initial.sink ≤ g.W.Sink.faults l.sink;
-  opened : g.W.Sink.is_open l.sink ≡ true;
-  number : g.W.Sink.number l.sink ≡ g.W.Sink.number l.initial.sink;
+  took : Appends (g.W.Sink.told l.initial.sink).taken (g.W.Sink.told l.sink).taken (text (take l.line-index l.line-items));
+  silent : StaysUntold (g.W.Sink.told l.initial.sink).taken (g.W.Sink.told l.sink).taken;
+  quiet : (g.W.Sink.told l.sink).faults ≡ (g.W.Sink.told l.initial.sink).faults;
+  later : (g.W.Sink.told l.initial.sink).faults ≤ (g.W.Sink.told l.sink).faults;
+  opened : (g.W.Sink.told l.sink).is_open ≡ true;
+  number : (g.W.Sink.told l.sink).number ≡ (g.W.Sink.told l.initial.sink).number;
 }

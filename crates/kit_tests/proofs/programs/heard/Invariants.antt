@@ -2,4 +2,4 @@ use Rattle.std.proofs.Common.{◌≡◌, true}
 use Rattle.kit_tests.proofs.programs.heard.Given as goal
 
 abbrev pub invariant-loop : goal.invariant-loop
-invariant-loop g l = g.S.Source.is_open l.source ≡ true
+invariant-loop g l = (g.S.Source.told l.source).is_open ≡ true

@@ -2,4 +2,4 @@ use Rattle.std.proofs.Common.{◌≡◌, true}
 use Rattle.kit_tests.proofs.programs.talks.Given as goal
 
 abbrev pub invariant-loop : goal.invariant-loop
-invariant-loop g l = (g.I.Sink.is_open l.inlet ≡ true) × (g.O.Source.is_open l.outlet ≡ true)
+invariant-loop g l = ((g.I.Sink.told l.inlet).is_open ≡ true) × ((g.O.Source.told l.outlet).is_open ≡ true)

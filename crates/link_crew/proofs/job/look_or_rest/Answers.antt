@@ -12,13 +12,13 @@ none_there (Some v) h = absurd cc
 pub rest-requires : goal.rest-requires
 rest-requires g c = record {
   waits =
-      unsettled_waits (g.D.Door.opening c.verdict-settled.new.door) (g.D.Door.number c.verdict-settled.new.door) c.args.child c.args.job (g.D.Door.seen c.verdict-settled.new.door)
+      unsettled_waits (g.D.Door.view c.verdict-settled.new.door).opening (g.D.Door.view c.verdict-settled.new.door).number c.args.child c.args.job (g.D.Door.view c.verdict-settled.new.door).seen
       (asked_then c.args.child c.args.job c.verdict-settled.ensures.passed c.requires.asked)
       (sym c.verdict-settled.ensures.verdict ∙ none_there c.verdict-settled.result c.if-is_none.ensures);
 }
 
 pub returns-then-is_none-clause-grows : goal.returns-then-is_none-clause-grows
-returns-then-is_none-clause-grows g c = grows_seen c.rest.ensures.seen (grows_on c.verdict-settled.ensures.passed)
+returns-then-is_none-clause-grows g c = grows_seen (ap (λ d. d.seen) c.rest.ensures) (grows_on c.verdict-settled.ensures.passed)
 
 pub returns-else-is_none-clause-grows : goal.returns-else-is_none-clause-grows
 returns-else-is_none-clause-grows g c = grows_on c.verdict-settled.ensures.passed

@@ -8,7 +8,7 @@ abbrev pub invariant-loop : goal.invariant-loop
 invariant-loop g l = record {
   can : (goal.iterator-loop g).can_next l.iterator';
   finite : (goal.iterator-loop g).is_finite l.iterator';
-  asked : is_asked (g.D.Door.seen l.door) l.child l.job ≡ true;
-  grows : Grows (g.D.Door.number l.initial.door) (g.D.Door.alone l.initial.door) never (g.D.Door.seen l.initial.door) (g.D.Door.seen l.door);
-  door : IsSameDoor g.D.Door.opening g.D.Door.number g.D.Door.seen g.D.Door.alone g.D.Door.loans g.D.Door.home l.initial.door l.door;
+  asked : is_asked (g.D.Door.view l.door).seen l.child l.job ≡ true;
+  grows : Grows (g.D.Door.view l.initial.door).number (g.D.Door.view l.initial.door).alone never (g.D.Door.view l.initial.door).seen (g.D.Door.view l.door).seen;
+  door : IsSameDoor (g.D.Door.view l.initial.door) (g.D.Door.view l.door);
 }

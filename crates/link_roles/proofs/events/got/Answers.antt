@@ -5,7 +5,7 @@ use Rattle.link_roles.proofs.events.got.Goals as goal
 
 pub returns-in-Ok-clause-ok : goal.returns-in-Ok-clause-ok
 returns-in-Ok-clause-ok g c =
-    let o = g.D.Door.opening c.args.door.now in
-    let n = g.D.Door.number c.args.door.now in
-    subst (λ (b : Bool). Takes o n (g.D.Door.alone c.args.door.now) (g.D.Door.seen c.args.door.now) (g.D.Door.seen c.step.new.door) c.args.child c.args.line b) (sym c.is_done.ensures)
+    let o = (g.D.Door.view c.args.door.now).opening in
+    let n = (g.D.Door.view c.args.door.now).number in
+    subst (λ (b : Bool). Takes o n (g.D.Door.view c.args.door.now).alone (g.D.Door.view c.args.door.now).seen (g.D.Door.view c.step.new.door).seen c.args.child c.args.line b) (sym c.is_done.ensures)
     (got_so c.args.child c.args.line c.requires.started c.requires.line c.in-Ok.ensures.stepped)

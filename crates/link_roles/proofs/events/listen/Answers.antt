@@ -6,15 +6,15 @@ use Rattle.link_roles.proofs.events.listen.Goals as goal
 
 pub returns-clause-passed : goal.returns-clause-passed
 returns-clause-passed g c =
-    let o = g.D.Door.opening c.args.door.now in
-    let n = g.D.Door.number c.args.door.now in
+    let o = (g.D.Door.view c.args.door.now).opening in
+    let n = (g.D.Door.view c.args.door.now).number in
     passed_by c.make.ensures.made (listen_none o n c.args.child)
 
 pub returns-clause-listening : goal.returns-clause-listening
 returns-clause-listening g c =
-    let o = g.D.Door.opening c.args.door.now in
-    let n = g.D.Door.number c.args.door.now in
+    let o = (g.D.Door.view c.args.door.now).opening in
+    let n = (g.D.Door.view c.args.door.now).number in
     let m = c.make.ensures.made in
     let says = says_now m (listen_none o n c.args.child) in
-    subst (λ (l : Listening). IsListening o n (g.D.Door.seen c.make.new.door) c.args.child l) (sym c.listening_of.ensures)
-    (heard_so o (g.D.Door.seen c.make.new.door) n c.args.child says.0 (started_then c.args.child (passed_by m (listen_none o n c.args.child)) c.requires.started) c.make.result says.1)
+    subst (λ (l : Listening). IsListening o n (g.D.Door.view c.make.new.door).seen c.args.child l) (sym c.listening_of.ensures)
+    (heard_so o (g.D.Door.view c.make.new.door).seen n c.args.child says.0 (started_then c.args.child (passed_by m (listen_none o n c.args.child)) c.requires.started) c.make.result says.1)

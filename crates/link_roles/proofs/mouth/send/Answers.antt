@@ -9,34 +9,34 @@ pub returns-in-Ok-clause-moved : goal.returns-in-Ok-clause-moved
 returns-in-Ok-clause-moved g c =
     let before = c.args.inlet.now in
     let after = c.write.new.inlet in
-    let v = mouth_value c.args.child (g.I.Sink.taken before) (g.I.Sink.faults before) (g.I.Sink.number before) in
-    let w = mouth_value c.args.child (g.I.Sink.taken after) (g.I.Sink.faults after) (g.I.Sink.number after) in
+    let v = mouth_value c.args.child (g.I.Sink.told before).taken (g.I.Sink.told before).faults (g.I.Sink.told before).number in
+    let w = mouth_value c.args.child (g.I.Sink.told after).taken (g.I.Sink.told after).faults (g.I.Sink.told after).number in
     let next = c.requires.next in
     mouth_sends v w next.next next.more next.live next.loud next.unsent
-    (ap (λ (k : Option ℕ). mouth_value c.args.child (g.I.Sink.taken after) (g.I.Sink.faults after) k) c.write.ensures.number) c.write.ensures.silent
+    (ap (λ (k : Option ℕ). mouth_value c.args.child (g.I.Sink.told after).taken (g.I.Sink.told after).faults k) c.write.ensures.number) c.write.ensures.silent
     (subst (λ (x : List ℕ). Appends v.taken w.taken x) (c.view-bytes.ensures ∙ next.whole) c.in-Ok.ensures.ok) c.sent.ensures.sends
 
 pub returns-in-Err-clause-moved : goal.returns-in-Err-clause-moved
 returns-in-Err-clause-moved g c =
     let before = c.args.inlet.now in
     let after = c.write.new.inlet in
-    let v = mouth_value c.args.child (g.I.Sink.taken before) (g.I.Sink.faults before) (g.I.Sink.number before) in
-    let w = mouth_value c.args.child (g.I.Sink.taken after) (g.I.Sink.faults after) (g.I.Sink.number after) in
+    let v = mouth_value c.args.child (g.I.Sink.told before).taken (g.I.Sink.told before).faults (g.I.Sink.told before).number in
+    let w = mouth_value c.args.child (g.I.Sink.told after).taken (g.I.Sink.told after).faults (g.I.Sink.told after).number in
     let next = c.requires.next in
     let k = c.write.ensures.prefix.0 in
     mouth_mutes v w next.next next.more next.live next.loud next.unsent
-    (ap (λ (j : Option ℕ). mouth_value c.args.child (g.I.Sink.taken after) (g.I.Sink.faults after) j) c.write.ensures.number) c.write.ensures.silent k
+    (ap (λ (j : Option ℕ). mouth_value c.args.child (g.I.Sink.told after).taken (g.I.Sink.told after).faults j) c.write.ensures.number) c.write.ensures.silent k
     (subst (λ (x : List ℕ). Appends v.taken w.taken (take k x)) (c.view-bytes.ensures ∙ next.whole) c.write.ensures.prefix.1) c.in-Err.ensures.err c.mute.ensures.mutes
 
 pub returns-in-Ok-clause-writing : goal.returns-in-Ok-clause-writing
 returns-in-Ok-clause-writing g c =
-    inl (subst (λ (x : List ℕ). Appends (g.I.Sink.taken c.args.inlet.now) (g.I.Sink.taken c.write.new.inlet) x) c.view-bytes.ensures c.in-Ok.ensures.ok, c.sent.ensures.sends)
+    inl (subst (λ (x : List ℕ). Appends (g.I.Sink.told c.args.inlet.now).taken (g.I.Sink.told c.write.new.inlet).taken x) c.view-bytes.ensures c.in-Ok.ensures.ok, c.sent.ensures.sends)
 
 pub returns-in-Err-clause-writing : goal.returns-in-Err-clause-writing
 returns-in-Err-clause-writing g c =
     let k = c.write.ensures.prefix.0 in
     inr (
-      (k, subst (λ (x : List ℕ). Appends (g.I.Sink.taken c.args.inlet.now) (g.I.Sink.taken c.write.new.inlet) (take k x)) c.view-bytes.ensures c.write.ensures.prefix.1),
+      (k, subst (λ (x : List ℕ). Appends (g.I.Sink.told c.args.inlet.now).taken (g.I.Sink.told c.write.new.inlet).taken (take k x)) c.view-bytes.ensures c.write.ensures.prefix.1),
       c.in-Err.ensures.err,
       c.mute.ensures.mutes,
     )

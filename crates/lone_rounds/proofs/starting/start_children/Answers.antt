@@ -3,8 +3,6 @@ use Rattle.std.proofs.lemmas.Result.{MatchResult-from_err}
 use Rattle.journal_model.specs.declared.opening.Opening.{Opening}
 use Rattle.journal_model.specs.Legality.{Legal}
 use Rattle.host_core.specs.Steps.{are_all_claimed}
-use Rattle.child_end.specs.Programs.{programs_value}
-use Rattle.lone_work.specs.Works.{desk_tells}
 use Rattle.lone_rounds.proofs.Ending.{cores_both, few_starts, left_nothing, left_some, next_start}
 use Rattle.lone_rounds.proofs.starting.start_children.Goals as goal
 
@@ -36,8 +34,8 @@ children-preserved g c =
     let same_opening = c.children.invariant.core.opening in
     let legal : Legal o new = subst (λ (w : Opening). Legal w new) (c.start_one.ensures.core.opening ∙ same_opening) (c.start_one.ensures.core.legal (subst (λ (w : Opening). Legal w cur) (sym same_opening) c.children.invariant.between.spaced.legal)) in
     let after = next_start o c.children.core.opening c.args.plan.now.setup c.args.plan.now.offers c.args.plan.now.starts c.children.made c.children.offer c.in_ok-offer.offer c.args.plan.now.program cur new
-    (desk_tells (g.K.Desk.log c.args.desk.now) (g.K.Desk.counts c.args.desk.now)) (desk_tells (g.K.Desk.log c.children.desk) (g.K.Desk.counts c.children.desk)) (desk_tells (g.K.Desk.log c.start_one.new.desk) (g.K.Desk.counts c.start_one.new.desk))
-    (programs_value (g.P.Programs.starts c.args.programs.now) (g.P.Programs.faults c.args.programs.now)) (programs_value (g.P.Programs.starts c.children.programs) (g.P.Programs.faults c.children.programs)) (programs_value (g.P.Programs.starts c.start_one.new.programs) (g.P.Programs.faults c.start_one.new.programs))
+    (g.K.Desk.told c.args.desk.now) (g.K.Desk.told c.children.desk) (g.K.Desk.told c.start_one.new.desk)
+    (g.P.Programs.told c.args.programs.now) (g.P.Programs.told c.children.programs) (g.P.Programs.told c.start_one.new.programs)
     c.children.wires.items
     c.start_one.new.wires.items
     same_opening c.children.invariant.between c.children.invariant.kept c.in_ok-offer.ensures.starts legal in
@@ -69,5 +67,5 @@ returns-then-unclaimed-eq0-clause-kept g c = c.children.invariant.kept
 pub returns-in_err-offer-clause-kept : goal.returns-in_err-offer-clause-kept
 returns-in_err-offer-clause-kept g c =
     let u = c.in_err-offer.ensures.starts in
-    let before = programs_value (g.P.Programs.starts c.children.programs) (g.P.Programs.faults c.children.programs) in
+    let before = g.P.Programs.told c.children.programs in
     MatchResult-from_err c.from_residual.result _ _ c.from_residual.ensures.0 (λ e. rw (u.journal, u.wires_are) (before, c.children.invariant.kept, u.asked))

@@ -8,10 +8,10 @@ use Rattle.lone_work.proofs.events.claim.Goals as goal
 
 pub returns-clause-claims : goal.returns-clause-claims
 returns-clause-claims g c =
-    let o = g.D.Door.opening c.args.door.now in
-    let n = g.D.Door.number c.args.door.now in
-    let old = g.D.Door.seen c.args.door.now in
-    let new = g.D.Door.seen c.step.new.self in
+    let o = (g.D.Door.view c.args.door.now).opening in
+    let n = (g.D.Door.view c.args.door.now).number in
+    let old = (g.D.Door.view c.args.door.now).seen in
+    let new = (g.D.Door.view c.step.new.self).seen in
     let legal : Legal o new = subst (λ (w : Opening). Legal w new) c.in-Ok.ensures.opening (c.in-Ok.ensures.legal c.requires.can.legal) in
     subst (λ (r : Option TaskTurn). ClaimsNext o n c.args.child old new r) (sym c.task_in.ensures)
     (claims_next o n c.args.child old c.requires.can c.requires.alone legal c.in-Ok.ensures.stepped)

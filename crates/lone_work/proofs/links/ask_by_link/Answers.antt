@@ -9,13 +9,13 @@ use Rattle.lone_work.proofs.links.ask_by_link.Goals as goal
 
 pub returns-in-Ok-clause-asked : goal.returns-in-Ok-clause-asked
 returns-in-Ok-clause-asked g c =
-    asked (g.D.Door.opening c.args.door.now) (g.D.Door.number c.args.door.now) c.args.task c.args.link.now.ear.child (name_of c.args.request.now) (message_of c.args.request.now) c.in-Ok.verdict (link_untasked c.args.link.now.ear.child c.args.task) c.requires.at
-    (subst (λ (o : Opening). Legal o (g.D.Door.seen c.ask.new.door)) c.in-Ok.ensures.door.opening (c.in-Ok.ensures.door.legal c.requires.at.legal)) c.in-Ok.ensures.asked
+    asked (g.D.Door.view c.args.door.now).opening (g.D.Door.view c.args.door.now).number c.args.task c.args.link.now.ear.child (name_of c.args.request.now) (message_of c.args.request.now) c.in-Ok.verdict (link_untasked c.args.link.now.ear.child c.args.task) c.requires.at
+    (subst (λ (o : Opening). Legal o (g.D.Door.view c.ask.new.door).seen) c.in-Ok.ensures.door.opening (c.in-Ok.ensures.door.legal c.requires.at.legal)) c.in-Ok.ensures.asked
 
 pub returns-in-Err-clause-asked : goal.returns-in-Err-clause-asked
 returns-in-Err-clause-asked g c =
-    passed (g.D.Door.opening c.args.door.now) (g.D.Door.number c.args.door.now) c.args.task c.requires.at
-    (subst (λ (o : Opening). Legal o (g.D.Door.seen c.ask.new.door)) c.in-Err.ensures.door.opening (c.in-Err.ensures.door.legal c.requires.at.legal)) c.in-Err.ensures.none
+    passed (g.D.Door.view c.args.door.now).opening (g.D.Door.view c.args.door.now).number c.args.task c.requires.at
+    (subst (λ (o : Opening). Legal o (g.D.Door.view c.ask.new.door).seen) c.in-Err.ensures.door.opening (c.in-Err.ensures.door.legal c.requires.at.legal)) c.in-Err.ensures.none
 
 pub returns-in-Ok-clause-turn : goal.returns-in-Ok-clause-turn
 returns-in-Ok-clause-turn g c = λ lone h. turn_asked c.args.link.now.ear.child c.args.task (name_of c.args.request.now) (message_of c.args.request.now) c.in-Ok.verdict lone c.in-Ok.ensures.asked h

@@ -2,16 +2,15 @@ use Rattle.std.proofs.Common.{refl, ap, ◌∙◌}
 use Rattle.journal_model.specs.declared.opening.Opening.{Opening}
 use Rattle.link_roles.proofs.Roles.{same_both}
 use Rattle.link_roles.proofs.Solo.{keeps_both}
-use Rattle.lone_work.specs.Works.{desk_tells}
 use Rattle.lone_work.proofs.Turning.{link_still, through_then, worked_then}
 use Rattle.lone_work.proofs.Working.{worked_still}
 use Rattle.lone_work.proofs.turns.work.Goals as goal
 
 pub turns-init : goal.turns-init
 turns-init g c = record {
-  worked = worked_still (g.D.Door.opening c.args.door.now) c.args.setup.now (g.D.Door.number c.args.door.now) c.args.link.now.ear.child (g.D.Door.seen c.args.door.now) (desk_tells (g.K.Desk.log c.args.desk.now) (g.K.Desk.counts c.args.desk.now));
+  worked = worked_still (g.D.Door.view c.args.door.now).opening c.args.setup.now (g.D.Door.view c.args.door.now).number c.args.link.now.ear.child (g.D.Door.view c.args.door.now).seen (g.K.Desk.told c.args.desk.now);
   can = c.requires.can;
-  link = link_still (g.D.Door.seen c.args.door.now) (g.D.Door.seen c.args.door.now) refl c.args.link.now.ear c.args.link.now.mouth;
+  link = link_still (g.D.Door.view c.args.door.now).seen (g.D.Door.view c.args.door.now).seen refl c.args.link.now.ear c.args.link.now.mouth;
   door = record { opening = refl; number = refl; alone = refl; loans = refl; home = refl; legal = λ h. h };
 }
 
@@ -23,26 +22,26 @@ turn-requires-clause-tasks g c = (ap (λ (o : Opening). o.tasks) c.turns.invaria
 
 pub returns-then-not-turn-clause-worked : goal.returns-then-not-turn-clause-worked
 returns-then-not-turn-clause-worked g c =
-    worked_then (g.D.Door.opening c.args.door.now) (g.D.Door.opening c.turns.door) c.args.setup.now (g.D.Door.number c.args.door.now) (g.D.Door.number c.turns.door) c.args.link.now.ear.child c.turns.link.ear.child
-    (g.D.Door.seen c.args.door.now) (g.D.Door.seen c.turns.door) (g.D.Door.seen c.turn.new.door)
-    (desk_tells (g.K.Desk.log c.args.desk.now) (g.K.Desk.counts c.args.desk.now)) (desk_tells (g.K.Desk.log c.turns.desk) (g.K.Desk.counts c.turns.desk)) (desk_tells (g.K.Desk.log c.turn.new.desk) (g.K.Desk.counts c.turn.new.desk))
+    worked_then (g.D.Door.view c.args.door.now).opening (g.D.Door.view c.turns.door).opening c.args.setup.now (g.D.Door.view c.args.door.now).number (g.D.Door.view c.turns.door).number c.args.link.now.ear.child c.turns.link.ear.child
+    (g.D.Door.view c.args.door.now).seen (g.D.Door.view c.turns.door).seen (g.D.Door.view c.turn.new.door).seen
+    (g.K.Desk.told c.args.desk.now) (g.K.Desk.told c.turns.desk) (g.K.Desk.told c.turn.new.desk)
     c.turns.invariant.door.opening c.turns.invariant.door.number c.turns.invariant.link.same_ear.0
     c.turns.invariant.worked c.turn.ensures.worked
 
 pub returns-then-not-turn-clause-through : goal.returns-then-not-turn-clause-through
 returns-then-not-turn-clause-through g c =
-    through_then (g.D.Door.opening c.args.door.now) (g.D.Door.opening c.turns.door) c.args.setup.now (g.D.Door.number c.args.door.now) (g.D.Door.number c.turns.door) c.args.link.now.ear.child c.turns.link.ear.child
-    (g.D.Door.seen c.args.door.now) (g.D.Door.seen c.turns.door) (g.D.Door.seen c.turn.new.door)
-    (desk_tells (g.K.Desk.log c.args.desk.now) (g.K.Desk.counts c.args.desk.now)) (desk_tells (g.K.Desk.log c.turns.desk) (g.K.Desk.counts c.turns.desk)) (desk_tells (g.K.Desk.log c.turn.new.desk) (g.K.Desk.counts c.turn.new.desk))
+    through_then (g.D.Door.view c.args.door.now).opening (g.D.Door.view c.turns.door).opening c.args.setup.now (g.D.Door.view c.args.door.now).number (g.D.Door.view c.turns.door).number c.args.link.now.ear.child c.turns.link.ear.child
+    (g.D.Door.view c.args.door.now).seen (g.D.Door.view c.turns.door).seen (g.D.Door.view c.turn.new.door).seen
+    (g.K.Desk.told c.args.desk.now) (g.K.Desk.told c.turns.desk) (g.K.Desk.told c.turn.new.desk)
     c.turns.invariant.door.opening c.turns.invariant.door.number c.turns.invariant.link.same_ear.0
     (c.if-not-turn.ensures.through refl)
 
 pub turns-preserved : goal.turns-preserved
 turns-preserved g c = record {
   worked =
-      worked_then (g.D.Door.opening c.args.door.now) (g.D.Door.opening c.turns.door) c.args.setup.now (g.D.Door.number c.args.door.now) (g.D.Door.number c.turns.door) c.args.link.now.ear.child c.turns.link.ear.child
-      (g.D.Door.seen c.args.door.now) (g.D.Door.seen c.turns.door) (g.D.Door.seen c.turn.new.door)
-      (desk_tells (g.K.Desk.log c.args.desk.now) (g.K.Desk.counts c.args.desk.now)) (desk_tells (g.K.Desk.log c.turns.desk) (g.K.Desk.counts c.turns.desk)) (desk_tells (g.K.Desk.log c.turn.new.desk) (g.K.Desk.counts c.turn.new.desk))
+      worked_then (g.D.Door.view c.args.door.now).opening (g.D.Door.view c.turns.door).opening c.args.setup.now (g.D.Door.view c.args.door.now).number (g.D.Door.view c.turns.door).number c.args.link.now.ear.child c.turns.link.ear.child
+      (g.D.Door.view c.args.door.now).seen (g.D.Door.view c.turns.door).seen (g.D.Door.view c.turn.new.door).seen
+      (g.K.Desk.told c.args.desk.now) (g.K.Desk.told c.turns.desk) (g.K.Desk.told c.turn.new.desk)
       c.turns.invariant.door.opening c.turns.invariant.door.number c.turns.invariant.link.same_ear.0
       c.turns.invariant.worked c.turn.ensures.worked;
   can = c.turn.ensures.can;

@@ -1,5 +1,4 @@
 use Rattle.std.proofs.Common.{length, refl, subst}
-use Rattle.child_end.specs.Programs.{programs_value}
 use Rattle.mirror_children.proofs.Answering.{none_left, some_left}
 use Rattle.mirror_starts.specs.Outcomes.{mirror_value, MirrorValue, StartsAs}
 use Rattle.mirror_remote.specs.Mirrors.{IsSoundMirror}
@@ -22,11 +21,11 @@ returns-then-is_empty-clause-sound g c =
 
 pub returns-clause-begins : goal.returns-clause-begins
 returns-clause-begins g c =
-    let new : MirrorValue = mirror_value (programs_value (g.P.Programs.starts c.start_all-standing.new.programs) (g.P.Programs.faults c.start_all-standing.new.programs)) c.start_all-standing.new.children.items c.start_all-standing.new.stopped.logs in
+    let new : MirrorValue = mirror_value (g.P.Programs.told c.start_all-standing.new.programs) c.start_all-standing.new.children.items c.start_all-standing.new.stopped.logs in
     let some = some_left c.is_empty.result (length c.args.plans.now) (length c.args.plans.now) c.if-is_empty.false c.is_empty.ensures refl in
     standing_begins c.args.plans.now c.args.mirror.now new c.start_all-standing.result c.answer.result some
     (subst (λ (m : MirrorValue). StartsAs c.args.plans.now m new c.start_all-standing.result) c.mirror.view_is c.start_all-standing.ensures.starts) c.answer.ensures.says
 
 pub returns-clause-sound : goal.returns-clause-sound
 returns-clause-sound g c =
-    kept_sound (mirror_value (programs_value (g.P.Programs.starts c.start_all-standing.new.programs) (g.P.Programs.faults c.start_all-standing.new.programs)) c.start_all-standing.new.children.items c.start_all-standing.new.stopped.logs) c.start_all-standing.new.stopped.spare c.start_all-standing.ensures.kept
+    kept_sound (mirror_value (g.P.Programs.told c.start_all-standing.new.programs) c.start_all-standing.new.children.items c.start_all-standing.new.stopped.logs) c.start_all-standing.new.stopped.spare c.start_all-standing.ensures.kept

@@ -15,7 +15,7 @@ returns-in-Ready-clause-meets g c =
     let keeps = c.in-Ready.ensures.core in
     let greeted = c.in-Ready.ensures.tells.0 in (
       greeted_as p old new ear mouth c.requires.empty c.requires.opening keeps greeted c.in-Ready.ensures.wired c.in-Ready.link.one_child,
-      adds_of (g.P.Programs.starts c.args.programs.now) (g.P.Programs.starts c.greet.new.programs) p.program _ true c.view-program.ensures c.in-Ready.ensures.starts,
+      adds_of (g.P.Programs.told c.args.programs.now).starts (g.P.Programs.told c.greet.new.programs).starts p.program _ true c.view-program.ensures c.in-Ready.ensures.starts,
       (
         ready_as p old new ear mouth c.requires.empty c.requires.opening keeps greeted c.in-Ready.ensures.tells.1,
         serving_as p old new ear mouth c.requires.empty c.requires.opening keeps greeted c.in-Ready.ensures.wired c.in-Ready.link.one_child c.in-Ready.ensures.tells.1,
@@ -32,7 +32,7 @@ returns-in-Refused-clause-meets g c =
     let keeps = c.in-Refused.ensures.core in
     let greeted = c.in-Refused.ensures.tells.0 in (
       greeted_as p old new ear mouth c.requires.empty c.requires.opening keeps greeted c.in-Refused.ensures.wired c.in-Refused.link.one_child,
-      adds_of (g.P.Programs.starts c.args.programs.now) (g.P.Programs.starts c.greet.new.programs) p.program _ true c.view-program.ensures c.in-Refused.ensures.starts,
+      adds_of (g.P.Programs.told c.args.programs.now).starts (g.P.Programs.told c.greet.new.programs).starts p.program _ true c.view-program.ensures c.in-Refused.ensures.starts,
       refused_as p old new ear mouth c.requires.empty c.requires.opening keeps greeted c.in-Refused.verdict c.in-Refused.ensures.tells.1,
     )
 
@@ -46,7 +46,7 @@ returns-in-Ended-clause-meets g c =
     let keeps = c.in-Ended.ensures.core in
     let greeted = c.in-Ended.ensures.tells.0 in (
       greeted_as p old new ear mouth c.requires.empty c.requires.opening keeps greeted c.in-Ended.ensures.wired c.in-Ended.link.one_child,
-      adds_of (g.P.Programs.starts c.args.programs.now) (g.P.Programs.starts c.greet.new.programs) p.program _ true c.view-program.ensures c.in-Ended.ensures.starts,
+      adds_of (g.P.Programs.told c.args.programs.now).starts (g.P.Programs.told c.greet.new.programs).starts p.program _ true c.view-program.ensures c.in-Ended.ensures.starts,
       subst (λ (s : Stand). StandsAs p s (child_value p.number new ear mouth)) (sym c.stand_of_end.ensures) (ended_stands p old new ear mouth c.requires.empty c.requires.opening keeps greeted c.in-Ended.why c.in-Ended.ensures.tells.1),
     )
 
@@ -60,7 +60,7 @@ returns-in-Unsent-clause-meets g c =
     let keeps = c.in-Unsent.ensures.core in
     let greeted = c.in-Unsent.ensures.tells.0 in (
       greeted_as p old new ear mouth c.requires.empty c.requires.opening keeps greeted c.in-Unsent.ensures.wired c.in-Unsent.link.one_child,
-      adds_of (g.P.Programs.starts c.args.programs.now) (g.P.Programs.starts c.greet.new.programs) p.program _ true c.view-program.ensures c.in-Unsent.ensures.starts,
+      adds_of (g.P.Programs.told c.args.programs.now).starts (g.P.Programs.told c.greet.new.programs).starts p.program _ true c.view-program.ensures c.in-Unsent.ensures.starts,
       unsent_as p old new ear mouth c.requires.empty c.requires.opening keeps greeted c.in-Unsent.ensures.tells.1,
     )
 
@@ -68,10 +68,10 @@ pub returns-in-StartFault-clause-meets : goal.returns-in-StartFault-clause-meets
 returns-in-StartFault-clause-meets g c =
     let p = c.args.plan.now in (
       unstarted_as p c.args.core.now c.greet.new.core c.requires.empty c.requires.opening c.in-StartFault.ensures.core c.in-StartFault.ensures.tells,
-      adds_of (g.P.Programs.starts c.args.programs.now) (g.P.Programs.starts c.greet.new.programs) p.program _ false c.view-program.ensures c.in-StartFault.ensures.starts,
+      adds_of (g.P.Programs.told c.args.programs.now).starts (g.P.Programs.told c.greet.new.programs).starts p.program _ false c.view-program.ensures c.in-StartFault.ensures.starts,
       c.in-StartFault.ensures.fault refl,
     )
 
 pub returns-in-NoMemory-clause-meets : goal.returns-in-NoMemory-clause-meets
 returns-in-NoMemory-clause-meets g c =
-    may_adds (g.P.Programs.starts c.args.programs.now) (g.P.Programs.starts c.greet.new.programs) c.args.plan.now.program _ c.view-program.ensures c.in-NoMemory.ensures.starts
+    may_adds (g.P.Programs.told c.args.programs.now).starts (g.P.Programs.told c.greet.new.programs).starts c.args.plan.now.program _ c.view-program.ensures c.in-NoMemory.ensures.starts

@@ -1,4 +1,4 @@
-use Rattle.child_end.specs.Programs.{ProgramsValue, programs_value}
+use Rattle.ann_outside.specs.Told.{ProgramsTold}
 use Rattle.mirror_starts.proofs.Settled.{IsFreshFor, begun_settles, begun_sound, begun_stop, none_kept, nothing_kept, ready_kept, ready_settles, roomless_settles}
 use Rattle.mirror_starts.proofs.starting.start_all.Goals as goal
 
@@ -6,7 +6,7 @@ use Rattle.mirror_starts.proofs.starting.start_all.Goals as goal
 
 pub returns-in_default-clause-starts : goal.returns-in_default-clause-starts
 returns-in_default-clause-starts g c =
-    roomless_settles c.args.plans.now (programs_value (g.P.Programs.starts c.args.programs.now) (g.P.Programs.faults c.args.programs.now))
+    roomless_settles c.args.plans.now (g.P.Programs.told c.args.programs.now)
     c.args.children.now.items c.make_room.new.children.items c.args.stopped.now.logs c.make_room.new.stopped.logs c.make_room.ensures.none.0 c.make_room.ensures.none.1
 
 pub returns-in_default-clause-kept : goal.returns-in_default-clause-kept
@@ -17,15 +17,15 @@ returns-in_default-clause-kept g c =
 
 pub returns-in-Ok-begin_all-clause-starts : goal.returns-in-Ok-begin_all-clause-starts
 returns-in-Ok-begin_all-clause-starts g c =
-    let before : ProgramsValue = programs_value (g.P.Programs.starts c.args.programs.now) (g.P.Programs.faults c.args.programs.now) in
-    let after : ProgramsValue = programs_value (g.P.Programs.starts c.begin_all.new.programs) (g.P.Programs.faults c.begin_all.new.programs) in
+    let before : ProgramsTold = g.P.Programs.told c.args.programs.now in
+    let after : ProgramsTold = g.P.Programs.told c.begin_all.new.programs in
     let fresh : IsFreshFor c.args.plans.now c.make_room.new.stopped = record { logs = c.make_room.ensures.none.1; spare = c.in-Ok.ensures.room.1 } in
     ready_settles c.args.plans.now c.make_room.new.stopped before after c.begin_all.new.children.items c.args.children.now.items c.args.stopped.now.logs fresh c.in-Ok-begin_all.ensures.begins
 
 pub returns-in-Ok-begin_all-clause-kept : goal.returns-in-Ok-begin_all-clause-kept
 returns-in-Ok-begin_all-clause-kept g c =
-    let before : ProgramsValue = programs_value (g.P.Programs.starts c.args.programs.now) (g.P.Programs.faults c.args.programs.now) in
-    let after : ProgramsValue = programs_value (g.P.Programs.starts c.begin_all.new.programs) (g.P.Programs.faults c.begin_all.new.programs) in
+    let before : ProgramsTold = g.P.Programs.told c.args.programs.now in
+    let after : ProgramsTold = g.P.Programs.told c.begin_all.new.programs in
     let fresh : IsFreshFor c.args.plans.now c.make_room.new.stopped = record { logs = c.make_room.ensures.none.1; spare = c.in-Ok.ensures.room.1 } in
     ready_kept c.args.plans.now c.make_room.new.stopped before after c.begin_all.new.children.items fresh c.in-Ok-begin_all.ensures.begins
 
@@ -33,16 +33,16 @@ returns-in-Ok-begin_all-clause-kept g c =
 
 pub stop_begun-requires-clause-may : goal.stop_begun-requires-clause-may
 stop_begun-requires-clause-may g c κs within =
-    let before : ProgramsValue = programs_value (g.P.Programs.starts c.args.programs.now) (g.P.Programs.faults c.args.programs.now) in
-    let after : ProgramsValue = programs_value (g.P.Programs.starts c.begin_all.new.programs) (g.P.Programs.faults c.begin_all.new.programs) in
+    let before : ProgramsTold = g.P.Programs.told c.args.programs.now in
+    let after : ProgramsTold = g.P.Programs.told c.begin_all.new.programs in
     let fresh : IsFreshFor c.args.plans.now c.make_room.new.stopped = record { logs = c.make_room.ensures.none.1; spare = c.in-Ok.ensures.room.1 } in
     rw c.replace-begun.ensures.value (begun_stop c.args.plans.now c.make_room.new.stopped fresh before after c.begin_all.new.children.items c.in-Err.cause c.in-Err.ensures.begins)
 
 pub returns-in-Err-clause-starts : goal.returns-in-Err-clause-starts
 returns-in-Err-clause-starts g c =
-    let before : ProgramsValue = programs_value (g.P.Programs.starts c.args.programs.now) (g.P.Programs.faults c.args.programs.now) in
-    let mid : ProgramsValue = programs_value (g.P.Programs.starts c.begin_all.new.programs) (g.P.Programs.faults c.begin_all.new.programs) in
-    let after : ProgramsValue = programs_value (g.P.Programs.starts c.stop_begun.new.programs) (g.P.Programs.faults c.stop_begun.new.programs) in
+    let before : ProgramsTold = g.P.Programs.told c.args.programs.now in
+    let mid : ProgramsTold = g.P.Programs.told c.begin_all.new.programs in
+    let after : ProgramsTold = g.P.Programs.told c.stop_begun.new.programs in
     let fresh : IsFreshFor c.args.plans.now c.make_room.new.stopped = record { logs = c.make_room.ensures.none.1; spare = c.in-Ok.ensures.room.1 } in
     let stops = rw c.replace-begun.ensures.value at c.stop_begun.ensures.stops in
     rw (c.stop_begun.ensures.standing, c.replace-begun.ensures.after, c.new.ensures.items)
@@ -51,8 +51,8 @@ returns-in-Err-clause-starts g c =
 
 pub returns-in-Err-clause-kept : goal.returns-in-Err-clause-kept
 returns-in-Err-clause-kept g c =
-    let before : ProgramsValue = programs_value (g.P.Programs.starts c.args.programs.now) (g.P.Programs.faults c.args.programs.now) in
-    let mid : ProgramsValue = programs_value (g.P.Programs.starts c.begin_all.new.programs) (g.P.Programs.faults c.begin_all.new.programs) in
+    let before : ProgramsTold = g.P.Programs.told c.args.programs.now in
+    let mid : ProgramsTold = g.P.Programs.told c.begin_all.new.programs in
     let fresh : IsFreshFor c.args.plans.now c.make_room.new.stopped = record { logs = c.make_room.ensures.none.1; spare = c.in-Ok.ensures.room.1 } in
     let stops = rw c.replace-begun.ensures.value at c.stop_begun.ensures.stops in
     rw (c.replace-begun.ensures.after, c.new.ensures.items)

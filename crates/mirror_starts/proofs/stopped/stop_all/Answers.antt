@@ -22,7 +22,7 @@ loop-child-preserved g c =
     record {
       all = shifted c.loop-child.yielded c.in-Some.child c.args.children.items _ _ a.all c.in-Some.ensures.steps.0;
       stops = stops_next c.loop-child.yielded c.in-Some.child c.args.stopped.now c.loop-child.stopped c.stop.new.stopped a.stops s.stops;
-      starts = stays_both (g.P.Programs.starts c.args.programs.now) (g.P.Programs.starts c.loop-child.programs) (g.P.Programs.starts c.stop.new.programs) a.starts s.starts;
+      starts = stays_both (g.P.Programs.told c.args.programs.now).starts (g.P.Programs.told c.loop-child.programs).starts (g.P.Programs.told c.stop.new.programs).starts a.starts s.starts;
       later = (let was = a.later in let now = s.later in omega (arith, was, now));
     }
 

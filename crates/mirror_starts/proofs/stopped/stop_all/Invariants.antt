@@ -9,6 +9,6 @@ abbrev pub invariant-loop-child : goal.invariant-loop-child
 invariant-loop-child g l = record {
   all : l.fn.children.items ≡ l.yielded ++ into_iter_items l.child-iterator;
   stops : StopsAll l.yielded l.fn.stopped l.stopped;
-  starts : Stays (g.P.Programs.starts l.fn.programs) (g.P.Programs.starts l.programs);
-  later : g.P.Programs.faults l.fn.programs ≤ g.P.Programs.faults l.programs;
+  starts : Stays (g.P.Programs.told l.fn.programs).starts (g.P.Programs.told l.programs).starts;
+  later : (g.P.Programs.told l.fn.programs).faults ≤ (g.P.Programs.told l.programs).faults;
 }

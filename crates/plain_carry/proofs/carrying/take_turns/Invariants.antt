@@ -4,9 +4,9 @@ use Rattle.plain_carry.proofs.carrying.take_turns.Given as goal
 
 abbrev pub invariant-loop : goal.invariant-loop
 invariant-loop g l = record {
-  goes : (begun : Told) → Going g.V.Way.passes begun (g.S.Source.given l.initial.source) (g.W.Sink.taken l.initial.sink) l.initial.splitter.bytes
-      → Going g.V.Way.passes begun (g.S.Source.given l.source) (g.W.Sink.taken l.sink) l.splitter.bytes;
+  goes : (begun : Told) → Going g.V.Way.passes begun (g.S.Source.told l.initial.source).given (g.W.Sink.told l.initial.sink).taken l.initial.splitter.bytes
+      → Going g.V.Way.passes begun (g.S.Source.told l.source).given (g.W.Sink.told l.sink).taken l.splitter.bytes;
   limit : l.splitter.limit ≡ longest_line;
-  later : (g.S.Source.faults l.initial.source ≤ g.S.Source.faults l.source) × (g.W.Sink.faults l.initial.sink ≤ g.W.Sink.faults l.sink);
-  opened : (g.S.Source.is_open l.source ≡ true) × (g.W.Sink.is_open l.sink ≡ true);
+  later : ((g.S.Source.told l.initial.source).faults ≤ (g.S.Source.told l.source).faults) × ((g.W.Sink.told l.initial.sink).faults ≤ (g.W.Sink.told l.sink).faults);
+  opened : ((g.S.Source.told l.source).is_open ≡ true) × ((g.W.Sink.told l.sink).is_open ≡ true);
 }

@@ -2,7 +2,6 @@ use Rattle.std.proofs.Common.{◌≡◌, ◌∙◌, refl, sym, subst, true, map,
 use Rattle.hall.specs.Passes.{seen_of}
 use Rattle.link_roles.specs.Moves.{IsSameLink}
 use Rattle.link_roles.specs.Writings.{LoneWired}
-use Rattle.lone_work.specs.Works.{desk_tells}
 use Rattle.crew_rounds.specs.Roles.{CanWork, WorkerRan}
 use Rattle.crew_rounds.specs.Tagged.{AreFresh, link_of}
 use Rattle.crew_rounds.proofs.Backs.{fresh_own}
@@ -47,9 +46,9 @@ pub returns : goal.returns
 returns g c =
     let k = c.cast-workers.ensures in
     let b = c.gather.ensures in
-    let p = played (λ w. w.pass) (λ w. w.way) (λ w. w.desk) (λ l. link_of l.ear l.mouth) (λ x. desk_tells (g.K.Desk.log x) (g.K.Desk.counts x))
+    let p = played (λ w. w.pass) (λ w. w.way) (λ w. w.desk) (λ l. link_of l.ear l.mouth) g.K.Desk.told
     (λ x y. WorkerRan x.hall.now x.setup.now x.pass y.pass true x.way.ear.child (LoneWired (seen_of x.pass) x.way.ear x.way.mouth) (LoneWired (seen_of y.pass) y.way.ear y.way.mouth)
-    (desk_tells (g.K.Desk.log x.desk) (g.K.Desk.counts x.desk)) (desk_tells (g.K.Desk.log y.desk) (g.K.Desk.counts y.desk))
+    (g.K.Desk.told x.desk) (g.K.Desk.told y.desk)
     × (y.way.ear.child ≡ x.way.ear.child) × (true ≡ true) × IsSameLink x.way.ear y.way.ear x.way.mouth y.way.mouth)
     c.args.site.now.hall.now c.args.site.now.setup.now
     (λ w. (w.hall.now ≡ c.args.site.now.hall.now) × (w.tasks.now ≡ c.args.site.now.tasks.now) × (w.setup.now ≡ c.args.site.now.setup.now))

@@ -2,7 +2,6 @@ use Rattle.std.proofs.Common.{◌++◌, ◌∷◌, [], ap, sym, subst, ◌∙◌
 use Rattle.std.proofs.lemmas.List.{length-map}
 use Rattle.journal_model.specs.declared.opening.Opening.{Opening}
 use Rattle.journal_model.specs.Legality.{Legal}
-use Rattle.child_end.specs.Programs.{programs_value}
 use Rattle.crew_rounds.specs.Tagged.{link_of}
 use Rattle.lone_rounds.proofs.Ending.{cores_both}
 use Rattle.pool_starts.specs.Pools.{Serves, seat_value}
@@ -12,7 +11,7 @@ use Rattle.pool_starts.proofs.starting.gather.Goals as goal
 pub slots-init : goal.slots-init
 slots-init g c =
     record {
-      standing = begins_as c.args.core.now.opening c.args.jobs c.args.program.now c.args.core.now.journal (link_of c.args.link.ear c.args.link.mouth) (programs_value (g.P.Programs.starts c.args.programs.now) (g.P.Programs.faults c.args.programs.now)) c.requires.can
+      standing = begins_as c.args.core.now.opening c.args.jobs c.args.program.now c.args.core.now.journal (link_of c.args.link.ear c.args.link.mouth) (g.P.Programs.told c.args.programs.now) c.requires.can
           _ _ c.requires.pool c.requires.last c.requires.since c.requires.last_child c.args.link.one_child
           (c.seat_serving.ensures.seats ∙ ap (λ xs. map seat_value xs ++ Serves ∷ []) c.in-Ok.ensures.none.1)
           (c.seat_serving.ensures.links ∙ ap (λ ls. map (λ l. link_of l.ear l.mouth) ls ++ link_of c.args.link.ear c.args.link.mouth ∷ []) c.in-Ok.ensures.none.0);
@@ -44,8 +43,8 @@ slots-preserved g c =
     let test = c.slots-test.true in
     let low = c.slots.auto.slot in
     record {
-      standing = next_seat o c.slots.core.opening c.args.jobs c.args.program.now c.args.core.now.journal cur new (link_of c.args.link.ear c.args.link.mouth) (programs_value (g.P.Programs.starts c.args.programs.now) (g.P.Programs.faults c.args.programs.now))
-          (programs_value (g.P.Programs.starts c.slots.programs) (g.P.Programs.faults c.slots.programs)) (programs_value (g.P.Programs.starts c.seat_one.new.programs) (g.P.Programs.faults c.seat_one.new.programs))
+      standing = next_seat o c.slots.core.opening c.args.jobs c.args.program.now c.args.core.now.journal cur new (link_of c.args.link.ear c.args.link.mouth) (g.P.Programs.told c.args.programs.now)
+          (g.P.Programs.told c.slots.programs) (g.P.Programs.told c.seat_one.new.programs)
           _ _ _ _ c.slots.slot same c.slots.invariant.standing c.in_default-seat_one.ensures.seats legal (omega (arith, fewer, most, left, test, low)) (omega (arith, fewer, most, left, test, low));
       core = cores_both c.slots.invariant.core core;
       room = (

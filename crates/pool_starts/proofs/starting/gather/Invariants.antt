@@ -1,6 +1,5 @@
 use Rattle.std.proofs.Common.{◌≤◌, map, vec_capacity}
 use Rattle.child_start.specs.Cores.{IsSameCore}
-use Rattle.child_end.specs.Programs.{programs_value}
 use Rattle.crew_rounds.specs.Tagged.{link_of}
 use Rattle.pool_starts.specs.Pools.{seat_value}
 use Rattle.pool_starts.proofs.Standing.{Standing}
@@ -8,7 +7,7 @@ use Rattle.pool_starts.proofs.starting.gather.Given as goal
 
 abbrev pub invariant-slots : goal.invariant-slots
 invariant-slots g l = record {
-  standing : Standing l.fn.core.opening l.jobs l.program l.fn.core.journal l.core.journal (link_of l.fn.link.ear l.fn.link.mouth) (programs_value (g.P.Programs.starts l.fn.programs) (g.P.Programs.faults l.fn.programs)) (programs_value (g.P.Programs.starts l.programs) (g.P.Programs.faults l.programs))
+  standing : Standing l.fn.core.opening l.jobs l.program l.fn.core.journal l.core.journal (link_of l.fn.link.ear l.fn.link.mouth) (g.P.Programs.told l.fn.programs) (g.P.Programs.told l.programs)
       (map seat_value l.pool.seats.items)
       (map (λ x. link_of x.ear x.mouth) l.pool.links.items) l.slot;
   core : IsSameCore l.fn.core l.core;

@@ -6,5 +6,5 @@ use Rattle.rehearse_run.proofs.rehearsing.ask_desks.Given as goal
 abbrev pub invariant-workers : goal.invariant-workers
 invariant-workers g l = record {
   room : (vec_len l.crew ≡ l.before) × (vec_capacity l.crew ≡ vec_capacity l.initial.crew);
-  fresh : map (λ k. g.K.Desk.Desk.counts k) l.crew.items ≡ replicate l.before no_counts;
+  fresh : map (λ k. (g.K.Desk.Desk.told k).counts) l.crew.items ≡ replicate l.before no_counts;
 }

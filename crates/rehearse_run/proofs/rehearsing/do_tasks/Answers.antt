@@ -21,6 +21,6 @@ returns-clause-ran g c =
     let plan = c.args.ready.plan in
     has_run o journal c.run_jobs-bench.result.1
     (run_of o plan.setup plan.offers plan.starts journal _ _ c.requires.ready.setup_is c.requires.ready.offers c.requires.ready.starts c.requires.fresh
-    (faultless o journal _ _ (g.P.Programs.faults c.args.programs.now) (g.P.Programs.faults c.run_jobs-bench.new.programs) ran.legal leaves.wired
+    (faultless o journal _ _ (g.P.Programs.told c.args.programs.now).faults (g.P.Programs.told c.run_jobs-bench.new.programs).faults ran.legal leaves.wired
     (subst (All IsQuiet) c.deref.ensures.value c.look_at.ensures) leaves.faults (c.requires.sound.0 c.args.programs.now) (c.requires.sound.0 c.run_jobs-bench.new.programs))
     ran) c.run_jobs-bench.ensures.whole

@@ -8,9 +8,9 @@ use Rattle.run_tasks.proofs.beginning.read_named.Goals as goal
 
 pub returns-in-Ok-Kept-clause-kept : goal.returns-in-Ok-Kept-clause-kept
 returns-in-Ok-Kept-clause-kept g c =
-    let told = g.D.Desk.files c.args.desk.now in
-    let old = g.D.Desk.log c.args.desk.now in
-    let new = g.D.Desk.log c.read_kept.new.desk in
+    let told = (g.D.Desk.told c.args.desk.now).files in
+    let old = (g.D.Desk.told c.args.desk.now).log in
+    let new = (g.D.Desk.told c.read_kept.new.desk).log in
     let name = c.args.name.now in
     hands_on c.args.words.now told name c.requires.named old new c.in-Ok-Kept.registers c.in-Ok-Kept.notes
     (subst (λ (k : KeptRead). IsReadAs old new name (Ok k)) c.in-Ok-Kept.field-0-is c.in-Ok-Kept.ensures.read)

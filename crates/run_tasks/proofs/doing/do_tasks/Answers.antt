@@ -1,6 +1,5 @@
 use Rattle.std.proofs.Common.{map, ap, inr}
 use Rattle.ann_outside.specs.DeskCauses.{Counts}
-use Rattle.child_end.specs.Outsides.{table_value}
 use Rattle.run_tasks.specs.Inputs.{input_flow}
 use Rattle.run_tasks.specs.Runs.{MadeValue}
 use Rattle.run_tasks.proofs.Begun.{may_begin_all}
@@ -14,8 +13,8 @@ pub go_on-worked-requires-clause-may : goal.go_on-worked-requires-clause-may
 go_on-worked-requires-clause-may g c κs within =
     let old = c.args.input.now in
     let new = c.begin-begun.new.input in
-    let flow = input_flow (g.I.Source.given old) (g.I.Source.given new) (g.I.Source.left old) (g.I.Source.left new) (g.I.Source.faults old) (g.I.Source.faults new) in
-    may_begin_all c.args.words.now (g.C.Clock.answer c.args.clock.now) (g.K.Desk.Desk.files c.in-Ok-desk.desk) flow (g.K.Desk.Desk.counts c.in-Ok-desk.desk).faults (g.K.Desk.Desk.counts c.begin-begun.new.desk).faults
+    let flow = input_flow (g.I.Source.told old).given (g.I.Source.told new).given (g.I.Source.told old).left (g.I.Source.told new).left (g.I.Source.told old).faults (g.I.Source.told new).faults in
+    may_begin_all c.args.words.now (g.C.Clock.answer c.args.clock.now) (g.K.Desk.Desk.told c.in-Ok-desk.desk).files flow (g.K.Desk.Desk.told c.in-Ok-desk.desk).counts.faults (g.K.Desk.Desk.told c.begin-begun.new.desk).counts.faults
     c.begin-begun.result c.requires.fit c.requires.uuid c.requires.again c.begin-begun.ensures.begins
 
 pub returns : goal.returns
@@ -23,9 +22,9 @@ returns g c =
     let words = c.args.words.now in
     let old = c.args.input.now in
     let new = c.begin-begun.new.input in
-    let flow = input_flow (g.I.Source.given old) (g.I.Source.given new) (g.I.Source.left old) (g.I.Source.left new) (g.I.Source.faults old) (g.I.Source.faults new) in
-    let value = table_value g.K.Desk.Desk.counts g.K.Desk.Desk.files g.K.Desk.Desk.log in
-    let told = g.K.Desk.Desk.files c.in-Ok-desk.desk in
+    let flow = input_flow (g.I.Source.told old).given (g.I.Source.told new).given (g.I.Source.told old).left (g.I.Source.told new).left (g.I.Source.told old).faults (g.I.Source.told new).faults in
+    let value = g.K.Desk.Desk.told in
+    let told = (g.K.Desk.Desk.told c.in-Ok-desk.desk).files in
     let before = value c.begin-begun.new.desk in
     let table = value c.go_on-worked.new.desk in
     let workers = map value c.go_on-worked.result.crew.items in
@@ -49,10 +48,10 @@ returns g c =
       more = adds.more;
       desks = made_first (g.K.Desks.made c.args.desks.now) (g.K.Desks.made c.desk.new.self) (g.K.Desks.made c.go_on-worked.new.desks) (record { number = 0; files = told }) adds.more c.in-Ok-desk.ensures.made adds.desks;
       numbers = adds.numbers;
-      began = (from_gained (g.K.Desk.Desk.log c.in-Ok-desk.desk) (g.K.Desk.Desk.log c.go_on-worked.new.desk) names.calls told names.gained c.in-Ok-desk.ensures.fresh.2, adds.began);
-      played = played_at g.K.Desk.Desk.counts g.K.Desk.Desk.files g.K.Desk.Desk.log law c.all_desks.result.items;
+      began = (from_gained (g.K.Desk.Desk.told c.in-Ok-desk.desk).log (g.K.Desk.Desk.told c.go_on-worked.new.desk).log names.calls told names.gained c.in-Ok-desk.ensures.fresh.2, adds.began);
+      played = played_at g.K.Desk.Desk.told law c.all_desks.result.items;
       ends =
-          ends_run words (g.C.Clock.answer c.args.clock.now) told flow (g.K.Desk.Desk.counts c.in-Ok-desk.desk).faults before table workers made c.begin-begun.result c.begin-begun.ensures.files
+          ends_run words (g.C.Clock.answer c.args.clock.now) told flow (g.K.Desk.Desk.told c.in-Ok-desk.desk).counts.faults before table workers made c.begin-begun.result c.begin-begun.ensures.files
           (ap (λ (n : Counts). n.faults) c.in-Ok-desk.ensures.fresh.0) c.begin-begun.ensures.begins c.go_on-worked.ensures.goes_on;
       named = names_all c.in-Ok-desk.ensures.fresh.1 names;
       none = no_answers words before table workers made.journal made.answers c.begin-begun.result made.end c.go_on-worked.ensures.goes_on;

@@ -1,6 +1,4 @@
 use Rattle.std.proofs.Common.{◌≡◌, map, vec_len, vec_capacity}
-use Rattle.child_end.specs.Outsides.{table_value}
-use Rattle.lone_work.specs.Works.{desk_tells}
 use Rattle.run_tasks.specs.Runs.{AreFresh}
 use Rattle.run_tasks.specs.Workings.{AddsWorkers}
 use Rattle.run_tasks.proofs.rounds.ask_desks.Given as goal
@@ -9,6 +7,6 @@ use Rattle.run_tasks.proofs.rounds.ask_desks.Given as goal
 abbrev pub invariant-workers : goal.invariant-workers
 invariant-workers g l = record {
   room : (vec_len l.crew ≡ l.before) × (vec_capacity l.crew ≡ vec_capacity l.initial.crew);
-  adds : AddsWorkers l.before (g.K.Desks.made l.initial.desks) (g.K.Desks.made l.desks) (map (table_value g.K.Desk.Desk.counts g.K.Desk.Desk.files g.K.Desk.Desk.log) l.crew.items);
-  fresh : AreFresh (map (λ k. desk_tells (g.K.Desk.Desk.log k) (g.K.Desk.Desk.counts k)) l.crew.items);
+  adds : AddsWorkers l.before (g.K.Desks.made l.initial.desks) (g.K.Desks.made l.desks) (map g.K.Desk.Desk.told l.crew.items);
+  fresh : AreFresh (map g.K.Desk.Desk.told l.crew.items);
 }

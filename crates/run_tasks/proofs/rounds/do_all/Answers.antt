@@ -1,12 +1,10 @@
 use Rattle.std.proofs.Common.{◌∙◌, map, refl, sym, subst}
 use Rattle.std.proofs.lemmas.List.{length-map}
 use Rattle.journal_model.specs.declared.opening.Opening.{Opening}
-use Rattle.child_end.specs.Outsides.{table_value}
 use Rattle.lone_rounds.specs.Rounds.{IsWhole}
-use Rattle.lone_work.specs.Works.{AreTasks, desk_tells}
+use Rattle.lone_work.specs.Works.{AreTasks}
 use Rattle.run_answers.specs.Answering.{AreAllAnswered}
 use Rattle.run_answers.proofs.Answered.{all_answered}
-use Rattle.run_tasks.proofs.Crews.{tells_tables}
 use Rattle.run_tasks.proofs.Leaving.{leaves_named, ok_err}
 use Rattle.run_tasks.proofs.Origins.{origins_stay}
 use Rattle.run_tasks.proofs.Working.{is_worked, ends_finished, ends_wanting}
@@ -31,17 +29,17 @@ returns-in-Ok-clause-ends g c =
     let o = c.args.ready.core.opening in
     let crew = c.run_jobs-bench.result.0.desks in
     let journal = c.run_jobs-bench.result.0.core.journal in
-    let told = g.D.Desk.files c.args.desk.now in
-    let value = table_value g.D.Desk.counts g.D.Desk.files g.D.Desk.log in
+    let told = (g.D.Desk.told c.args.desk.now).files in
+    let value = g.D.Desk.told in
     let table = value c.finish-finished.new.desk in
-    let before = map (λ k. desk_tells (g.D.Desk.log k) (g.D.Desk.counts k)) c.args.crew.items in
-    let after = map (λ k. desk_tells (g.D.Desk.log k) (g.D.Desk.counts k)) crew.items in
+    let before = map g.D.Desk.told c.args.crew.items in
+    let after = map g.D.Desk.told crew.items in
     let workers = map value crew.items in
     ends_finished words told table o c.run_jobs-bench.result.0.core.opening workers journal c.journal_of.result.entries c.finish-finished.result.answers.items c.finish-finished.result.end
     c.run_jobs-bench.ensures.core.opening c.journal_of.ensures
     (is_worked words o workers journal before after c.args.ready.plan.setup c.args.ready.plan.offers c.args.ready.plan.starts
     (length-map c.args.crew.items _ ∙ sym c.args.crew.ok.0 ∙ c.requires.crew, length-map crew.items value ∙ sym crew.ok.0 ∙ c.run_jobs-bench.ensures.desks ∙ c.requires.crew) c.requires.fresh
-    (tells_tables g.D.Desk.counts g.D.Desk.files g.D.Desk.log crew.items) c.requires.prepared.setup c.requires.prepared.offers c.requires.prepared.starts c.run_jobs-bench.ensures.ran)
+    refl c.requires.prepared.setup c.requires.prepared.offers c.requires.prepared.starts c.run_jobs-bench.ensures.ran)
     (subst (IsWhole o journal) c.in-Ok.is c.run_jobs-bench.ensures.whole) c.finish-finished.ensures.finishes
 
 pub returns-in-Ok-clause-leaves : goal.returns-in-Ok-clause-leaves
@@ -54,16 +52,16 @@ returns-clause-ends g c =
     let o = c.args.ready.core.opening in
     let crew = c.run_jobs-bench.result.0.desks in
     let journal = c.run_jobs-bench.result.0.core.journal in
-    let told = g.D.Desk.files c.args.desk.now in
-    let value = table_value g.D.Desk.counts g.D.Desk.files g.D.Desk.log in
+    let told = (g.D.Desk.told c.args.desk.now).files in
+    let value = g.D.Desk.told in
     let table = value c.args.desk.now in
-    let before = map (λ k. desk_tells (g.D.Desk.log k) (g.D.Desk.counts k)) c.args.crew.items in
-    let after = map (λ k. desk_tells (g.D.Desk.log k) (g.D.Desk.counts k)) crew.items in
+    let before = map g.D.Desk.told c.args.crew.items in
+    let after = map g.D.Desk.told crew.items in
     let workers = map value crew.items in
     ends_wanting words told table o workers journal c.journal_of-in-Err.result.entries c.new.result.items c.journal_of-in-Err.ensures c.new.ensures.items refl
     (is_worked words o workers journal before after c.args.ready.plan.setup c.args.ready.plan.offers c.args.ready.plan.starts
     (length-map c.args.crew.items _ ∙ sym c.args.crew.ok.0 ∙ c.requires.crew, length-map crew.items value ∙ sym crew.ok.0 ∙ c.run_jobs-bench.ensures.desks ∙ c.requires.crew) c.requires.fresh
-    (tells_tables g.D.Desk.counts g.D.Desk.files g.D.Desk.log crew.items) c.requires.prepared.setup c.requires.prepared.offers c.requires.prepared.starts c.run_jobs-bench.ensures.ran)
+    refl c.requires.prepared.setup c.requires.prepared.offers c.requires.prepared.starts c.run_jobs-bench.ensures.ran)
 
 pub returns-clause-leaves : goal.returns-clause-leaves
 returns-clause-leaves g c = leaves_named (λ err. refl) c.journal_of-in-Err.ensures c.requires.prepared.program c.run_jobs-bench.ensures.leaves
@@ -73,10 +71,10 @@ returns-clause-calls g c = names_none refl
 
 pub returns-in-Ok-clause-origins : goal.returns-in-Ok-clause-origins
 returns-in-Ok-clause-origins g c =
-    origins_stay g.D.Desk.counts g.D.Desk.files g.D.Desk.log c.args.ready.core.opening c.args.ready.plan.setup c.args.ready.plan.starts c.run_jobs-bench.result.0.core.journal c.args.crew.items c.run_jobs-bench.result.0.desks.items
+    origins_stay g.D.Desk.told c.args.ready.core.opening c.args.ready.plan.setup c.args.ready.plan.starts c.run_jobs-bench.result.0.core.journal c.args.crew.items c.run_jobs-bench.result.0.desks.items
     c.run_jobs-bench.ensures.ran.did
 
 pub returns-clause-origins : goal.returns-clause-origins
 returns-clause-origins g c =
-    origins_stay g.D.Desk.counts g.D.Desk.files g.D.Desk.log c.args.ready.core.opening c.args.ready.plan.setup c.args.ready.plan.starts c.run_jobs-bench.result.0.core.journal c.args.crew.items c.run_jobs-bench.result.0.desks.items
+    origins_stay g.D.Desk.told c.args.ready.core.opening c.args.ready.plan.setup c.args.ready.plan.starts c.run_jobs-bench.result.0.core.journal c.args.crew.items c.run_jobs-bench.result.0.desks.items
     c.run_jobs-bench.ensures.ran.did

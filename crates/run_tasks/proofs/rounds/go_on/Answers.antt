@@ -1,12 +1,11 @@
 use Rattle.std.proofs.Common.{refl, ◌∙◌, ap, map}
-use Rattle.child_end.specs.Outsides.{table_value}
 use Rattle.run_tasks.proofs.Leaving.{adds_no_worker}
 use Rattle.desk_file.proofs.Naming.{names_none}
 use Rattle.run_tasks.proofs.rounds.go_on.Goals as goal
 
 pub returns-in-Err-clause-desks : goal.returns-in-Err-clause-desks
 returns-in-Err-clause-desks g c =
-    let value = table_value g.K.Desk.Desk.counts g.K.Desk.Desk.files g.K.Desk.Desk.log in
+    let value = g.K.Desk.Desk.told in
     adds_no_worker c.args.setting.now.words.now.jobs (g.K.Desks.made c.args.desks.now) (map value c.nothing.result.crew.items) (ap (λ v. map value v.items) c.nothing.ensures.crew ∙ ap (map value) c.requires.crew.0)
 
 pub returns-in-Err-clause-calls : goal.returns-in-Err-clause-calls

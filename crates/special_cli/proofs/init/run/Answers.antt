@@ -7,8 +7,6 @@ use Rattle.std.specs.Prelude.{IsErr}
 use Rattle.std.proofs.lemmas.Grind.{common_steps}
 use Rattle.init_run.specs.declared.setup.Setup.TheVariants.{Initialized, Stopped}
 use Rattle.special_cli.specs.declared.end.End.TheVariants.{Memory}
-use Rattle.child_end.specs.Programs.{programs_value}
-use Rattle.child_end.specs.Outsides.{table_value}
 use Rattle.special_cli.proofs.Keeping.{ends_set, ends_stopped, ends_wanting, outcome_ok, ok_err}
 use Rattle.special_cli.proofs.Leaving.{leaves_nothing}
 use Rattle.special_cli.proofs.init.run.Goals as goal
@@ -18,37 +16,37 @@ use Rattle.journal_model.proofs.Across.{nothing_legal}
 
 pub returns-in_default-clause-leaves : goal.returns-in_default-clause-leaves
 returns-in_default-clause-leaves g c =
-    leaves_nothing _ (programs_value (g.P.Programs.starts c.args.programs.now) (g.P.Programs.faults c.args.programs.now)) (programs_value (g.P.Programs.starts c.args.programs.now) (g.P.Programs.faults c.args.programs.now)) c.args.words.now.program
+    leaves_nothing _ (g.P.Programs.told c.args.programs.now) (g.P.Programs.told c.args.programs.now) c.args.words.now.program
     c.nothing_made.result.journal.entries _ refl c.nothing_made.ensures.0 c.requires.room.0
 
 pub returns-clause-ends : goal.returns-clause-ends
 returns-clause-ends g c =
-    let told = g.D.Desk.files c.args.desk.now in
-    let table = table_value g.D.Desk.counts g.D.Desk.files g.D.Desk.log c.match-asked.desk in
+    let told = (g.D.Desk.told c.args.desk.now).files in
+    let table = g.D.Desk.told c.match-asked.desk in
     let core = c.ask-asked.new.core in
     let same = c.ask-asked.ensures.core.opening ∙ c.in-Ok.ensures.opening in
     let legal = c.ask-asked.ensures.core.legal (nothing_legal c.in-Ok.core.opening c.in-Ok.core.journal c.in-Ok.ensures.empty) in
     elim c.match-asked.branch [
       | in-Ok-Initialized w ↦
           let is : w.in-Ok-Initialized.field-0 ≡ Initialized = rw w.in-Ok-Initialized.is at w.in-Ok-Initialized.field-0-is in
-          ends_set c.args.words.now told (g.D.Desk.files w.keep-end.new.desk) (g.D.Desk.counts w.keep-end.new.desk) (g.D.Desk.log w.keep-end.new.desk) table c.args.opening core.opening core.journal
+          ends_set c.args.words.now told (g.D.Desk.told w.keep-end.new.desk).files (g.D.Desk.told w.keep-end.new.desk).counts (g.D.Desk.told w.keep-end.new.desk).log table c.args.opening core.opening core.journal
           c.journal_of.result.entries w.in-Ok-Initialized.field-0 w.keep-end.result c.match-asked.end c.requires.begins same legal c.ask-asked.ensures.asked (outcome_ok core.journal c.ask-asked.result w.in-Ok-Initialized.field-0 w.in-Ok-Initialized.is c.ask-asked.ensures.outcome)
-          is w.keep-end.ensures.keeps w.end-is (ap (table_value g.D.Desk.counts g.D.Desk.files g.D.Desk.log) w.desk-is) c.journal_of.ensures
+          is w.keep-end.ensures.keeps w.end-is (ap (g.D.Desk.told) w.desk-is) c.journal_of.ensures
       | in-Ok-Stopped w ↦
           let is : w.in-Ok-Stopped.field-0 ≡ Stopped w.in-Ok-Stopped.answer = first_of (search rules, grind (arith, common_steps)) in
           ends_stopped c.args.words.now told table c.args.opening core.opening core.journal c.journal_of.result.entries w.in-Ok-Stopped.field-0 w.in-Ok-Stopped.answer c.match-asked.end c.requires.begins same legal
-          c.ask-asked.ensures.asked (outcome_ok core.journal c.ask-asked.result w.in-Ok-Stopped.field-0 w.in-Ok-Stopped.is c.ask-asked.ensures.outcome) is w.end-is (ap g.D.Desk.files w.desk-is) c.journal_of.ensures
+          c.ask-asked.ensures.asked (outcome_ok core.journal c.ask-asked.result w.in-Ok-Stopped.field-0 w.in-Ok-Stopped.is c.ask-asked.ensures.outcome) is w.end-is (ap (g.D.Desk.told w.desk-is).files) c.journal_of.ensures
       | in-Err w ↦
           ends_wanting c.args.words.now told table c.args.opening core.opening core.journal c.journal_of.result.entries c.match-asked.end c.requires.begins same legal c.ask-asked.ensures.asked w.end-is
-          (ap g.D.Desk.files w.desk-is) c.journal_of.ensures
+          (ap (g.D.Desk.told w.desk-is).files) c.journal_of.ensures
     ]
 
 pub returns-clause-calls : goal.returns-clause-calls
 returns-clause-calls g c =
     elim c.match-asked.branch [
-      | in-Ok-Initialized w ↦ subst (λ (log : Option Log). NamesOnly (IsInitFile c.args.words.now) (g.D.Desk.log c.args.desk.now) log) (sym (ap g.D.Desk.log w.desk-is)) w.keep-end.ensures.calls
-      | in-Ok-Stopped w ↦ names_none (ap g.D.Desk.log w.desk-is)
-      | in-Err w ↦ names_none (ap g.D.Desk.log w.desk-is)
+      | in-Ok-Initialized w ↦ subst (λ (log : Option Log). NamesOnly (IsInitFile c.args.words.now) (g.D.Desk.told c.args.desk.now).log log) (sym (ap (g.D.Desk.told w.desk-is).log)) w.keep-end.ensures.calls
+      | in-Ok-Stopped w ↦ names_none (ap (g.D.Desk.told w.desk-is).log)
+      | in-Err w ↦ names_none (ap (g.D.Desk.told w.desk-is).log)
     ]
 
 pub returns-in_default-clause-calls : goal.returns-in_default-clause-calls

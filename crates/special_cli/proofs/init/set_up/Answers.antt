@@ -1,19 +1,17 @@
 use Rattle.std.proofs.Common.{refl, inl}
 use Rattle.desk_file.proofs.Naming.{names_both, names_wider}
-use Rattle.child_end.specs.Programs.{programs_value}
-use Rattle.child_end.specs.Outsides.{table_value}
 use Rattle.special_cli.proofs.Keeping.{same_files}
 use Rattle.special_cli.proofs.Leaving.{leaves_nothing}
 use Rattle.special_cli.proofs.init.set_up.Goals as goal
 
 pub returns-in-Ok-Ready-clause-ends : goal.returns-in-Ok-Ready-clause-ends
 returns-in-Ok-Ready-clause-ends g c =
-    same_files c.args.words.now (g.D.Desk.files c.args.desk.now) (g.D.Desk.files c.begin.new.desk) (table_value g.D.Desk.counts g.D.Desk.files g.D.Desk.log c.run.new.desk) c.run.result.journal.entries c.run.result.end c.in-Ok-Ready.ensures.files
+    same_files c.args.words.now (g.D.Desk.told c.args.desk.now).files (g.D.Desk.told c.begin.new.desk).files (g.D.Desk.told c.run.new.desk) c.run.result.journal.entries c.run.result.end c.in-Ok-Ready.ensures.files
     c.run.ensures.ends
 
 pub returns-in-Err-clause-leaves : goal.returns-in-Err-clause-leaves
 returns-in-Err-clause-leaves g c =
-    leaves_nothing _ (programs_value (g.P.Programs.starts c.args.programs.now) (g.P.Programs.faults c.args.programs.now)) (programs_value (g.P.Programs.starts c.args.programs.now) (g.P.Programs.faults c.args.programs.now)) c.args.words.now.program
+    leaves_nothing _ (g.P.Programs.told c.args.programs.now) (g.P.Programs.told c.args.programs.now) c.args.words.now.program
     c.nothing_made-in-Err.result.journal.entries _ refl c.nothing_made-in-Err.ensures.0 c.requires.room.0
 
 pub returns-in-Ok-Ready-clause-calls : goal.returns-in-Ok-Ready-clause-calls

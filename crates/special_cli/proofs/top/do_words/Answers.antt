@@ -8,9 +8,9 @@ use Rattle.special_cli.proofs.top.do_words.Goals as goal
 
 pub returns-in-Err : goal.returns-in-Err
 returns-in-Err g c =
-    let given = g.I.Source.given c.args.input.now in
-    let left = g.I.Source.left c.args.input.now in
-    let faults = g.I.Source.faults c.args.input.now in
+    let given = (g.I.Source.told c.args.input.now).given in
+    let left = (g.I.Source.told c.args.input.now).left in
+    let faults = (g.I.Source.told c.args.input.now).faults in
     runs_nothing (g.C.Clock.answer c.args.clock.now) c.args.outside (input_flow given given left left faults faults) (command_of (texts_of c.args.words.now)) c.nothing.result c.nothing.ensures.end
     c.nothing.ensures.idle (record { given = refl; left = refl; faults = refl })
 

@@ -31,7 +31,7 @@ loop-i-preserved g c =
       room = rw two at (m refl);
       on = g.met.A.Asker.goes_both c.args.asker.now c.loop-i.asker c.next_chunk.new.asker c.loop-i.invariant.on c.next_chunk.ensures.on;
       notes = c.in_ok-went.ensures.notes ∙ c.loop-i.invariant.notes;
-      same = same_both _ _ _ _ _ _ _ _ _ c.loop-i.invariant.same c.in_ok-went.ensures.same;
+      same = same_both c.loop-i.invariant.same c.in_ok-went.ensures.same;
       quiet = q.quiet refl ∙ c.loop-i.invariant.quiet;
     }
 

@@ -49,7 +49,7 @@ loop-i-preserved g c =
             so_far = tries_more _ _ _ _ _ _ _ _ _ _ _ _ _ _ _ _ c.requires.size (at_layout c.args.layouts.now c.loop-i.i (omega arith)) (test_is _ _ _ w.if-chunks-count.true c.count.ensures) c.loop-i.invariant.so_far r;
             on = g.met.A.Asker.goes_both c.args.asker.now c.loop-i.asker w.get_layout.new.asker c.loop-i.invariant.on w.get_layout.ensures.on;
             notes = w.get_layout.ensures.notes ∙ c.loop-i.invariant.notes;
-            same = same_both _ _ _ _ _ _ _ _ _ c.loop-i.invariant.same w.get_layout.ensures.same;
+            same = same_both c.loop-i.invariant.same w.get_layout.ensures.same;
             causes = causes_behind _ _ _ (Ok Got) _ c.loop-i.invariant.causes refl k;
           }
       | else-chunks-count w ↦

@@ -9,9 +9,9 @@ use Rattle.task_get.proofs.get_layouts.try_layouts.Given as goal
 
 abbrev pub invariant-loop-i : goal.invariant-loop-i
 invariant-loop-i g l = record {
-  so_far : TriesSoFar l.get.setup.now l.get.turn (parts_of l.get.key) l.get.file.now l.layouts l.i l.asked (g.A.Asker.pairs l.fn.asker) (g.A.Asker.pairs l.asker) (g.D.Desk.log l.fn.desk) (g.D.Desk.log l.desk);
+  so_far : TriesSoFar l.get.setup.now l.get.turn (parts_of l.get.key) l.get.file.now l.layouts l.i l.asked (g.A.Asker.told l.fn.asker).pairs (g.A.Asker.told l.asker).pairs (g.D.Desk.told l.fn.desk).log (g.D.Desk.told l.desk).log;
   on : g.A.Asker.goes_on l.fn.asker l.asker;
-  notes : g.A.Asker.notes l.asker ≡ g.A.Asker.notes l.fn.asker;
-  same : IsSameTask (g.A.Asker.task l.fn.asker) (g.A.Asker.task l.asker) (g.A.Asker.may_note l.fn.asker) (g.A.Asker.may_note l.asker) (g.A.Asker.loans l.fn.asker) (g.A.Asker.loans l.asker);
-  causes : HasTaskCauses (g.D.Desk.counts l.fn.desk) (g.D.Desk.counts l.desk) (Ok Got);
+  notes : (g.A.Asker.told l.asker).notes ≡ (g.A.Asker.told l.fn.asker).notes;
+  same : IsSameTask (g.A.Asker.told l.fn.asker) (g.A.Asker.told l.asker);
+  causes : HasTaskCauses (g.D.Desk.told l.fn.desk).counts (g.D.Desk.told l.desk).counts (Ok Got);
 }

@@ -9,5 +9,5 @@ returns-in_err-read_step-clause-given g c =
     let p = err_from_is_err_and c.from_residual.result c.from_residual.ensures.1 in (
       c.loop-source.bytes.items ++ step.0,
       given_both _ _ _ _ _ _ c.loop-source.bytes.items step.0 c.loop-source.invariant.given step.1,
-      rw (p.1, p.2) (step_fails c.loop-source.bytes.items c.read_step.new.bytes.items step.0 (c.loop-source.bytes.items ++ step.0) (g.S.Source.left c.read_step.new.source) c.args.limit c.in_err-read_step.field-0.0 step.2),
+      rw (p.1, p.2) (step_fails c.loop-source.bytes.items c.read_step.new.bytes.items step.0 (c.loop-source.bytes.items ++ step.0) (g.S.Source.told c.read_step.new.source).left c.args.limit c.in_err-read_step.field-0.0 step.2),
     )

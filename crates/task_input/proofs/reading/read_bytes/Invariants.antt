@@ -5,11 +5,11 @@ use Rattle.task_input.proofs.reading.read_bytes.Given as goal
 
 abbrev pub invariant-loop-source : goal.invariant-loop-source
 invariant-loop-source g l = record {
-  given : HasGiven (g.S.Source.given l.initial.source) (g.S.Source.given l.source) (g.S.Source.left l.initial.source) (g.S.Source.left l.source) l.bytes.items;
-  silent : StaysUntold (g.S.Source.given l.initial.source) (g.S.Source.given l.source) × StaysUntold (g.S.Source.left l.initial.source) (g.S.Source.left l.source);
-  faults : g.S.Source.faults l.source ≡ g.S.Source.faults l.initial.source;
-  opened : g.S.Source.is_open l.source ≡ true;
-  number : g.S.Source.number l.source ≡ g.S.Source.number l.initial.source;
+  given : HasGiven (g.S.Source.told l.initial.source).given (g.S.Source.told l.source).given (g.S.Source.told l.initial.source).left (g.S.Source.told l.source).left l.bytes.items;
+  silent : StaysUntold (g.S.Source.told l.initial.source).given (g.S.Source.told l.source).given × StaysUntold (g.S.Source.told l.initial.source).left (g.S.Source.told l.source).left;
+  faults : (g.S.Source.told l.source).faults ≡ (g.S.Source.told l.initial.source).faults;
+  opened : (g.S.Source.told l.source).is_open ≡ true;
+  number : (g.S.Source.told l.source).number ≡ (g.S.Source.told l.initial.source).number;
 }
 
 abbrev pub decreases-loop-source : goal.decreases-loop-source

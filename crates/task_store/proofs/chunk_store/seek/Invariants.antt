@@ -6,10 +6,10 @@ use Rattle.task_store.proofs.chunk_store.seek.Given as goal
 
 abbrev pub invariant-loop-there : goal.invariant-loop-there
 invariant-loop-there g l = record {
-  seeking : Seeking (parts_of l.store.key) l.store.setup.now.chunk l.count (g.A.Asker.pairs l.fn.asker) (g.A.Asker.pairs l.asker) l.there;
+  seeking : Seeking (parts_of l.store.key) l.store.setup.now.chunk l.count (g.A.Asker.told l.fn.asker).pairs (g.A.Asker.told l.asker).pairs l.there;
   most : l.there ≤ l.count;
-  notes : g.A.Asker.notes l.asker ≡ g.A.Asker.notes l.fn.asker;
-  same : IsSameTask (g.A.Asker.task l.fn.asker) (g.A.Asker.task l.asker) (g.A.Asker.may_note l.fn.asker) (g.A.Asker.may_note l.asker) (g.A.Asker.loans l.fn.asker) (g.A.Asker.loans l.asker);
+  notes : (g.A.Asker.told l.asker).notes ≡ (g.A.Asker.told l.fn.asker).notes;
+  same : IsSameTask (g.A.Asker.told l.fn.asker) (g.A.Asker.told l.asker);
   on : g.A.Asker.goes_on l.fn.asker l.asker;
   ready : g.A.Asker.ready l.asker;
 }

@@ -39,7 +39,7 @@ loop-chunk-preserved g c =
       missed = rw c.missing_more-missing.ensures (missed_next _ _ _ (parts_of c.view-key.result) _ _ _ c.in-Some.verdict c.loop-chunk-test.true i.missed (rw c.in-Some.is at e.asks) (sym c.is_stop.ensures ∙ c.if-is_stop.false));
       quiet = rw c.missing_more-missing.ensures (quiet_more _ _ i.quiet);
       notes = e.notes ∙ i.notes;
-      same = same_on _ _ _ _ _ _ _ _ _ i.same e.same;
+      same = same_on i.same e.same;
       on = g.met.A.Asker.goes_both _ _ _ i.on e.on;
     }
 

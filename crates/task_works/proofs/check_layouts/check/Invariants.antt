@@ -8,9 +8,9 @@ use Rattle.task_works.proofs.check_layouts.check.Given as goal
 
 abbrev pub invariant-loop-chunk : goal.invariant-loop-chunk
 invariant-loop-chunk g l = record {
-  missed : Missed (g.A.Asker.pairs l.fn.asker) (g.A.Asker.pairs l.asker) (map (keys_of_layout (parts_of l.key)) (take l.chunk-index l.chunk-items)) l.missing;
+  missed : Missed (g.A.Asker.told l.fn.asker).pairs (g.A.Asker.told l.asker).pairs (map (keys_of_layout (parts_of l.key)) (take l.chunk-index l.chunk-items)) l.missing;
   quiet : may_follow_refusal (Ok l.missing) ≡ false;
-  notes : g.A.Asker.notes l.asker ≡ g.A.Asker.notes l.fn.asker;
-  same : IsSameTask (g.A.Asker.task l.fn.asker) (g.A.Asker.task l.asker) (g.A.Asker.may_note l.fn.asker) (g.A.Asker.may_note l.asker) (g.A.Asker.loans l.fn.asker) (g.A.Asker.loans l.asker);
+  notes : (g.A.Asker.told l.asker).notes ≡ (g.A.Asker.told l.fn.asker).notes;
+  same : IsSameTask (g.A.Asker.told l.fn.asker) (g.A.Asker.told l.asker);
   on : g.A.Asker.goes_on l.fn.asker l.asker;
 }

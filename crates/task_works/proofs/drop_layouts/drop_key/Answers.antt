@@ -33,7 +33,7 @@ loop-chunk-preserved g c =
     let n = c.in_ok-note_none-in-None.ensures in
     record {
       removed = rw n.pairs (removed_next _ _ _ _ _ _ (parts_of c.view-key.result) _ _ c.loop-chunk-test.true i.removed (rw c.in-None.is at e.asks) (rw e.notes at n.notes));
-      same = same_on _ _ _ _ _ _ _ _ _ i.same (same_on _ _ _ _ _ _ _ _ _ e.same n.same);
+      same = same_on i.same (same_on e.same n.same);
       on = g.met.A.Asker.goes_both _ _ _ i.on (g.met.A.Asker.goes_both _ _ _ e.on n.on);
     }
 

@@ -9,7 +9,7 @@ loop-at-init g c = record {
   asked = asked_nothing _ _ _;
   notes = refl;
   layouts = refl;
-  same = same_still _ _ _;
+  same = same_still _;
   on = g.met.A.Asker.stays _ c.requires.ready;
 }
 
@@ -35,7 +35,7 @@ loop-at-preserved g c =
       asked = asked_more _ _ _ _ (parts_of c.args.key) _ _ c.in_ok-piece.piece _ i.asked (rw (c.key_count-at-end.ensures, c.size.ensures) at c.loop-at-test.true) c.in_ok-piece.ensures.read (rw c.view.ensures at e.pairs) (sym c.is_done.ensures ∙ c.if-not-is_done.false);
       notes = e.notes ∙ i.notes;
       layouts = e.layouts ∙ i.layouts;
-      same = same_on _ _ _ _ _ _ _ _ _ i.same e.same;
+      same = same_on i.same e.same;
       on = g.met.A.Asker.goes_both _ _ _ i.on e.on;
     }
 

@@ -7,9 +7,9 @@ use Rattle.task_works.proofs.layouts.ask_layout.Given as goal
 
 abbrev pub invariant-loop-at : goal.invariant-loop-at
 invariant-loop-at g l = record {
-  asked : Asked l.query (g.A.Asker.pairs l.fn.asker) (g.A.Asker.pairs l.asker) (keys_of_layout (parts_of l.key) l.chunk) l.at;
-  notes : g.A.Asker.notes l.asker ≡ g.A.Asker.notes l.fn.asker;
-  layouts : g.A.Asker.current l.asker ≡ g.A.Asker.current l.fn.asker;
-  same : IsSameTask (g.A.Asker.task l.fn.asker) (g.A.Asker.task l.asker) (g.A.Asker.may_note l.fn.asker) (g.A.Asker.may_note l.asker) (g.A.Asker.loans l.fn.asker) (g.A.Asker.loans l.asker);
+  asked : Asked l.query (g.A.Asker.told l.fn.asker).pairs (g.A.Asker.told l.asker).pairs (keys_of_layout (parts_of l.key) l.chunk) l.at;
+  notes : (g.A.Asker.told l.asker).notes ≡ (g.A.Asker.told l.fn.asker).notes;
+  layouts : (g.A.Asker.told l.asker).current ≡ (g.A.Asker.told l.fn.asker).current;
+  same : IsSameTask (g.A.Asker.told l.fn.asker) (g.A.Asker.told l.asker);
   on : g.A.Asker.goes_on l.fn.asker l.asker;
 }

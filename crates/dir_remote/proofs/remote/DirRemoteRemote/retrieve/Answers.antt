@@ -14,7 +14,7 @@ returns-clause-retrieved g c =
         prepared = search rules;
         works = search rules;
         traced =
-            let P : List ℕ → Type 0 = λ d. Traced (Each (IsRetrieveCall d (text_of c.args.key) c.args.file.now)) (g.D.Desk.log c.args.self.now.desk) (g.D.Desk.log c.match-self.self-inside.desk) in
+            let P : List ℕ → Type 0 = λ d. Traced (Each (IsRetrieveCall d (text_of c.args.key) c.args.file.now)) (g.D.Desk.told c.args.self.now.desk).log (g.D.Desk.told c.match-self.self-inside.desk).log in
             of_directory P c.args.self.now.directory w.view.result.now (search rules) (search rules);
         calm = search rules;
         idle = search rules;

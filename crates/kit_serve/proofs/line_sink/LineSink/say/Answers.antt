@@ -8,6 +8,6 @@ invariant_of-self g c = λ live.
     let before = c.self.invariant c.if-self.false in (
       c.put-done.ensures.stays.0,
       if_well _ c.put-done.result well c.put-done.ensures.flushed,
-      took_more (g.W.Sink.taken c.self.inside.begun.value) (g.W.Sink.taken c.self.inside.sink) (g.W.Sink.taken c.put-done.new.sink) c.args.lines.now before.2
+      took_more (g.W.Sink.told c.self.inside.begun.value).taken (g.W.Sink.told c.self.inside.sink).taken (g.W.Sink.told c.put-done.new.sink).taken c.args.lines.now before.2
           (if_well _ c.put-done.result well c.put-done.ensures.ok) c.requires,
     )

@@ -15,30 +15,30 @@ pub got-requires-clause-line : goal.got-requires-clause-line
 got-requires-clause-line g c = ap has_newline c.requires.line.1 ∙ line_whole c.args.self.now.held
 
 pub stop-requires-clause-started : goal.stop-requires-clause-started
-stop-requires-clause-started g c = started_then c.child-child.result c.in-Err.ensures.err (ap (is_started (g.D.Door.seen c.args.door.now)) c.child-child.ensures ∙ c.requires.started)
+stop-requires-clause-started g c = started_then c.child-child.result c.in-Err.ensures.err (ap (is_started (g.D.Door.view c.args.door.now).seen) c.child-child.ensures ∙ c.requires.started)
 
 pub returns-in-Ok-true-clause-moved : goal.returns-in-Ok-true-clause-moved
 returns-in-Ok-true-clause-moved g c =
-    ear_fed (g.D.Door.opening c.args.door.now) c.args.self.now c.child-child.result c.child-child.ensures c.drop_line.new.self c.args.line c.in-Ok-true.field-0 c.in-Ok-true.field-0-test c.drop_line.ensures.same c.requires.line c.drop_line.ensures.cut c.drop_line.ensures.fewer c.in-Ok-true.ensures.ok
+    ear_fed (g.D.Door.view c.args.door.now).opening c.args.self.now c.child-child.result c.child-child.ensures c.drop_line.new.self c.args.line c.in-Ok-true.field-0 c.in-Ok-true.field-0-test c.drop_line.ensures.same c.requires.line c.drop_line.ensures.cut c.drop_line.ensures.fewer c.in-Ok-true.ensures.ok
 
 pub returns-in-Ok-true-clause-turned : goal.returns-in-Ok-true-clause-turned
 returns-in-Ok-true-clause-turned g c =
-    turn_fed (g.D.Door.opening c.args.door.now) c.args.self.now c.child-child.result c.child-child.ensures c.args.line c.in-Ok-true.field-0 c.in-Ok-true.field-0-test c.in-Ok-true.ensures.ok
+    turn_fed (g.D.Door.view c.args.door.now).opening c.args.self.now c.child-child.result c.child-child.ensures c.args.line c.in-Ok-true.field-0 c.in-Ok-true.field-0-test c.in-Ok-true.ensures.ok
 
 pub returns-in-Ok-false-clause-moved : goal.returns-in-Ok-false-clause-moved
 returns-in-Ok-false-clause-moved g c =
     ear_gives_up c.args.self.now c.child-child.result c.child-child.ensures Full refl refl tt
-    (untaken (g.D.Door.opening c.args.door.now) c.args.self.now c.child-child.result c.child-child.ensures c.args.line c.in-Ok-false.field-0 c.in-Ok-false.field-0-test c.in-Ok-false.ensures.ok)
+    (untaken (g.D.Door.view c.args.door.now).opening c.args.self.now c.child-child.result c.child-child.ensures c.args.line c.in-Ok-false.field-0 c.in-Ok-false.field-0-test c.in-Ok-false.ensures.ok)
 
 pub returns-in-Ok-false-clause-turned : goal.returns-in-Ok-false-clause-turned
 returns-in-Ok-false-clause-turned g c =
     moved_from (λ h. h.1) (turn_over c.args.self.now c.child-child.result c.child-child.ensures Full refl
-    (untaken (g.D.Door.opening c.args.door.now) c.args.self.now c.child-child.result c.child-child.ensures c.args.line c.in-Ok-false.field-0 c.in-Ok-false.field-0-test c.in-Ok-false.ensures.ok))
+    (untaken (g.D.Door.view c.args.door.now).opening c.args.self.now c.child-child.result c.child-child.ensures c.args.line c.in-Ok-false.field-0 c.in-Ok-false.field-0-test c.in-Ok-false.ensures.ok))
 
 pub returns-in-Ok-false-clause-over : goal.returns-in-Ok-false-clause-over
 returns-in-Ok-false-clause-over g c = λ _.
-    ap (is_ended (g.D.Door.seen c.got.new.door)) (sym c.child-child.ensures)
-    ∙ over_by {o = g.D.Door.opening c.args.door.now} c.child-child.result Full (untaken (g.D.Door.opening c.args.door.now) c.args.self.now c.child-child.result c.child-child.ensures c.args.line c.in-Ok-false.field-0 c.in-Ok-false.field-0-test c.in-Ok-false.ensures.ok)
+    ap (is_ended (g.D.Door.view c.got.new.door).seen) (sym c.child-child.ensures)
+    ∙ over_by {o = (g.D.Door.view c.args.door.now).opening} c.child-child.result Full (untaken (g.D.Door.view c.args.door.now).opening c.args.self.now c.child-child.result c.child-child.ensures c.args.line c.in-Ok-false.field-0 c.in-Ok-false.field-0-test c.in-Ok-false.ensures.ok)
 
 pub returns-in-Err-clause-moved : goal.returns-in-Err-clause-moved
 returns-in-Err-clause-moved g c =
@@ -51,7 +51,7 @@ returns-in-Err-clause-turned g c =
     (turn_over c.args.self.now c.child-child.result c.child-child.ensures Memory refl c.stop.ensures.ends))
 
 pub returns-in-Err-clause-over : goal.returns-in-Err-clause-over
-returns-in-Err-clause-over g c = λ _. ap (is_ended (g.D.Door.seen c.stop.new.door)) (sym c.child-child.ensures) ∙ c.stop.ensures.over
+returns-in-Err-clause-over g c = λ _. ap (is_ended (g.D.Door.view c.stop.new.door).seen) (sym c.child-child.ensures) ∙ c.stop.ensures.over
 
 pub returns-in-Err-clause-door : goal.returns-in-Err-clause-door
 returns-in-Err-clause-door g c = same_both c.got.ensures.door c.stop.ensures.door
@@ -60,7 +60,7 @@ pub returns-in-Ok-true-clause-came : goal.returns-in-Ok-true-clause-came
 returns-in-Ok-true-clause-came g c = fed_came c.args.self.now c.drop_line.new.self c.child-child.result c.child-child.ensures c.args.line c.in-Ok-true.field-0 c.in-Ok-true.field-0-test c.requires.line.0 c.drop_line.ensures.same c.drop_line.ensures.fewer c.in-Ok-true.ensures.ok
 
 pub returns-in-Ok-false-clause-came : goal.returns-in-Ok-false-clause-came
-returns-in-Ok-false-clause-came g c = unfed_came c.args.self.now c.args.self.now c.child-child.result c.child-child.ensures Full refl refl (untaken (g.D.Door.opening c.args.door.now) c.args.self.now c.child-child.result c.child-child.ensures c.args.line c.in-Ok-false.field-0 c.in-Ok-false.field-0-test c.in-Ok-false.ensures.ok)
+returns-in-Ok-false-clause-came g c = unfed_came c.args.self.now c.args.self.now c.child-child.result c.child-child.ensures Full refl refl (untaken (g.D.Door.view c.args.door.now).opening c.args.self.now c.child-child.result c.child-child.ensures c.args.line c.in-Ok-false.field-0 c.in-Ok-false.field-0-test c.in-Ok-false.ensures.ok)
 
 pub returns-in-Err-clause-came : goal.returns-in-Err-clause-came
 returns-in-Err-clause-came g c = unfed_came c.args.self.now c.args.self.now c.child-child.result c.child-child.ensures Memory refl refl (ends_behind c.child-child.result Memory c.got.ensures.door.opening c.got.ensures.door.number c.got.ensures.door.alone c.in-Err.ensures.err c.got.ensures.door.legal c.stop.ensures.ends)

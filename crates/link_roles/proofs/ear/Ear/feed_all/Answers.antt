@@ -14,14 +14,14 @@ returns-clause-door g c = same_both c.loop.invariant.door c.feed_next.ensures.do
 
 pub loop-preserved : goal.loop-preserved
 loop-preserved g c = record {
-  started = ap (is_started (g.D.Door.seen c.feed_next.new.door)) c.feed_next.ensures.same.0 ∙ started_on c.loop.self.child c.feed_next.ensures.moved c.loop.invariant.started;
+  started = ap (is_started (g.D.Door.view c.feed_next.new.door).seen) c.feed_next.ensures.same.0 ∙ started_on c.loop.self.child c.feed_next.ensures.moved c.loop.invariant.started;
   moved = moved_then by_ear is_heard c.loop.invariant.door.number c.loop.invariant.door.alone c.loop.invariant.same.0 c.loop.invariant.moved c.feed_next.ensures.moved;
   same = (c.feed_next.ensures.same.0 ∙ c.loop.invariant.same.0, c.feed_next.ensures.same.1 ∙ c.loop.invariant.same.1);
   door = same_both c.loop.invariant.door c.feed_next.ensures.door;
-  only = (the_next c.loop.self c.feed_next.new.self (g.D.Door.seen c.feed_next.new.door) c.feed_next.result c.loop-test.true c.feed_next.ensures.next).same ∙ ap (λ (v : EarValue). record v { held = c.feed_next.new.self.held }) c.loop.invariant.only;
-  fewer = less_then (the_next c.loop.self c.feed_next.new.self (g.D.Door.seen c.feed_next.new.door) c.feed_next.result c.loop-test.true c.feed_next.ensures.next).fewer c.loop.invariant.fewer;
+  only = (the_next c.loop.self c.feed_next.new.self (g.D.Door.view c.feed_next.new.door).seen c.feed_next.result c.loop-test.true c.feed_next.ensures.next).same ∙ ap (λ (v : EarValue). record v { held = c.feed_next.new.self.held }) c.loop.invariant.only;
+  fewer = less_then (the_next c.loop.self c.feed_next.new.self (g.D.Door.view c.feed_next.new.door).seen c.feed_next.result c.loop-test.true c.feed_next.ensures.next).fewer c.loop.invariant.fewer;
 }
 
 pub returns-clause-all : goal.returns-clause-all
 returns-clause-all g c =
-    all_fed c.args.self.now c.loop.self c.feed_next.new.self (g.D.Door.seen c.feed_next.new.door) c.feed_next.result c.loop-test.false c.loop.invariant.only c.loop.invariant.fewer c.feed_next.ensures.next
+    all_fed c.args.self.now c.loop.self c.feed_next.new.self (g.D.Door.view c.feed_next.new.door).seen c.feed_next.result c.loop-test.false c.loop.invariant.only c.loop.invariant.fewer c.feed_next.ensures.next

@@ -14,7 +14,7 @@ pub returns-in-Got-clause-moved : goal.returns-in-Got-clause-moved
 returns-in-Got-clause-moved g c =
     let grown : GrowsBy 4096 c.args.self.now.held c.fill.new.self.held = c.in-Got.ensures.more refl in
     let little : IsLittle c.fill.new.self.held = omega (arith, c.requires.more.1, grown.few, ap (λ (bs : List ℕ). length bs) grown.is, length-append c.args.self.now.held grown.piece) in
-    moved_still refl (ear_filled (g.D.Door.seen c.args.door.now) c.args.self.now c.fill.new.self c.fill.ensures.fills little c.requires.live)
+    moved_still refl (ear_filled (g.D.Door.view c.args.door.now).seen c.args.self.now c.fill.new.self c.fill.ensures.fills little c.requires.live)
 
 pub returns-in-End-clause-moved : goal.returns-in-End-clause-moved
 returns-in-End-clause-moved g c =

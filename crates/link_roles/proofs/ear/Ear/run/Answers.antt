@@ -15,11 +15,11 @@ pub returns-then-not-go_on-clause-door : goal.returns-then-not-go_on-clause-door
 returns-then-not-go_on-clause-door g c = same_both c.loop.invariant.door c.go_on.ensures.door
 
 pub returns-then-not-go_on-clause-over : goal.returns-then-not-go_on-clause-over
-returns-then-not-go_on-clause-over g c = says_listen (g.D.Door.seen c.go_on.new.door) Over c.loop.invariant.door.opening c.loop.invariant.door.number c.loop.invariant.same.0 (c.go_on.ensures.over c.if-not-go_on.true)
+returns-then-not-go_on-clause-over g c = says_listen (g.D.Door.view c.go_on.new.door).seen Over c.loop.invariant.door.opening c.loop.invariant.door.number c.loop.invariant.same.0 (c.go_on.ensures.over c.if-not-go_on.true)
 
 pub loop-preserved : goal.loop-preserved
 loop-preserved g c = record {
-  started = ap (is_started (g.D.Door.seen c.go_on.new.door)) c.go_on.ensures.same.0 ∙ started_on c.loop.self.child c.go_on.ensures.moved c.loop.invariant.started;
+  started = ap (is_started (g.D.Door.view c.go_on.new.door).seen) c.go_on.ensures.same.0 ∙ started_on c.loop.self.child c.go_on.ensures.moved c.loop.invariant.started;
   moved = moved_then by_ear is_heard c.loop.invariant.door.number c.loop.invariant.door.alone c.loop.invariant.same.0 c.loop.invariant.moved c.go_on.ensures.moved;
   same = (c.go_on.ensures.same.0 ∙ c.loop.invariant.same.0, c.go_on.ensures.same.1 ∙ c.loop.invariant.same.1);
   door = same_both c.loop.invariant.door c.go_on.ensures.door;
@@ -33,6 +33,6 @@ returns-clause-door g c = same_both c.loop.invariant.door c.stop.ensures.door
 
 pub returns-clause-over : goal.returns-clause-over
 returns-clause-over g c =
-    ended_listen (g.D.Door.opening c.args.door.now) (g.D.Door.number c.args.door.now) c.args.self.now.child (g.D.Door.seen c.stop.new.door)
+    ended_listen (g.D.Door.view c.args.door.now).opening (g.D.Door.view c.args.door.now).number c.args.self.now.child (g.D.Door.view c.stop.new.door).seen
     (started_on c.args.self.now.child (returns-clause-moved g c) c.requires.started)
-    (ap (is_ended (g.D.Door.seen c.stop.new.door)) (sym (c.child-child.ensures ∙ c.loop.invariant.same.0)) ∙ c.stop.ensures.over)
+    (ap (is_ended (g.D.Door.view c.stop.new.door).seen) (sym (c.child-child.ensures ∙ c.loop.invariant.same.0)) ∙ c.stop.ensures.over)

@@ -4,7 +4,7 @@ use Rattle.link_roles.proofs.lone.Lone.ask_alone.Goals as goal
 
 pub returns-in-Ok-clause-asked : goal.returns-in-Ok-clause-asked
 returns-in-Ok-clause-asked g c =
-    asked_alone (g.D.Door.opening c.args.door.now) (g.D.Door.number c.args.door.now) (g.D.Door.alone c.args.door.now) (g.D.Door.seen c.args.door.now) (g.D.Door.seen c.ask.new.door) c.args.self.now.ear.child c.args.task (name_of c.args.request.now) (message_of c.args.request.now) c.in-Ok.verdict
+    asked_alone (g.D.Door.view c.args.door.now).opening (g.D.Door.view c.args.door.now).number (g.D.Door.view c.args.door.now).alone (g.D.Door.view c.args.door.now).seen (g.D.Door.view c.ask.new.door).seen c.args.self.now.ear.child c.args.task (name_of c.args.request.now) (message_of c.args.request.now) c.in-Ok.verdict
     c.requires.alone c.in-Ok.ensures.asked
 
 pub returns-in-Ok-clause-link : goal.returns-in-Ok-clause-link

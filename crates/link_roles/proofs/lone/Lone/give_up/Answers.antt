@@ -8,8 +8,8 @@ use Rattle.link_roles.proofs.lone.Lone.give_up.Goals as goal
 pub returns-clause-moved : goal.returns-clause-moved
 returns-clause-moved g c =
     link_mouth c.args.self.now.ear c.args.self.now.mouth c.args.self.now.mouth c.args.self.now.one_child
-    (mouth_ends c.args.self.now.mouth (subst (λ (k : ℕ). Ends (g.D.Door.opening c.args.door.now) (g.D.Door.number c.args.door.now) (g.D.Door.alone c.args.door.now) (g.D.Door.seen c.args.door.now) (g.D.Door.seen c.stop.new.door) k Memory)
+    (mouth_ends c.args.self.now.mouth (subst (λ (k : ℕ). Ends (g.D.Door.view c.args.door.now).opening (g.D.Door.view c.args.door.now).number (g.D.Door.view c.args.door.now).alone (g.D.Door.view c.args.door.now).seen (g.D.Door.view c.stop.new.door).seen k Memory)
     (c.child-child.ensures ∙ sym c.args.self.now.one_child) c.stop.ensures.ends))
 
 pub returns-clause-ends : goal.returns-clause-ends
-returns-clause-ends g c = subst (λ (k : ℕ). Ends (g.D.Door.opening c.args.door.now) (g.D.Door.number c.args.door.now) (g.D.Door.alone c.args.door.now) (g.D.Door.seen c.args.door.now) (g.D.Door.seen c.stop.new.door) k Memory) c.child-child.ensures c.stop.ensures.ends
+returns-clause-ends g c = subst (λ (k : ℕ). Ends (g.D.Door.view c.args.door.now).opening (g.D.Door.view c.args.door.now).number (g.D.Door.view c.args.door.now).alone (g.D.Door.view c.args.door.now).seen (g.D.Door.view c.stop.new.door).seen k Memory) c.child-child.ensures c.stop.ensures.ends

@@ -10,25 +10,25 @@ use Rattle.link_roles.proofs.Replying.{started_then}
 use Rattle.link_roles.proofs.lone.Lone.hear_first.Goals as goal
 
 pub hear-requires-clause-turn : goal.hear-requires-clause-turn
-hear-requires-clause-turn g c = ap (may_hear (g.D.Door.seen c.listen.new.door)) (sym c.child-child.ensures) ∙ c.in-Read.ensures.listening.1
+hear-requires-clause-turn g c = ap (may_hear (g.D.Door.view c.listen.new.door).seen) (sym c.child-child.ensures) ∙ c.in-Read.ensures.listening.1
 
 pub returns-in-Rest-clause-moved : goal.returns-in-Rest-clause-moved
 returns-in-Rest-clause-moved g c = link_on c.args.self.now.ear c.args.self.now.mouth c.args.self.now.one_child c.listen.ensures.passed
 
 pub returns-in-Rest-clause-begun : goal.returns-in-Rest-clause-begun
 returns-in-Rest-clause-begun g c = λ _.
-    subst (HasBegun (g.D.Door.seen c.listen.new.door)) c.child-child.ensures
-    (begun_so (g.D.Door.opening c.args.door.now) (g.D.Door.number c.args.door.now) c.child-child.result (g.D.Door.seen c.listen.new.door) Rest
-    (started_then c.child-child.result c.listen.ensures.passed (ap (is_started (g.D.Door.seen c.args.door.now)) c.child-child.ensures ∙ c.requires.started)) refl c.in-Rest.ensures.listening)
+    subst (HasBegun (g.D.Door.view c.listen.new.door).seen) c.child-child.ensures
+    (begun_so (g.D.Door.view c.args.door.now).opening (g.D.Door.view c.args.door.now).number c.child-child.result (g.D.Door.view c.listen.new.door).seen Rest
+    (started_then c.child-child.result c.listen.ensures.passed (ap (is_started (g.D.Door.view c.args.door.now).seen) c.child-child.ensures ∙ c.requires.started)) refl c.in-Rest.ensures.listening)
 
 pub returns-in-Over-clause-moved : goal.returns-in-Over-clause-moved
 returns-in-Over-clause-moved g c = link_on c.args.self.now.ear c.args.self.now.mouth c.args.self.now.one_child c.listen.ensures.passed
 
 pub returns-in-Over-clause-begun : goal.returns-in-Over-clause-begun
 returns-in-Over-clause-begun g c = λ _.
-    subst (HasBegun (g.D.Door.seen c.listen.new.door)) c.child-child.ensures
-    (begun_so (g.D.Door.opening c.args.door.now) (g.D.Door.number c.args.door.now) c.child-child.result (g.D.Door.seen c.listen.new.door) Over
-    (started_then c.child-child.result c.listen.ensures.passed (ap (is_started (g.D.Door.seen c.args.door.now)) c.child-child.ensures ∙ c.requires.started)) refl c.in-Over.ensures.listening)
+    subst (HasBegun (g.D.Door.view c.listen.new.door).seen) c.child-child.ensures
+    (begun_so (g.D.Door.view c.args.door.now).opening (g.D.Door.view c.args.door.now).number c.child-child.result (g.D.Door.view c.listen.new.door).seen Over
+    (started_then c.child-child.result c.listen.ensures.passed (ap (is_started (g.D.Door.view c.args.door.now).seen) c.child-child.ensures ∙ c.requires.started)) refl c.in-Over.ensures.listening)
 
 pub returns-in-Read-hear-clause-moved : goal.returns-in-Read-hear-clause-moved
 returns-in-Read-hear-clause-moved g c = moved_both c.listen.ensures.door.number c.listen.ensures.door.alone (link_on c.args.self.now.ear c.args.self.now.mouth c.args.self.now.one_child c.listen.ensures.passed)

@@ -13,11 +13,11 @@ pub returns-then-hear_first-clause-door : goal.returns-then-hear_first-clause-do
 returns-then-hear_first-clause-door g c = same_both c.loop.invariant.door c.hear_first.ensures.door
 
 pub returns-then-hear_first-clause-begun : goal.returns-then-hear_first-clause-begun
-returns-then-hear_first-clause-begun g c = subst (HasBegun (g.D.Door.seen c.hear_first.new.door)) c.loop.invariant.same.0.0 (c.hear_first.ensures.begun c.if-hear_first.true)
+returns-then-hear_first-clause-begun g c = subst (HasBegun (g.D.Door.view c.hear_first.new.door).seen) c.loop.invariant.same.0.0 (c.hear_first.ensures.begun c.if-hear_first.true)
 
 pub loop-preserved : goal.loop-preserved
 loop-preserved g c = record {
-  started = ap (is_started (g.D.Door.seen c.hear_first.new.door)) c.hear_first.ensures.same.0.0 ∙ started_on c.loop.self.ear.child c.hear_first.ensures.moved c.loop.invariant.started;
+  started = ap (is_started (g.D.Door.view c.hear_first.new.door).seen) c.hear_first.ensures.same.0.0 ∙ started_on c.loop.self.ear.child c.hear_first.ensures.moved c.loop.invariant.started;
   moved = moved_then by_link is_of_child c.loop.invariant.door.number c.loop.invariant.door.alone c.loop.invariant.same.0.0 c.loop.invariant.moved c.hear_first.ensures.moved;
   same = ((c.hear_first.ensures.same.0.0 ∙ c.loop.invariant.same.0.0, c.hear_first.ensures.same.0.1 ∙ c.loop.invariant.same.0.1), (c.hear_first.ensures.same.1.0 ∙ c.loop.invariant.same.1.0, c.hear_first.ensures.same.1.1 ∙ c.loop.invariant.same.1.1));
   door = same_both c.loop.invariant.door c.hear_first.ensures.door;
@@ -30,4 +30,4 @@ pub returns-clause-door : goal.returns-clause-door
 returns-clause-door g c = same_both c.loop.invariant.door c.give_up.ensures.door
 
 pub returns-clause-begun : goal.returns-clause-begun
-returns-clause-begun g c = inl (ap (is_ended (g.D.Door.seen c.give_up.new.door)) (sym c.loop.invariant.same.0.0) ∙ c.give_up.ensures.over)
+returns-clause-begun g c = inl (ap (is_ended (g.D.Door.view c.give_up.new.door).seen) (sym c.loop.invariant.same.0.0) ∙ c.give_up.ensures.over)

@@ -7,9 +7,9 @@ use Rattle.link_roles.proofs.lone.Lone.hear_line.Given as goal
 
 abbrev pub invariant-loop : goal.invariant-loop
 invariant-loop g l = record {
-  started : is_started (g.D.Door.seen l.door) l.self.ear.child ≡ true;
-  moved : Moved (g.D.Door.number l.initial.door) (g.D.Door.alone l.initial.door) (by_link l.initial.self.ear.child) (is_of_child l.initial.self.ear.child) (g.D.Door.seen l.initial.door) (g.D.Door.seen l.door)
-      (LinkWired (g.D.Door.seen l.initial.door) l.initial.self.ear l.initial.self.mouth) (LinkWired (g.D.Door.seen l.door) l.self.ear l.self.mouth);
+  started : is_started (g.D.Door.view l.door).seen l.self.ear.child ≡ true;
+  moved : Moved (g.D.Door.view l.initial.door).number (g.D.Door.view l.initial.door).alone (by_link l.initial.self.ear.child) (is_of_child l.initial.self.ear.child) (g.D.Door.view l.initial.door).seen (g.D.Door.view l.door).seen
+      (LinkWired (g.D.Door.view l.initial.door).seen l.initial.self.ear l.initial.self.mouth) (LinkWired (g.D.Door.view l.door).seen l.self.ear l.self.mouth);
   same : IsSameEar l.initial.self.ear l.self.ear × IsSameMouth l.initial.self.mouth l.self.mouth;
-  door : IsSameDoor g.D.Door.opening g.D.Door.number g.D.Door.seen g.D.Door.alone g.D.Door.loans g.D.Door.home l.initial.door l.door;
+  door : IsSameDoor (g.D.Door.view l.initial.door) (g.D.Door.view l.door);
 }

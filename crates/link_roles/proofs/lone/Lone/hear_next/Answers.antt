@@ -11,13 +11,13 @@ use Rattle.link_roles.proofs.Replying.{started_then, asked_then}
 use Rattle.link_roles.proofs.lone.Lone.hear_next.Goals as goal
 
 pub hear-requires-clause-turn : goal.hear-requires-clause-turn
-hear-requires-clause-turn g c = ap (may_hear (g.D.Door.seen c.listen.new.door)) (sym c.child-child.ensures) ∙ c.in-Read.ensures.listening.1
+hear-requires-clause-turn g c = ap (may_hear (g.D.Door.view c.listen.new.door).seen) (sym c.child-child.ensures) ∙ c.in-Read.ensures.listening.1
 
 pub returns-in-Rest-clause-settling : goal.returns-in-Rest-clause-settling
 returns-in-Rest-clause-settling g c = λ none.
-    over_settled (g.D.Door.opening c.args.door.now) (g.D.Door.opening c.listen.new.door) (g.D.Door.number c.args.door.now) c.args.self.now.ear.child c.args.job (g.D.Door.seen c.listen.new.door) Wait
+    over_settled (g.D.Door.view c.args.door.now).opening (g.D.Door.view c.listen.new.door).opening (g.D.Door.view c.args.door.now).number c.args.self.now.ear.child c.args.job (g.D.Door.view c.listen.new.door).seen Wait
     (c.listen.ensures.door.legal c.requires.legal) (started_then c.args.self.now.ear.child c.listen.ensures.passed c.requires.started) (asked_then c.args.self.now.ear.child c.args.job c.listen.ensures.passed c.requires.asked) refl
-    (says_listen {o = g.D.Door.opening c.args.door.now} {n = g.D.Door.number c.args.door.now} (g.D.Door.seen c.listen.new.door) Wait refl refl c.child-child.ensures c.in-Rest.ensures.listening) none
+    (says_listen {o = (g.D.Door.view c.args.door.now).opening} {n = (g.D.Door.view c.args.door.now).number} (g.D.Door.view c.listen.new.door).seen Wait refl refl c.child-child.ensures c.in-Rest.ensures.listening) none
 
 pub returns-in-Rest-clause-heard : goal.returns-in-Rest-clause-heard
 returns-in-Rest-clause-heard g c = waits_out c.args.self.now.ear.child c.args.job c.listen.ensures.passed
@@ -27,9 +27,9 @@ returns-in-Rest-clause-moved g c = moved_from (λ h. h.0) (lone_on c.args.self.n
 
 pub returns-in-Over-clause-settling : goal.returns-in-Over-clause-settling
 returns-in-Over-clause-settling g c = λ none.
-    over_settled (g.D.Door.opening c.args.door.now) (g.D.Door.opening c.listen.new.door) (g.D.Door.number c.args.door.now) c.args.self.now.ear.child c.args.job (g.D.Door.seen c.listen.new.door) Over
+    over_settled (g.D.Door.view c.args.door.now).opening (g.D.Door.view c.listen.new.door).opening (g.D.Door.view c.args.door.now).number c.args.self.now.ear.child c.args.job (g.D.Door.view c.listen.new.door).seen Over
     (c.listen.ensures.door.legal c.requires.legal) (started_then c.args.self.now.ear.child c.listen.ensures.passed c.requires.started) (asked_then c.args.self.now.ear.child c.args.job c.listen.ensures.passed c.requires.asked) refl
-    (says_listen {o = g.D.Door.opening c.args.door.now} {n = g.D.Door.number c.args.door.now} (g.D.Door.seen c.listen.new.door) Over refl refl c.child-child.ensures c.in-Over.ensures.listening) none
+    (says_listen {o = (g.D.Door.view c.args.door.now).opening} {n = (g.D.Door.view c.args.door.now).number} (g.D.Door.view c.listen.new.door).seen Over refl refl c.child-child.ensures c.in-Over.ensures.listening) none
 
 pub returns-in-Over-clause-heard : goal.returns-in-Over-clause-heard
 returns-in-Over-clause-heard g c = waits_out c.args.self.now.ear.child c.args.job c.listen.ensures.passed
@@ -40,11 +40,11 @@ returns-in-Over-clause-moved g c = moved_from (λ h. h.0) (lone_on c.args.self.n
 pub returns-in-Fed-clause-moved : goal.returns-in-Fed-clause-moved
 returns-in-Fed-clause-moved g c =
     moved_both c.listen.ensures.door.number c.listen.ensures.door.alone (lone_waits c.args.self.now.ear c.args.self.now.mouth c.args.self.now.one_child c.listen.ensures.passed)
-    (lone_heard (g.D.Door.opening c.listen.new.door) c.args.self.now.ear c.hear.new.self c.args.self.now.mouth c.hear.result c.hear.ensures.same.0
+    (lone_heard (g.D.Door.view c.listen.new.door).opening c.args.self.now.ear c.hear.new.self c.args.self.now.mouth c.hear.result c.hear.ensures.same.0
     (link_ear c.args.self.now.ear c.hear.new.self c.args.self.now.mouth c.args.self.now.one_child c.hear.ensures.same.0 c.hear.ensures.moved c.hear.ensures.turned) c.hear.ensures.heard)
 
 pub returns-in-Fed-clause-heard : goal.returns-in-Fed-clause-heard
-returns-in-Fed-clause-heard g c = moved_both c.listen.ensures.door.number c.listen.ensures.door.alone (waits_on c.args.self.now.ear.child c.args.job c.listen.ensures.passed) (hearing_out (g.D.Door.opening c.listen.new.door) (g.D.Door.number c.listen.new.door) (g.D.Door.alone c.listen.new.door) (g.D.Door.seen c.listen.new.door) (g.D.Door.seen c.hear.new.door) c.args.self.now.ear c.hear.new.self c.args.job c.hear.result c.hear.ensures.heard)
+returns-in-Fed-clause-heard g c = moved_both c.listen.ensures.door.number c.listen.ensures.door.alone (waits_on c.args.self.now.ear.child c.args.job c.listen.ensures.passed) (hearing_out (g.D.Door.view c.listen.new.door).opening (g.D.Door.view c.listen.new.door).number (g.D.Door.view c.listen.new.door).alone (g.D.Door.view c.listen.new.door).seen (g.D.Door.view c.hear.new.door).seen c.args.self.now.ear c.hear.new.self c.args.job c.hear.result c.hear.ensures.heard)
 
 pub returns-in-Fed-clause-door : goal.returns-in-Fed-clause-door
 returns-in-Fed-clause-door g c = same_both c.listen.ensures.door c.hear.ensures.door
@@ -52,11 +52,11 @@ returns-in-Fed-clause-door g c = same_both c.listen.ensures.door c.hear.ensures.
 pub returns-in-Read-hear-clause-moved : goal.returns-in-Read-hear-clause-moved
 returns-in-Read-hear-clause-moved g c =
     moved_both c.listen.ensures.door.number c.listen.ensures.door.alone (lone_waits c.args.self.now.ear c.args.self.now.mouth c.args.self.now.one_child c.listen.ensures.passed)
-    (lone_heard (g.D.Door.opening c.listen.new.door) c.args.self.now.ear c.hear.new.self c.args.self.now.mouth c.hear.result c.hear.ensures.same.0
+    (lone_heard (g.D.Door.view c.listen.new.door).opening c.args.self.now.ear c.hear.new.self c.args.self.now.mouth c.hear.result c.hear.ensures.same.0
     (link_ear c.args.self.now.ear c.hear.new.self c.args.self.now.mouth c.args.self.now.one_child c.hear.ensures.same.0 c.hear.ensures.moved c.hear.ensures.turned) c.hear.ensures.heard)
 
 pub returns-in-Read-hear-clause-heard : goal.returns-in-Read-hear-clause-heard
-returns-in-Read-hear-clause-heard g c = moved_both c.listen.ensures.door.number c.listen.ensures.door.alone (waits_on c.args.self.now.ear.child c.args.job c.listen.ensures.passed) (hearing_out (g.D.Door.opening c.listen.new.door) (g.D.Door.number c.listen.new.door) (g.D.Door.alone c.listen.new.door) (g.D.Door.seen c.listen.new.door) (g.D.Door.seen c.hear.new.door) c.args.self.now.ear c.hear.new.self c.args.job c.hear.result c.hear.ensures.heard)
+returns-in-Read-hear-clause-heard g c = moved_both c.listen.ensures.door.number c.listen.ensures.door.alone (waits_on c.args.self.now.ear.child c.args.job c.listen.ensures.passed) (hearing_out (g.D.Door.view c.listen.new.door).opening (g.D.Door.view c.listen.new.door).number (g.D.Door.view c.listen.new.door).alone (g.D.Door.view c.listen.new.door).seen (g.D.Door.view c.hear.new.door).seen c.args.self.now.ear c.hear.new.self c.args.job c.hear.result c.hear.ensures.heard)
 
 pub returns-in-Read-hear-clause-door : goal.returns-in-Read-hear-clause-door
 returns-in-Read-hear-clause-door g c = same_both c.listen.ensures.door c.hear.ensures.door
@@ -64,18 +64,18 @@ returns-in-Read-hear-clause-door g c = same_both c.listen.ensures.door c.hear.en
 pub returns-in-Over-hear-clause-moved : goal.returns-in-Over-hear-clause-moved
 returns-in-Over-hear-clause-moved g c =
     moved_both c.listen.ensures.door.number c.listen.ensures.door.alone (lone_waits c.args.self.now.ear c.args.self.now.mouth c.args.self.now.one_child c.listen.ensures.passed)
-    (lone_heard (g.D.Door.opening c.listen.new.door) c.args.self.now.ear c.hear.new.self c.args.self.now.mouth c.hear.result c.hear.ensures.same.0
+    (lone_heard (g.D.Door.view c.listen.new.door).opening c.args.self.now.ear c.hear.new.self c.args.self.now.mouth c.hear.result c.hear.ensures.same.0
     (link_ear c.args.self.now.ear c.hear.new.self c.args.self.now.mouth c.args.self.now.one_child c.hear.ensures.same.0 c.hear.ensures.moved c.hear.ensures.turned) c.hear.ensures.heard)
 
 pub returns-in-Over-hear-clause-heard : goal.returns-in-Over-hear-clause-heard
-returns-in-Over-hear-clause-heard g c = moved_both c.listen.ensures.door.number c.listen.ensures.door.alone (waits_on c.args.self.now.ear.child c.args.job c.listen.ensures.passed) (hearing_out (g.D.Door.opening c.listen.new.door) (g.D.Door.number c.listen.new.door) (g.D.Door.alone c.listen.new.door) (g.D.Door.seen c.listen.new.door) (g.D.Door.seen c.hear.new.door) c.args.self.now.ear c.hear.new.self c.args.job c.hear.result c.hear.ensures.heard)
+returns-in-Over-hear-clause-heard g c = moved_both c.listen.ensures.door.number c.listen.ensures.door.alone (waits_on c.args.self.now.ear.child c.args.job c.listen.ensures.passed) (hearing_out (g.D.Door.view c.listen.new.door).opening (g.D.Door.view c.listen.new.door).number (g.D.Door.view c.listen.new.door).alone (g.D.Door.view c.listen.new.door).seen (g.D.Door.view c.hear.new.door).seen c.args.self.now.ear c.hear.new.self c.args.job c.hear.result c.hear.ensures.heard)
 
 pub returns-in-Over-hear-clause-door : goal.returns-in-Over-hear-clause-door
 returns-in-Over-hear-clause-door g c = same_both c.listen.ensures.door c.hear.ensures.door
 
 pub returns-in-Over-hear-clause-settling : goal.returns-in-Over-hear-clause-settling
 returns-in-Over-hear-clause-settling g c = λ none.
-    has_verdict (g.D.Door.opening c.hear.new.door) (g.D.Door.seen c.hear.new.door) c.args.self.now.ear.child c.args.job ((same_both c.listen.ensures.door c.hear.ensures.door).legal c.requires.legal)
+    has_verdict (g.D.Door.view c.hear.new.door).opening (g.D.Door.view c.hear.new.door).seen c.args.self.now.ear.child c.args.job ((same_both c.listen.ensures.door c.hear.ensures.door).legal c.requires.legal)
     (c.hear.ensures.over c.in-Over-hear.is)
     (asked_moved c.args.self.now.ear.child c.args.self.now.ear.child c.args.job refl (moved_both c.listen.ensures.door.number c.listen.ensures.door.alone (link_on c.args.self.now.ear c.args.self.now.mouth c.args.self.now.one_child c.listen.ensures.passed)
     (link_ear c.args.self.now.ear c.hear.new.self c.args.self.now.mouth c.args.self.now.one_child c.hear.ensures.same.0 c.hear.ensures.moved c.hear.ensures.turned)) c.requires.asked) none

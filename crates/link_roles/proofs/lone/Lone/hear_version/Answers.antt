@@ -8,10 +8,10 @@ use Rattle.journal_model.specs.Journal.{why_of}
 use Rattle.link_roles.proofs.lone.Lone.hear_version.Goals as goal
 
 pub why_ended-requires : goal.why_ended-requires
-why_ended-requires g c = record { started = ap (is_started (g.D.Door.seen c.hear_line.new.door)) c.child-child.ensures ∙ started_on c.args.self.now.ear.child c.hear_line.ensures.moved c.requires.started }
+why_ended-requires g c = record { started = ap (is_started (g.D.Door.view c.hear_line.new.door).seen) c.child-child.ensures ∙ started_on c.args.self.now.ear.child c.hear_line.ensures.moved c.requires.started }
 
 pub returns-clause-why : goal.returns-clause-why
-returns-clause-why g c = c.why_ended.ensures.why ∙ ap (why_of (g.D.Door.seen c.why_ended.new.door)) c.child-child.ensures
+returns-clause-why g c = c.why_ended.ensures.why ∙ ap (why_of (g.D.Door.view c.why_ended.new.door).seen) c.child-child.ensures
 
 pub returns-clause-moved : goal.returns-clause-moved
 returns-clause-moved g c = moved_then by_link is_of_child c.hear_line.ensures.door.number c.hear_line.ensures.door.alone c.hear_line.ensures.same.0.0 c.hear_line.ensures.moved
@@ -22,6 +22,6 @@ returns-clause-door g c = same_both c.hear_line.ensures.door c.why_ended.ensures
 
 pub returns-clause-version : goal.returns-clause-version
 returns-clause-version g c =
-    version_where_none (g.D.Door.opening c.why_ended.new.door) (g.D.Door.seen c.hear_line.new.door) (g.D.Door.seen c.why_ended.new.door) c.why_ended.ensures.passed.others c.args.self.now.ear.child c.why_ended.result
+    version_where_none (g.D.Door.view c.why_ended.new.door).opening (g.D.Door.view c.hear_line.new.door).seen (g.D.Door.view c.why_ended.new.door).seen c.why_ended.ensures.passed.others c.args.self.now.ear.child c.why_ended.result
     ((same_both c.hear_line.ensures.door c.why_ended.ensures.door).legal c.requires.legal) c.why_ended.ensures.passed.is c.hear_line.ensures.begun
-    (c.why_ended.ensures.why ∙ ap (why_of (g.D.Door.seen c.why_ended.new.door)) c.child-child.ensures)
+    (c.why_ended.ensures.why ∙ ap (why_of (g.D.Door.view c.why_ended.new.door).seen) c.child-child.ensures)

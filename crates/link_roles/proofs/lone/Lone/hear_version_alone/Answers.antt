@@ -5,4 +5,4 @@ pub returns-clause-goes : goal.returns-clause-goes
 returns-clause-goes g c = goes_alone c.args.self.now.ear.child c.requires.alone c.hear_version.ensures.moved
 
 pub returns-clause-link : goal.returns-clause-link
-returns-clause-link g c = hears_alone (g.D.Door.opening c.hear_version.new.door) c.requires.alone (c.hear_version.ensures.door.legal c.requires.legal) c.hear_version.ensures.moved c.hear_version.ensures.same
+returns-clause-link g c = hears_alone (g.D.Door.view c.hear_version.new.door).opening c.requires.alone (c.hear_version.ensures.door.legal c.requires.legal) c.hear_version.ensures.moved c.hear_version.ensures.same

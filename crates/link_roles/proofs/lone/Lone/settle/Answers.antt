@@ -19,7 +19,7 @@ pub settled-requires-clause-asked : goal.settled-requires-clause-asked
 settled-requires-clause-asked g c = asked_moved c.loop.self.ear.child c.settle_next.new.self.ear.child c.args.job c.settle_next.ensures.same.0.0 c.settle_next.ensures.moved c.loop.invariant.asked
 
 pub settled-requires-clause-settled : goal.settled-requires-clause-settled
-settled-requires-clause-settled g c = λ none. c.in-Over.ensures.settling (ap (λ (k : ℕ). verdict_of (g.D.Door.seen c.settle_next.new.door) k c.args.job) (sym c.settle_next.ensures.same.0.0) ∙ none)
+settled-requires-clause-settled g c = λ none. c.in-Over.ensures.settling (ap (λ (k : ℕ). verdict_of (g.D.Door.view c.settle_next.new.door).seen k c.args.job) (sym c.settle_next.ensures.same.0.0) ∙ none)
 
 pub returns-in-Over-clause-moved : goal.returns-in-Over-clause-moved
 returns-in-Over-clause-moved g c = moved_then by_link is_of_child (c.settle_next.ensures.door.number ∙ c.loop.invariant.door.number) (c.settle_next.ensures.door.alone ∙ c.loop.invariant.door.alone) (c.settle_next.ensures.same.0.0 ∙ c.loop.invariant.same.0.0) (moved_then by_link is_of_child c.loop.invariant.door.number c.loop.invariant.door.alone c.loop.invariant.same.0.0 c.loop.invariant.moved c.settle_next.ensures.moved) c.settled.ensures.moved
@@ -41,7 +41,7 @@ returns-clause-door g c = same_both c.loop.invariant.door c.settle_last.ensures.
 
 pub loop-preserved : goal.loop-preserved
 loop-preserved g c = record {
-  started = ap (is_started (g.D.Door.seen c.settle_next.new.door)) c.settle_next.ensures.same.0.0 ∙ started_on c.loop.self.ear.child c.settle_next.ensures.moved c.loop.invariant.started;
+  started = ap (is_started (g.D.Door.view c.settle_next.new.door).seen) c.settle_next.ensures.same.0.0 ∙ started_on c.loop.self.ear.child c.settle_next.ensures.moved c.loop.invariant.started;
   moved = moved_then by_link is_of_child c.loop.invariant.door.number c.loop.invariant.door.alone c.loop.invariant.same.0.0 c.loop.invariant.moved c.settle_next.ensures.moved;
   heard = heard_then c.args.self.now.ear.child c.loop.self.ear.child c.args.job c.loop.invariant.door.number c.loop.invariant.door.alone c.loop.invariant.same.0.0 c.loop.invariant.heard c.settle_next.ensures.heard;
   same = ((c.settle_next.ensures.same.0.0 ∙ c.loop.invariant.same.0.0, c.settle_next.ensures.same.0.1 ∙ c.loop.invariant.same.0.1), (c.settle_next.ensures.same.1.0 ∙ c.loop.invariant.same.1.0, c.settle_next.ensures.same.1.1 ∙ c.loop.invariant.same.1.1));

@@ -10,12 +10,12 @@ use Rattle.link_roles.proofs.lone.Lone.settle.Given as goal
 
 abbrev pub invariant-loop : goal.invariant-loop
 invariant-loop g l = record {
-  started : is_started (g.D.Door.seen l.door) l.self.ear.child ≡ true;
-  moved : Moved (g.D.Door.number l.initial.door) (g.D.Door.alone l.initial.door) (by_link l.initial.self.ear.child) (is_of_child l.initial.self.ear.child) (g.D.Door.seen l.initial.door) (g.D.Door.seen l.door)
-      (LoneWired (g.D.Door.seen l.initial.door) l.initial.self.ear l.initial.self.mouth) (LoneWired (g.D.Door.seen l.door) l.self.ear l.self.mouth);
-  heard : HeardMoved (g.D.Door.number l.initial.door) (g.D.Door.alone l.initial.door) (g.D.Door.seen l.initial.door) (g.D.Door.seen l.door) l.initial.self.ear.child l.job
-      (HeardOut l.initial.self.ear.child l.job (g.D.Door.seen l.initial.door));
+  started : is_started (g.D.Door.view l.door).seen l.self.ear.child ≡ true;
+  moved : Moved (g.D.Door.view l.initial.door).number (g.D.Door.view l.initial.door).alone (by_link l.initial.self.ear.child) (is_of_child l.initial.self.ear.child) (g.D.Door.view l.initial.door).seen (g.D.Door.view l.door).seen
+      (LoneWired (g.D.Door.view l.initial.door).seen l.initial.self.ear l.initial.self.mouth) (LoneWired (g.D.Door.view l.door).seen l.self.ear l.self.mouth);
+  heard : HeardMoved (g.D.Door.view l.initial.door).number (g.D.Door.view l.initial.door).alone (g.D.Door.view l.initial.door).seen (g.D.Door.view l.door).seen l.initial.self.ear.child l.job
+      (HeardOut l.initial.self.ear.child l.job (g.D.Door.view l.initial.door).seen);
   same : IsSameEar l.initial.self.ear l.self.ear × IsSameMouth l.initial.self.mouth l.self.mouth;
-  door : IsSameDoor g.D.Door.opening g.D.Door.number g.D.Door.seen g.D.Door.alone g.D.Door.loans g.D.Door.home l.initial.door l.door;
-  asked : is_asked (g.D.Door.seen l.door) l.self.ear.child l.job ≡ true;
+  door : IsSameDoor (g.D.Door.view l.initial.door) (g.D.Door.view l.door);
+  asked : is_asked (g.D.Door.view l.door).seen l.self.ear.child l.job ≡ true;
 }

@@ -6,10 +6,10 @@ use Rattle.link_roles.proofs.mouth.Mouth.give_up.Goals as goal
 
 pub returns-then-self-clause-ends : goal.returns-then-self-clause-ends
 returns-then-self-clause-ends g c =
-    subst (λ (k : ℕ). Ends (g.D.Door.opening c.args.door.now) (g.D.Door.number c.args.door.now) (g.D.Door.alone c.args.door.now) (g.D.Door.seen c.args.door.now) (g.D.Door.seen c.stop.new.door) k Memory)
+    subst (λ (k : ℕ). Ends (g.D.Door.view c.args.door.now).opening (g.D.Door.view c.args.door.now).number (g.D.Door.view c.args.door.now).alone (g.D.Door.view c.args.door.now).seen (g.D.Door.view c.stop.new.door).seen k Memory)
     (ap (λ (m : MouthValue). m.child) c.self.view_is) c.stop.ensures.ends
 
 pub returns-else-self-clause-ends : goal.returns-else-self-clause-ends
 returns-else-self-clause-ends g c =
-    subst (λ (k : ℕ). Ends (g.D.Door.opening c.args.door.now) (g.D.Door.number c.args.door.now) (g.D.Door.alone c.args.door.now) (g.D.Door.seen c.args.door.now) (g.D.Door.seen c.end_child.new.door) k Memory)
+    subst (λ (k : ℕ). Ends (g.D.Door.view c.args.door.now).opening (g.D.Door.view c.args.door.now).number (g.D.Door.view c.args.door.now).alone (g.D.Door.view c.args.door.now).seen (g.D.Door.view c.end_child.new.door).seen k Memory)
     (ap (λ (m : MouthValue). m.child) c.self.view_is) c.end_child.ensures.ends

@@ -9,10 +9,10 @@ use Rattle.journal_model.specs.Halves.{MouthWired}
 use Rattle.link_roles.proofs.mouth.Mouth.go_on.Goals as goal
 
 pub rest-requires : goal.rest-requires
-rest-requires g c = record { waits = waits_as c.turn.ensures.door.opening c.turn.ensures.door.number (said_waits _ _ (g.D.Door.seen c.turn.new.door) (Fetch c.args.self.now.child) (c.in-Rest.ensures.rest refl)) }
+rest-requires g c = record { waits = waits_as c.turn.ensures.door.opening c.turn.ensures.door.number (said_waits _ _ (g.D.Door.view c.turn.new.door).seen (Fetch c.args.self.now.child) (c.in-Rest.ensures.rest refl)) }
 
 pub returns-in-Rest-clause-moved : goal.returns-in-Rest-clause-moved
-returns-in-Rest-clause-moved g c = subst (λ (j : List Entry). Moved (g.D.Door.number c.args.door.now) (g.D.Door.alone c.args.door.now) (by_mouth c.args.self.now.child) (is_said c.args.self.now.child) (g.D.Door.seen c.args.door.now) j (MouthWired (g.D.Door.seen c.args.door.now) c.args.self.now) (MouthWired j c.turn.new.self)) (sym c.rest.ensures.seen) c.turn.ensures.moved
+returns-in-Rest-clause-moved g c = subst (λ (j : List Entry). Moved (g.D.Door.view c.args.door.now).number (g.D.Door.view c.args.door.now).alone (by_mouth c.args.self.now.child) (is_said c.args.self.now.child) (g.D.Door.view c.args.door.now).seen j (MouthWired (g.D.Door.view c.args.door.now).seen c.args.self.now) (MouthWired j c.turn.new.self)) (sym (ap (λ d. d.seen) c.rest.ensures)) c.turn.ensures.moved
 
 pub returns-in-Rest-clause-door : goal.returns-in-Rest-clause-door
-returns-in-Rest-clause-door g c = rested c.rest.ensures.opening c.rest.ensures.number c.rest.ensures.alone c.rest.ensures.loans c.rest.ensures.home c.rest.ensures.seen c.turn.ensures.door
+returns-in-Rest-clause-door g c = rested c.rest.ensures c.turn.ensures.door

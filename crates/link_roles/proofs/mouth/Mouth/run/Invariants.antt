@@ -7,9 +7,9 @@ use Rattle.link_roles.proofs.mouth.Mouth.run.Given as goal
 
 abbrev pub invariant-loop : goal.invariant-loop
 invariant-loop g l = record {
-  started : is_started (g.D.Door.seen l.door) l.self.child ≡ true;
-  moved : Moved (g.D.Door.number l.initial.door) (g.D.Door.alone l.initial.door) (by_mouth l.initial.self.child) (is_said l.initial.self.child) (g.D.Door.seen l.initial.door) (g.D.Door.seen l.door)
-      (MouthWired (g.D.Door.seen l.initial.door) l.initial.self) (MouthWired (g.D.Door.seen l.door) l.self);
+  started : is_started (g.D.Door.view l.door).seen l.self.child ≡ true;
+  moved : Moved (g.D.Door.view l.initial.door).number (g.D.Door.view l.initial.door).alone (by_mouth l.initial.self.child) (is_said l.initial.self.child) (g.D.Door.view l.initial.door).seen (g.D.Door.view l.door).seen
+      (MouthWired (g.D.Door.view l.initial.door).seen l.initial.self) (MouthWired (g.D.Door.view l.door).seen l.self);
   same : IsSameMouth l.initial.self l.self;
-  door : IsSameDoor g.D.Door.opening g.D.Door.number g.D.Door.seen g.D.Door.alone g.D.Door.loans g.D.Door.home l.initial.door l.door;
+  door : IsSameDoor (g.D.Door.view l.initial.door) (g.D.Door.view l.door);
 }

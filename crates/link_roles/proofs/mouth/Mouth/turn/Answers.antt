@@ -13,7 +13,7 @@ use Rattle.link_roles.proofs.mouth.Mouth.turn.Goals as goal
 pub returns-then-self-clause-moved : goal.returns-then-self-clause-moved
 returns-then-self-clause-moved g c =
     let d = c.args.door.now in
-    subst (λ (m : MouthValue). MouthMoved (g.D.Door.number d) (g.D.Door.alone d) (g.D.Door.seen d) (g.D.Door.seen c.give_up.new.door) c.args.self.now m) (sym c.give_up.ensures.same)
+    subst (λ (m : MouthValue). MouthMoved (g.D.Door.view d).number (g.D.Door.view d).alone (g.D.Door.view d).seen (g.D.Door.view c.give_up.new.door).seen c.args.self.now m) (sym c.give_up.ensures.same)
     (mouth_ends c.args.self.now c.give_up.ensures.ends)
 
 pub returns-in-Ok-Line-clause-moved : goal.returns-in-Ok-Line-clause-moved
@@ -21,9 +21,9 @@ returns-in-Ok-Line-clause-moved g c =
     let d = c.args.door.now in
     let before = c.self.inside.inlet in
     let after = c.send.new.inlet in
-    let v = mouth_value c.self.inside.child (g.I.Sink.taken before) (g.I.Sink.faults before) (g.I.Sink.number before) in
-    let w = mouth_value c.self.inside.child (g.I.Sink.taken after) (g.I.Sink.faults after) (g.I.Sink.number after) in
-    subst (λ (m : MouthValue). MouthMoved (g.D.Door.number d) (g.D.Door.alone d) (g.D.Door.seen d) (g.D.Door.seen c.send.new.door) m w) c.self.view_is
+    let v = mouth_value c.self.inside.child (g.I.Sink.told before).taken (g.I.Sink.told before).faults (g.I.Sink.told before).number in
+    let w = mouth_value c.self.inside.child (g.I.Sink.told after).taken (g.I.Sink.told after).faults (g.I.Sink.told after).number in
+    subst (λ (m : MouthValue). MouthMoved (g.D.Door.view d).number (g.D.Door.view d).alone (g.D.Door.view d).seen (g.D.Door.view c.send.new.door).seen m w) c.self.view_is
     (moved_both c.fetch.ensures.door.number c.fetch.ensures.door.alone (mouth_on v c.fetch.ensures.passed) c.send.ensures.moved)
 
 pub returns-in-Ok-Line-clause-turned : goal.returns-in-Ok-Line-clause-turned
@@ -31,10 +31,10 @@ returns-in-Ok-Line-clause-turned g c =
     let d = c.args.door.now in
     let before = c.self.inside.inlet in
     let after = c.send.new.inlet in
-    let v = mouth_value c.self.inside.child (g.I.Sink.taken before) (g.I.Sink.faults before) (g.I.Sink.number before) in
-    let w = mouth_value c.self.inside.child (g.I.Sink.taken after) (g.I.Sink.faults after) (g.I.Sink.number after) in
-    subst (λ (m : MouthValue). IsSpeaking (g.D.Door.opening d) (g.D.Door.number d) (g.D.Door.alone d) (g.D.Door.seen d) (g.D.Door.seen c.send.new.door) m w Again) c.self.view_is (
-      g.D.Door.seen c.fetch.new.door,
+    let v = mouth_value c.self.inside.child (g.I.Sink.told before).taken (g.I.Sink.told before).faults (g.I.Sink.told before).number in
+    let w = mouth_value c.self.inside.child (g.I.Sink.told after).taken (g.I.Sink.told after).faults (g.I.Sink.told after).number in
+    subst (λ (m : MouthValue). IsSpeaking (g.D.Door.view d).opening (g.D.Door.view d).number (g.D.Door.view d).alone (g.D.Door.view d).seen (g.D.Door.view c.send.new.door).seen m w Again) c.self.view_is (
+      (g.D.Door.view c.fetch.new.door).seen,
       c.fetch.ensures.passed,
       (
         c.in-Ok-Line.line,
@@ -47,17 +47,17 @@ pub returns-in-Ok-Rest-clause-moved : goal.returns-in-Ok-Rest-clause-moved
 returns-in-Ok-Rest-clause-moved g c = mouth_on c.args.self.now c.fetch.ensures.passed
 
 pub returns-in-Ok-Rest-clause-rest : goal.returns-in-Ok-Rest-clause-rest
-returns-in-Ok-Rest-clause-rest g c = λ _. says_fetch {o = g.D.Door.opening c.args.door.now} {n = g.D.Door.number c.args.door.now} (g.D.Door.seen c.fetch.new.door) Wait refl refl (ap (λ (m : MouthValue). m.child) c.self.view_is) (rw c.in-Ok-Rest.field-0-is at c.in-Ok-Rest.ensures.line)
+returns-in-Ok-Rest-clause-rest g c = λ _. says_fetch {o = (g.D.Door.view c.args.door.now).opening} {n = (g.D.Door.view c.args.door.now).number} (g.D.Door.view c.fetch.new.door).seen Wait refl refl (ap (λ (m : MouthValue). m.child) c.self.view_is) (rw c.in-Ok-Rest.field-0-is at c.in-Ok-Rest.ensures.line)
 
 pub returns-in-Ok-Over-clause-moved : goal.returns-in-Ok-Over-clause-moved
 returns-in-Ok-Over-clause-moved g c = mouth_on c.args.self.now c.fetch.ensures.passed
 
 pub returns-in-Ok-Over-clause-over : goal.returns-in-Ok-Over-clause-over
-returns-in-Ok-Over-clause-over g c = λ _. says_fetch {o = g.D.Door.opening c.args.door.now} {n = g.D.Door.number c.args.door.now} (g.D.Door.seen c.fetch.new.door) Over refl refl (ap (λ (m : MouthValue). m.child) c.self.view_is) (rw c.in-Ok-Over.field-0-is at c.in-Ok-Over.ensures.line)
+returns-in-Ok-Over-clause-over g c = λ _. says_fetch {o = (g.D.Door.view c.args.door.now).opening} {n = (g.D.Door.view c.args.door.now).number} (g.D.Door.view c.fetch.new.door).seen Over refl refl (ap (λ (m : MouthValue). m.child) c.self.view_is) (rw c.in-Ok-Over.field-0-is at c.in-Ok-Over.ensures.line)
 
 pub returns-in-Err-clause-moved : goal.returns-in-Err-clause-moved
 returns-in-Err-clause-moved g c =
     let d = c.fetch.new.door in
     moved_both c.fetch.ensures.door.number c.fetch.ensures.door.alone (mouth_on c.args.self.now c.fetch.ensures.passed)
-    (subst (λ (m : MouthValue). MouthMoved (g.D.Door.number d) (g.D.Door.alone d) (g.D.Door.seen d) (g.D.Door.seen c.give_up-in-Err.new.door) c.args.self.now m) (sym c.give_up-in-Err.ensures.same)
+    (subst (λ (m : MouthValue). MouthMoved (g.D.Door.view d).number (g.D.Door.view d).alone (g.D.Door.view d).seen (g.D.Door.view c.give_up-in-Err.new.door).seen c.args.self.now m) (sym c.give_up-in-Err.ensures.same)
     (mouth_ends c.args.self.now c.give_up-in-Err.ensures.ends))

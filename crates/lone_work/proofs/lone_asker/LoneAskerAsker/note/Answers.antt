@@ -9,25 +9,25 @@ use Rattle.lone_work.proofs.lone_asker.LoneAskerAsker.note.Goals as goal
 pub returns-clause-layouts : goal.returns-clause-layouts
 returns-clause-layouts g c =
     let s = c.args.self.now in
-    let o = g.D.Door.opening s.door.now in
-    let n = g.D.Door.number s.door.now in
-    let seen = g.D.Door.seen s.door.now in
-    known_noted o (g.D.Door.opening c.note.new.door) n c.args.number s.task c.note.ensures.door.opening c.requires.task
+    let o = (g.D.Door.view s.door.now).opening in
+    let n = (g.D.Door.view s.door.now).number in
+    let seen = (g.D.Door.view s.door.now).seen in
+    known_noted o (g.D.Door.view c.note.new.door).opening n c.args.number s.task c.note.ensures.door.opening c.requires.task
     (subst (λ (k : ℕ). AtTask o n k seen) (sym c.requires.task) c.requires.ready.at) c.note.ensures.grows (noting_within c.args.number) c.args.chunk c.args.count c.note.result c.note.ensures.noted
 
 pub returns-clause-on : goal.returns-clause-on
 returns-clause-on g c =
     let s = c.args.self.now in
-    let o = g.D.Door.opening s.door.now in
-    let n = g.D.Door.number s.door.now in
-    let old = g.D.Door.seen s.door.now in
-    let new = g.D.Door.seen c.note.new.door in
+    let o = (g.D.Door.view s.door.now).opening in
+    let n = (g.D.Door.view s.door.now).number in
+    let old = (g.D.Door.view s.door.now).seen in
+    let new = (g.D.Door.view c.note.new.door).seen in
     let child = s.link.now.ear.child in
     record {
       door = c.note.ensures.door;
       link = ((refl, refl), (refl, refl));
       task = refl;
-      on = serves_grown o n c.args.number s.task (g.D.Door.alone s.door.now) old new c.requires.task s.link.now.ear s.link.now.mouth s.link.now.one_child
-          (subst (λ (k : ℕ). Serves o n (g.D.Door.alone s.door.now) child k old) (sym c.requires.task) c.requires.ready)
+      on = serves_grown o n c.args.number s.task (g.D.Door.view s.door.now).alone old new c.requires.task s.link.now.ear s.link.now.mouth s.link.now.one_child
+          (subst (λ (k : ℕ). Serves o n (g.D.Door.view s.door.now).alone child k old) (sym c.requires.task) c.requires.ready)
           (at_noted o n c.args.number old new c.args.chunk c.args.count c.note.result c.note.ensures.noted) c.note.ensures.grows;
     }

@@ -1,5 +1,4 @@
 use Rattle.std.proofs.Common.{map, refl, subst, sym}
-use Rattle.child_end.specs.Programs.{programs_value}
 use Rattle.mirror_starts.specs.Stops.{AreWired}
 use Rattle.mirror_remote.specs.Mirrors.{EndedValue, Finishes}
 use Rattle.mirror_starts.specs.Outcomes.{MirrorValue}
@@ -13,9 +12,9 @@ stop_all-requires-clause-linked g c κs within = linked_serving c.self.inside.ch
 pub returns : goal.returns
 returns g c =
     let i = c.self.inside in
-    let m : MirrorValue = record { programs = programs_value (g.P.Programs.starts i.programs) (g.P.Programs.faults i.programs); children = i.children.items; logs = i.stopped.logs } in
+    let m : MirrorValue = record { programs = g.P.Programs.told i.programs; children = i.children.items; logs = i.stopped.logs } in
     let e : EndedValue = record {
-      programs = programs_value (g.P.Programs.starts c.stop_all.new.programs) (g.P.Programs.faults c.stop_all.new.programs);
+      programs = g.P.Programs.told c.stop_all.new.programs;
       journals = map (λ j. j.entries) c.finish-journals.result.0.items;
       wires = c.finish-journals.result.1.items;
     } in

@@ -2,7 +2,6 @@ use Rattle.std.proofs.Common.{ap, refl, arith}
 use Rattle.std.specs.Prelude.{option_map}
 use Rattle.ann_key.specs.KeyRefs.{text_of}
 use Rattle.special_cli.specs.Endings.{starts_in}
-use Rattle.child_end.specs.Programs.{programs_value}
 use Rattle.special_cli.proofs.Leaving.{leaves_child, leaves_failed, leaves_unstarted, one_laid}
 use Rattle.special_cli.proofs.Talking.{may_close, closed_asked, closed_complete, closed_starts, if_ok, unstarted_asked, unstarted_complete, nothing_asked}
 use Rattle.special_cli.proofs.info.interview.inform.Goals as goal
@@ -21,7 +20,7 @@ returns-in-Over-clause-complete g c =
 
 pub returns-in-Over-clause-leaves : goal.returns-in-Over-clause-leaves
 returns-in-Over-clause-leaves g c =
-    leaves_child _ (g.P.Programs.starts c.hold_interview.new.programs) (programs_value (g.P.Programs.starts c.args.programs.now) (g.P.Programs.faults c.args.programs.now)) (programs_value (g.P.Programs.starts c.finish.new.programs) (g.P.Programs.faults c.finish.new.programs)) c.args.program.now
+    leaves_child _ (g.P.Programs.told c.hold_interview.new.programs).starts (g.P.Programs.told c.args.programs.now) (g.P.Programs.told c.finish.new.programs) c.args.program.now
     c.close_child.new.core.journal c.in-Over.link.ear c.in-Over.link.mouth _
     (closed_starts (option_map text_of c.args.key) c.hold_interview.new.core.journal c.close_child.new.core.journal c.in-Over.link.ear.child c.in-Over.ensures.met.fits.0 c.close_child.ensures.closes)
     c.in-Over.ensures.met.starts c.finish.ensures.starts c.in-Over.ensures.met.numbers c.in-Over.ensures.met.fits.0.first c.in-Over.link.one_child
@@ -36,7 +35,7 @@ returns-in-StartFault-clause-complete g c = unstarted_complete (option_map text_
 
 pub returns-in-StartFault-clause-leaves : goal.returns-in-StartFault-clause-leaves
 returns-in-StartFault-clause-leaves g c =
-    leaves_failed _ (programs_value (g.P.Programs.starts c.args.programs.now) (g.P.Programs.faults c.args.programs.now)) (programs_value (g.P.Programs.starts c.hold_interview.new.programs) (g.P.Programs.faults c.hold_interview.new.programs)) c.args.program.now c.hold_interview.new.core.journal _
+    leaves_failed _ (g.P.Programs.told c.args.programs.now) (g.P.Programs.told c.hold_interview.new.programs) c.args.program.now c.hold_interview.new.core.journal _
     (ap starts_in c.in-StartFault.ensures.met.only) c.requires.room.0 c.in-StartFault.ensures.met.starts c.in-StartFault.ensures.met.fault
 
 pub returns-in-NoMemory-clause-asked : goal.returns-in-NoMemory-clause-asked
@@ -44,5 +43,5 @@ returns-in-NoMemory-clause-asked g c = nothing_asked (option_map text_of c.args.
 
 pub returns-in-NoMemory-clause-leaves : goal.returns-in-NoMemory-clause-leaves
 returns-in-NoMemory-clause-leaves g c =
-    leaves_unstarted _ (programs_value (g.P.Programs.starts c.args.programs.now) (g.P.Programs.faults c.args.programs.now)) (programs_value (g.P.Programs.starts c.hold_interview.new.programs) (g.P.Programs.faults c.hold_interview.new.programs)) c.args.program.now c.hold_interview.new.core.journal _
+    leaves_unstarted _ (g.P.Programs.told c.args.programs.now) (g.P.Programs.told c.hold_interview.new.programs) c.args.program.now c.hold_interview.new.core.journal _
     refl c.in-NoMemory.ensures.met.nothing c.requires.room.0 c.in-NoMemory.ensures.met.starts c.in-NoMemory.ensures.met.later

@@ -1,6 +1,5 @@
 use Rattle.std.proofs.Common.{ap, refl, arith}
 use Rattle.special_cli.specs.Endings.{starts_in}
-use Rattle.child_end.specs.Programs.{programs_value}
 use Rattle.special_cli.proofs.Leaving.{leaves_child, leaves_failed, leaves_unstarted, one_laid}
 use Rattle.special_cli.proofs.Settling.{may_close, closed_setup, closed_outcome, closed_starts, unstarted_setup, unstarted_outcome, nothing_setup}
 use Rattle.special_cli.proofs.init.asking.ask.Goals as goal
@@ -18,7 +17,7 @@ returns-in-Over-clause-outcome g c =
 
 pub returns-in-Over-clause-leaves : goal.returns-in-Over-clause-leaves
 returns-in-Over-clause-leaves g c =
-    leaves_child _ (g.P.Programs.starts c.hold_talk.new.programs) (programs_value (g.P.Programs.starts c.args.programs.now) (g.P.Programs.faults c.args.programs.now)) (programs_value (g.P.Programs.starts c.finish.new.programs) (g.P.Programs.faults c.finish.new.programs)) c.args.program.now
+    leaves_child _ (g.P.Programs.told c.hold_talk.new.programs).starts (g.P.Programs.told c.args.programs.now) (g.P.Programs.told c.finish.new.programs) c.args.program.now
     c.close_child.new.core.journal c.in-Over.link.ear c.in-Over.link.mouth _
     (closed_starts c.hold_talk.new.core.journal c.close_child.new.core.journal c.in-Over.link.ear.child c.in-Over.came c.in-Over.ensures.met.fits c.close_child.ensures.closes)
     c.in-Over.ensures.met.starts c.finish.ensures.starts c.in-Over.ensures.met.numbers c.in-Over.ensures.met.fits.first c.in-Over.link.one_child
@@ -33,7 +32,7 @@ returns-in-StartFault-clause-outcome g c = unstarted_outcome c.hold_talk.new.cor
 
 pub returns-in-StartFault-clause-leaves : goal.returns-in-StartFault-clause-leaves
 returns-in-StartFault-clause-leaves g c =
-    leaves_failed _ (programs_value (g.P.Programs.starts c.args.programs.now) (g.P.Programs.faults c.args.programs.now)) (programs_value (g.P.Programs.starts c.hold_talk.new.programs) (g.P.Programs.faults c.hold_talk.new.programs)) c.args.program.now c.hold_talk.new.core.journal _
+    leaves_failed _ (g.P.Programs.told c.args.programs.now) (g.P.Programs.told c.hold_talk.new.programs) c.args.program.now c.hold_talk.new.core.journal _
     (ap starts_in c.in-StartFault.ensures.met.only) c.requires.room.0 c.in-StartFault.ensures.met.starts c.in-StartFault.ensures.met.fault
 
 pub returns-in-NoMemory-clause-asked : goal.returns-in-NoMemory-clause-asked
@@ -41,5 +40,5 @@ returns-in-NoMemory-clause-asked g c = nothing_setup c.hold_talk.new.core.journa
 
 pub returns-in-NoMemory-clause-leaves : goal.returns-in-NoMemory-clause-leaves
 returns-in-NoMemory-clause-leaves g c =
-    leaves_unstarted _ (programs_value (g.P.Programs.starts c.args.programs.now) (g.P.Programs.faults c.args.programs.now)) (programs_value (g.P.Programs.starts c.hold_talk.new.programs) (g.P.Programs.faults c.hold_talk.new.programs)) c.args.program.now c.hold_talk.new.core.journal _
+    leaves_unstarted _ (g.P.Programs.told c.args.programs.now) (g.P.Programs.told c.hold_talk.new.programs) c.args.program.now c.hold_talk.new.core.journal _
     refl c.in-NoMemory.ensures.met.nothing c.requires.room.0 c.in-NoMemory.ensures.met.starts c.in-NoMemory.ensures.met.later
