@@ -31,7 +31,7 @@ use Rattle.task_input.specs.declared.limits.TheConstants.Limits.{TASKS}
 use Rattle.journal_model.specs.Beginnings.{MayBegin}
 use Rattle.journal_model.specs.Limits.{most_again}
 use Rattle.journal_model.specs.declared.opening.Opening.{Opening}
-use Rattle.run_tasks.specs.Inputs.{InputFlow, input_flow, IsTaken, IsTextFor, run_opening}
+use Rattle.run_tasks.specs.Inputs.{InputFlow, IsTaken, IsTextFor, run_opening}
 use Rattle.run_tasks.specs.Runs.{HasText}
 use Rattle.run_tasks.specs.Beginnings.{HandsOn, IsReady, BeginsRun}
 use Rattle.run_tasks.specs.declared.beginning.Kept.{Kept}
@@ -106,9 +106,9 @@ hands_on_nothing words told k e registers notes = record { kept = []; text = unn
 
 pub taken_as : (given given' left left' : Option (List ℕ)) (faults faults' : ℕ) (r r' : Result (List Task) InputError) → r ≡ r'
     → (bytes : List ℕ) × HasGiven given given' left left' bytes × InputComesTo TASKS bytes left' r → IfSome left (λ all. IsInput TASKS all r) → IsCounted faults faults' r
-    → IsTaken TASKS (input_flow given given' left left' faults faults') r'
+    → IsTaken TASKS (record { given = given; given' = given'; left = left; left' = left'; faults = faults; faults' = faults' }) r'
 taken_as given given' left left' faults faults' r r' e h told counted =
-    subst (IsTaken TASKS (input_flow given given' left left' faults faults')) e record { bytes = h.0; gave = h.1; comes = h.2; told = told; counted = counted }
+    subst (IsTaken TASKS (record { given = given; given' = given'; left = left; left' = left'; faults = faults; faults' = faults' })) e record { bytes = h.0; gave = h.1; comes = h.2; told = told; counted = counted }
 
 -- ---- the opening
 

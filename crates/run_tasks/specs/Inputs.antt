@@ -1,6 +1,7 @@
 -- What a run was given: its input, and what the words, the kept file and the clock make of it.
 use Rattle.std.specs.Prelude.{ℕ, ◌≡◌, List, [], Option, Some, None, IfSome, Result}
 use Rattle.ann_outside.specs.Files.{Files}
+use Rattle.ann_outside.specs.Told.{SourceTold}
 use Rattle.task_text.specs.declared.task.Task.{Task}
 use Rattle.reg_file.specs.Registers.{RegisterFile}
 use Rattle.chunk_log.specs.declared.note.Note.{Note}
@@ -26,9 +27,8 @@ pub record InputFlow : Type 0 where
   pub faults : ℕ
   pub faults' : ℕ
 
-abbrev pub input_flow : Option (List ℕ) → Option (List ℕ) → Option (List ℕ) → Option (List ℕ) → ℕ → ℕ → InputFlow
-input_flow given given' left left' faults faults' =
-    record { given = given; given' = given'; left = left; left' = left'; faults = faults; faults' = faults' }
+abbrev pub input_flow : SourceTold → SourceTold → InputFlow
+input_flow old new = record { given = old.given; given' = new.given; left = old.left; left' = new.left; faults = old.faults; faults' = new.faults }
 
 -- nothing was read of it
 pub record IsUnread (input : InputFlow) : Type 0 where

@@ -73,7 +73,7 @@ fn read_keep<D: Desk>(alloc: Global, words: &RunWords, desk: &mut D) -> Result<K
 // The tasks of the input, or what stands against it.
 fn read_input<I: Source>(alloc: Global, input: &mut I) -> Result<Tasks, RunEnd>
     requires { (I.told input.old).is_open ≡ true }
-    ensures { ReadsInput (input_flow (I.told input.old).given (I.told input.new).given (I.told input.old).left (I.told input.new).left (I.told input.old).faults (I.told input.new).faults) result }
+    ensures { ReadsInput (input_flow (I.told input.old) (I.told input.new)) result }
 {
     match read_tasks(alloc, input, &Limits::TASKS) {
         Ok(tasks) => Ok(tasks),
@@ -115,7 +115,7 @@ pub(crate) fn begin<D: Desk, I: Source, C: Clock>(
 ) -> Result<Opening, RunEnd>
     requires { (I.told input.old).is_open ≡ true }
     ensures begins { BeginsRun words.now (C.answer clock.old) (D.told desk.old).files
-        (input_flow (I.told input.old).given (I.told input.new).given (I.told input.old).left (I.told input.new).left (I.told input.old).faults (I.told input.new).faults)
+        (input_flow (I.told input.old) (I.told input.new))
         (D.told desk.old).counts.faults (D.told desk.new).counts.faults result }
     ensures files { (D.told desk.new).files ≡ (D.told desk.old).files }
     ensures calls { NamesOnly (IsRunFile words.now) (D.told desk.old).log (D.told desk.new).log }

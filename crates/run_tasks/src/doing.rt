@@ -112,7 +112,7 @@ where
     requires text { has_newline words.now.work ≡ false }
     requires input { (I.told input.old).is_open ≡ true }
     ensures { HasDone words.now (C.answer clock.old) (record { programs = P.told programs.old; made = K.made desks.old })
-        (input_flow (I.told input.old).given (I.told input.new).given (I.told input.old).left (I.told input.new).left (I.told input.old).faults (I.told input.new).faults)
+        (input_flow (I.told input.old) (I.told input.new))
         (record { programs = P.told programs.new; made = K.made desks.new }) result }
 {
     let Ok(room) = take_room::<P, K>(alloc, words.starts, words.jobs) else {

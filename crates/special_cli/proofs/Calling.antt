@@ -32,7 +32,7 @@ use Rattle.journal_audit.specs.declared.found.Audit.TheVariants.{Legal, Wrong}
 use Rattle.special_cli.specs.Audits.{HasAudited, end_of_audit}
 use Rattle.special_cli.proofs.Audited.{other_words, nothing_audited}
 use Rattle.special_cli.specs.Setups.{EndsInit, HasSetUp}
-use Rattle.special_cli.specs.Calls.{IsCalled, IsDone}
+use Rattle.special_cli.specs.Calls.{IsCalled, IsDone, World}
 use Rattle.special_cli.specs.Commands.{ComesToNothing, EndsCheck, HasChecked, EndsInfo, HasInformed, UnlessRefused, Runs}
 use Rattle.special_cli.specs.Endings.{is_well, status_of, IsChecked, IsPrinted, IsTold, LacksMemory}
 use Rattle.special_cli.specs.Informs.{IsInfoTold, info_status}
@@ -449,7 +449,7 @@ module _ (clock : Option ℕ) (before : OutsideValue) (input : InputFlow) (left 
   idle_leaves program idle = leaves_nothing _ before.programs left.outside.programs program left.journal left.wires (ap (λ (o : OutsideValue). o.programs) idle.outside) idle.journal idle.wires
 
   abbrev Called : Option Command → Type 0
-  Called wish = IsCalled clock before input wish out err status left
+  Called wish = IsCalled (record { clock = clock; before = before; input = input; out = out; err = err }) wish status left
 
   pub called_unknown : ComesToNothing before whole Usage → Called None
   unfolding wanted_of
@@ -761,14 +761,13 @@ module _ (clock : Option ℕ) (before : OutsideValue) (input : InputFlow) (left 
   called_left (Some (Rehearse seed tasks)) h = called_rehearsal seed tasks h
   called_left (Some (Walk seed tasks)) h = called_walk seed tasks h
 
-pub called : (clock : Option ℕ) (before : OutsideValue) (input : InputFlow) (wish : Option Command) (ran : RanValue) (left : Left) (status : ℕ) (out err : Flow) → left ≡ ran.left → Runs clock before input wish ran
-    → IsToldOf ran.left status out err ran.end → IsCalled clock before input wish out err status left
-called clock before input wish ran left status out err e runs told =
-    (subst (λ (l : Left). IsCalled clock before input wish out err status l) (sym e) (called_left clock before input ran.left ran.end status out err told wish runs))
+pub done : (w : World) (wish : Option Command) (ran : RanValue) (left : Left) (status : ℕ) → left ≡ ran.left → Runs w.clock w.before w.input wish ran
+    → IsToldOf ran.left status w.out w.err ran.end → IsDone w wish status left
+done w wish ran left status e runs told = subst (λ (l : Left). IsDone w wish status l) (sym e) (ran.end, runs, told)
 
-pub done : (clock : Option ℕ) (before : OutsideValue) (input : InputFlow) (wish : Option Command) (ran : RanValue) (left : Left) (status : ℕ) (out err : Flow) → left ≡ ran.left → Runs clock before input wish ran
-    → IsToldOf ran.left status out err ran.end → IsDone clock before input wish out err status left
-done clock before input wish ran left status out err e runs told = subst (λ (l : Left). IsDone clock before input wish out err status l) (sym e) (ran.end, runs, told)
+-- what follows of what was done
+pub called : (w : World) (wish : Option Command) (status : ℕ) (left : Left) → IsDone w wish status left → IsCalled w wish status left
+called w wish status left d = called_left w.clock w.before w.input left d.0 status w.out w.err d.1.1 wish d.1.0
 
 -- ---- the answers are few
 

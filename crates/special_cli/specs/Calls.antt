@@ -1,6 +1,8 @@
 -- All that is told of a call, in one record.
-use Rattle.std.specs.Prelude.{ℕ, ◌≡◌, ◌⊎◌, true, [], Option, Some, None, IfSome, IsSome, Result}
+use Rattle.std.specs.Prelude.{ℕ, ◌≡◌, ◌⊎◌, true, List, [], Option, Some, None, IfSome, IsSome, Result}
 use Rattle.ann_outside.specs.Causes.{Rose}
+use Rattle.ann_outside.specs.Desks.{Made}
+use Rattle.ann_outside.specs.Told.{ProgramsTold, SinkTold, SourceTold}
 use Rattle.journal_model.specs.Legality.{count}
 use Rattle.audit_run.specs.declared.error.AuditError.{AuditError}
 use Rattle.journal_audit.specs.declared.found.Audit.{Audit}
@@ -21,10 +23,10 @@ use Rattle.special_cli.specs.Rehearsals.{IsUntouched, end_of_rehearsal, rehearsa
 use Rattle.special_cli.specs.Walks.{EndsWalk, walk_in}
 use Rattle.rehearse_run.specs.Rehearsals.{HasRehearsed as HasMade}
 use Rattle.rehearse_run.specs.declared.made.RehearsalEnd.{RehearsalEnd}
-use Rattle.run_tasks.specs.Inputs.{InputFlow, IsUnread}
+use Rattle.run_tasks.specs.Inputs.{InputFlow, IsUnread, input_flow}
 use Rattle.run_tasks.specs.Runs.{HasDone}
 use Rattle.run_tasks.specs.declared.made.RunEnd.{RunEnd}
-use Rattle.special_cli.specs.Tells.{Flow, IsToldOf}
+use Rattle.special_cli.specs.Tells.{Flow, IsToldOf, flow}
 use Rattle.special_cli.specs.declared.end.End.{End}
 use Rattle.cli_words.specs.declared.command.InitWords.{InitWords}
 use Rattle.cli_words.specs.declared.command.RunWords.{RunWords}
@@ -53,28 +55,41 @@ abbrev pub IsWalkCalled : ℕ → ℕ → OutsideValue → InputFlow → ℕ →
 IsWalkCalled seed tasks before input status out err left =
     (end : End) × EndsWalk seed tasks left.journal left.answers end × IsUntouched before left × IsUnread input × IsToldOf left status out err end
 
+-- what a call of the program is lent, before and after, as far as that is told: what the clock answers, what was handed in, what was read,
+-- and what was printed
+pub record World : Type 0 where
+  pub clock : Option ℕ
+  pub before : OutsideValue
+  pub input : InputFlow
+  pub out : Flow
+  pub err : Flow
+
+abbrev pub world : Option ℕ → ProgramsTold → Option (List Made) → SourceTold → SourceTold → SinkTold → SinkTold → SinkTold → SinkTold → World
+world clock programs made input input' out out' err err' =
+    record { clock = clock; before = record { programs = programs; made = made }; input = input_flow input input'; out = flow out out'; err = flow err err' }
+
 -- what the words ask for was done, and what came of it was told so
-abbrev pub IsDone : Option ℕ → OutsideValue → InputFlow → Option Command → Flow → Flow → ℕ → Left → Type 0
-IsDone clock before input wish out err status left = (end : End) × Runs clock before input wish (record { left = left; end = end }) × IsToldOf left status out err end
+abbrev pub IsDone : World → Option Command → ℕ → Left → Type 0
+IsDone w wish status left = (end : End) × Runs w.clock w.before w.input wish (record { left = left; end = end }) × IsToldOf left status w.out w.err end
 
 -- what follows of it, and what each status says
-pub record IsCalled (clock : Option ℕ) (before : OutsideValue) (input : InputFlow) (wish : Option Command) (out err : Flow) (status : ℕ) (left : Left) : Type 0 where
+pub record IsCalled (w : World) (wish : Option Command) (status : ℕ) (left : Left) : Type 0 where
   pub usage : status ≡ 2 → wish ≡ None
   pub words : wish ≡ None → (status ≡ 2) ⊎ (status ≡ 5) ⊎ (status ≡ 7)
   pub refused : status ≡ 3 → IsSome (refused_in wish) ⊎ IsSome (tasks_in wish) ⊎ (wish ≡ Some AuditWord)
   pub key : IsSome (refused_in wish) → (status ≡ 3) ⊎ (status ≡ 5) ⊎ (status ≡ 7)
-  pub early : run_in wish ≡ None → rehearsal_in wish ≡ None → walk_in wish ≡ None → IsIdle before left
-  pub output : status ≡ 5 → Rose out.faults out.faults' ⊎ Rose err.faults err.faults'
-  pub checked : IfSome (check_in wish) (λ c. IsChecked clock c.1 left.journal)
-  pub told : IfSome (check_in wish) (λ c. IsTold status (Rose err.faults err.faults') out.taken out.taken' left.journal left.answers)
+  pub early : run_in wish ≡ None → rehearsal_in wish ≡ None → walk_in wish ≡ None → IsIdle w.before left
+  pub output : status ≡ 5 → Rose w.out.faults w.out.faults' ⊎ Rose w.err.faults w.err.faults'
+  pub checked : IfSome (check_in wish) (λ c. IsChecked w.clock c.1 left.journal)
+  pub told : IfSome (check_in wish) (λ c. IsTold status (Rose w.err.faults w.err.faults') w.out.taken w.out.taken' left.journal left.answers)
   pub informed : IfSome (info_in wish) (λ c. IsInformed c.1 left.journal)
-  pub info_told : IfSome (info_in wish) (λ c. IsInfoTold status out.taken out.taken' c.1 left.journal × (left.answers ≡ []))
-  pub init : IfSome (init_in wish) (λ words. IsInitCalled words before status out err left)
-  pub run : IfSome (tasks_in wish) (λ words. IsRunCalled words clock before input status out err left)
-  pub audit : wish ≡ Some AuditWord → IsAuditCalled before input status out err left
-  pub rehearsal : IfSome (rehearsal_in wish) (λ r. IsRehearsalCalled r.0 r.1 before input status out err left)
-  pub walk : IfSome (walk_in wish) (λ w. IsWalkCalled w.0 w.1 before input status out err left)
-  pub wires : IfSome (run_in wish) (λ program. AreWires before.programs.starts left.journal 0 (came left.journal) left.wires)
-  pub starts : IfSome (run_in wish) (λ program. HaveStarted (LacksMemory status (Rose err.faults err.faults')) program left.journal before.programs.starts left.outside.programs.starts)
-  pub faults : IfSome (run_in wish) (λ program. RoseBy (count is_failed_start left.journal) before.programs.faults left.outside.programs.faults)
-  pub desks : HaveMade before.made left.outside.made left.tables
+  pub info_told : IfSome (info_in wish) (λ c. IsInfoTold status w.out.taken w.out.taken' c.1 left.journal × (left.answers ≡ []))
+  pub init : IfSome (init_in wish) (λ words. IsInitCalled words w.before status w.out w.err left)
+  pub run : IfSome (tasks_in wish) (λ words. IsRunCalled words w.clock w.before w.input status w.out w.err left)
+  pub audit : wish ≡ Some AuditWord → IsAuditCalled w.before w.input status w.out w.err left
+  pub rehearsal : IfSome (rehearsal_in wish) (λ r. IsRehearsalCalled r.0 r.1 w.before w.input status w.out w.err left)
+  pub walk : IfSome (walk_in wish) (λ x. IsWalkCalled x.0 x.1 w.before w.input status w.out w.err left)
+  pub wires : IfSome (run_in wish) (λ program. AreWires w.before.programs.starts left.journal 0 (came left.journal) left.wires)
+  pub starts : IfSome (run_in wish) (λ program. HaveStarted (LacksMemory status (Rose w.err.faults w.err.faults')) program left.journal w.before.programs.starts left.outside.programs.starts)
+  pub faults : IfSome (run_in wish) (λ program. RoseBy (count is_failed_start left.journal) w.before.programs.faults left.outside.programs.faults)
+  pub desks : HaveMade w.before.made left.outside.made left.tables

@@ -3,6 +3,7 @@ use Rattle.std.specs.Prelude.{ℕ, ◌≡◌, ◌⊎◌, List, [], ◌∷◌, �
 use Rattle.std.specs.List.{list_all}
 use Rattle.std.specs.Io.KnownBytes.{Appends}
 use Rattle.ann_outside.specs.Causes.{Rose}
+use Rattle.ann_outside.specs.Told.{SinkTold}
 use Rattle.annex_model.specs.Lines.{text}
 use Rattle.journal_model.specs.declared.answer.Answer.{Answer}
 use Rattle.journal_model.specs.declared.entry.Entry.{Entry}
@@ -30,8 +31,8 @@ pub record Flow : Type 0 where
   pub taken : Option (List ℕ)
   pub taken' : Option (List ℕ)
 
-abbrev pub flow : ℕ → ℕ → Option (List ℕ) → Option (List ℕ) → Flow
-flow faults faults' taken taken' = record { faults = faults; faults' = faults'; taken = taken; taken' = taken' }
+abbrev pub flow : SinkTold → SinkTold → Flow
+flow old new = record { faults = old.faults; faults' = new.faults; taken = old.taken; taken' = new.taken }
 
 -- nothing was written to it
 pub record IsSilent (f : Flow) : Type 0 where

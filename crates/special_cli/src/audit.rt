@@ -19,7 +19,7 @@ pub(crate) fn audit<P: Programs, K: Desks, I: Source>(
     input: &mut I,
 ) -> Ran<P, K>
     requires { (I.told input.old).is_open ≡ true }
-    ensures { HasAudited outside (input_flow (I.told input.old).given (I.told input.new).given (I.told input.old).left (I.told input.new).left (I.told input.old).faults (I.told input.new).faults) result }
+    ensures { HasAudited outside (input_flow (I.told input.old) (I.told input.new)) result }
 {
     let outcome = audit_input(alloc, input, &Limits::AUDIT);
     Ran::nothing(alloc, outside, end_of_audit(outcome))

@@ -36,7 +36,7 @@ where
     requires uuid { IsWrittenUuid words.now.uuid }
     requires ranges { IsRanged words.now }
     requires input { (I.told input.old).is_open ≡ true }
-    ensures { HasRun words.now (C.answer clock.old) outside (input_flow (I.told input.old).given (I.told input.new).given (I.told input.old).left (I.told input.new).left (I.told input.old).faults (I.told input.new).faults) result }
+    ensures { HasRun words.now (C.answer clock.old) outside (input_flow (I.told input.old) (I.told input.new)) result }
 {
     let Outside {
         mut programs,

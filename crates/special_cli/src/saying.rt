@@ -75,7 +75,7 @@ impl Saying {
     /// Writes it, and answers the status: its own, or 5 where a write fails.
     pub(crate) fn say<O: Sink, E: Sink>(&self, out: &mut O, err: &mut E) -> u8
         requires open { ((O.told out.old).is_open ≡ true) × ((E.told err.old).is_open ≡ true) }
-        ensures { IsSaidBy self.now result (flow (O.told out.old).faults (O.told out.new).faults (O.told out.old).taken (O.told out.new).taken) (flow (E.told err.old).faults (E.told err.new).faults (E.told err.old).taken (E.told err.new).taken) }
+        ensures { IsSaidBy self.now result (flow (O.told out.old) (O.told out.new)) (flow (E.told err.old) (E.told err.new)) }
     {
         match self {
             Saying::OnOut(text, status) => write(out, text.view(), *status),
@@ -91,7 +91,7 @@ impl Saying {
 // Writes a text; the status is this one, or 5 where a write fails.
 fn write<S: Sink>(sink: &mut S, text: &[u8], status: u8) -> u8
     requires { (S.told sink.old).is_open ≡ true }
-    ensures { IsWritten status text.now result (flow (S.told sink.old).faults (S.told sink.new).faults (S.told sink.old).taken (S.told sink.new).taken) }
+    ensures { IsWritten status text.now result (flow (S.told sink.old) (S.told sink.new)) }
 {
     match write_all(sink, text) {
         Ok(()) => status,

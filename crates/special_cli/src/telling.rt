@@ -38,7 +38,7 @@ pub(crate) fn tell<P: Programs, K: Desks, O: Sink, E: Sink>(
     requires open { ((O.told out.old).is_open ≡ true) × ((E.told err.old).is_open ≡ true) }
     requires few { length ran.left.answers ≤ 65536 }
     ensures left { result.left ≡ ran.left }
-    ensures told { IsToldOf ran.left result.status (flow (O.told out.old).faults (O.told out.new).faults (O.told out.old).taken (O.told out.new).taken) (flow (E.told err.old).faults (E.told err.new).faults (E.told err.old).taken (E.told err.new).taken) ran.end }
+    ensures told { IsToldOf ran.left result.status (flow (O.told out.old) (O.told out.new)) (flow (E.told err.old) (E.told err.new)) ran.end }
 {
     let status = say_end(alloc, &ran.end, &ran.journal, &ran.answers, out, err);
     ran.close(status)
@@ -55,7 +55,7 @@ fn say_end<O: Sink, E: Sink>(
 ) -> u8
     requires open { ((O.told out.old).is_open ≡ true) × ((E.told err.old).is_open ≡ true) }
     requires few { length answers.now ≤ 65536 }
-    ensures { IsEndTold journal.now.entries answers.now result (flow (O.told out.old).faults (O.told out.new).faults (O.told out.old).taken (O.told out.new).taken) (flow (E.told err.old).faults (E.told err.new).faults (E.told err.old).taken (E.told err.new).taken) end.now }
+    ensures { IsEndTold journal.now.entries answers.now result (flow (O.told out.old) (O.told out.new)) (flow (E.told err.old) (E.told err.new)) end.now }
 {
     let saying = saying_of(alloc, end, journal, answers);
     saying.say(out, err)

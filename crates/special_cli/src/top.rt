@@ -1,9 +1,8 @@
 ghost use Rattle.std.specs.Prelude.{◌≡◌, true};
 ghost use Rattle.cli_words.specs.Values.{texts_of};
 ghost use Rattle.run_tasks.specs.Inputs.{input_flow};
-ghost use Rattle.special_cli.specs.Calls.{IsCalled, IsDone};
+ghost use Rattle.special_cli.specs.Calls.{IsCalled, IsDone, world};
 ghost use Rattle.special_cli.specs.Commands.{Runs};
-ghost use Rattle.special_cli.specs.Tells.{flow};
 ghost use Rattle.special_cli.specs.Wishes.{wish_of, AreRead};
 
 use crate::audit::audit;
@@ -58,8 +57,10 @@ where
     P::Stub: Drop,
     K::Desk: Send + Drop,
     requires open { ((I.told input.old).is_open ≡ true) × ((O.told out.old).is_open ≡ true) × ((E.told err.old).is_open ≡ true) }
-    ensures done { IsDone (C.answer clock.old) (record { programs = P.told programs; made = K.made desks }) (input_flow (I.told input.old).given (I.told input.new).given (I.told input.old).left (I.told input.new).left (I.told input.old).faults (I.told input.new).faults) (wish_of (texts_of words.now)) (flow (O.told out.old).faults (O.told out.new).faults (O.told out.old).taken (O.told out.new).taken) (flow (E.told err.old).faults (E.told err.new).faults (E.told err.old).taken (E.told err.new).taken) result.status result.left }
-    ensures called { IsCalled (C.answer clock.old) (record { programs = P.told programs; made = K.made desks }) (input_flow (I.told input.old).given (I.told input.new).given (I.told input.old).left (I.told input.new).left (I.told input.old).faults (I.told input.new).faults) (wish_of (texts_of words.now)) (flow (O.told out.old).faults (O.told out.new).faults (O.told out.old).taken (O.told out.new).taken) (flow (E.told err.old).faults (E.told err.new).faults (E.told err.old).taken (E.told err.new).taken) result.status result.left }
+    ensures done { IsDone (world (C.answer clock.old) (P.told programs) (K.made desks) (I.told input.old) (I.told input.new)
+        (O.told out.old) (O.told out.new) (E.told err.old) (E.told err.new)) (wish_of (texts_of words.now)) result.status result.left }
+    ensures called { IsCalled (world (C.answer clock.old) (P.told programs) (K.made desks) (I.told input.old) (I.told input.new)
+        (O.told out.old) (O.told out.new) (E.told err.old) (E.told err.new)) (wish_of (texts_of words.now)) result.status result.left }
 {
     let outside = Outside { programs, desks };
     let ran = do_words(rt, alloc, words, outside, input, clock);
@@ -81,7 +82,7 @@ where
     P::Stub: Drop,
     K::Desk: Send + Drop,
     requires input { (I.told input.old).is_open ≡ true }
-    ensures { Runs (C.answer clock.old) outside (input_flow (I.told input.old).given (I.told input.new).given (I.told input.old).left (I.told input.new).left (I.told input.old).faults (I.told input.new).faults) (wish_of (texts_of words.now)) result }
+    ensures { Runs (C.answer clock.old) outside (input_flow (I.told input.old) (I.told input.new)) (wish_of (texts_of words.now)) result }
 {
     match command_of(alloc, words) {
         Ok(command) => do_command(rt, alloc, &command, outside, input, clock),
@@ -105,7 +106,7 @@ where
     K::Desk: Send + Drop,
     requires words { AreRead command.now }
     requires input { (I.told input.old).is_open ≡ true }
-    ensures { Runs (C.answer clock.old) outside (input_flow (I.told input.old).given (I.told input.new).given (I.told input.old).left (I.told input.new).left (I.told input.old).faults (I.told input.new).faults) command.now result }
+    ensures { Runs (C.answer clock.old) outside (input_flow (I.told input.old) (I.told input.new)) command.now result }
 {
     match command {
         Some(Command::Show(page)) => Ran::nothing(alloc, outside, End::Shown(*page)),

@@ -13,7 +13,7 @@ pub go_on-worked-requires-clause-may : goal.go_on-worked-requires-clause-may
 go_on-worked-requires-clause-may g c κs within =
     let old = c.args.input.now in
     let new = c.begin-begun.new.input in
-    let flow = input_flow (g.I.Source.told old).given (g.I.Source.told new).given (g.I.Source.told old).left (g.I.Source.told new).left (g.I.Source.told old).faults (g.I.Source.told new).faults in
+    let flow = input_flow (g.I.Source.told old) (g.I.Source.told new) in
     may_begin_all c.args.words.now (g.C.Clock.answer c.args.clock.now) (g.K.Desk.Desk.told c.in-Ok-desk.desk).files flow (g.K.Desk.Desk.told c.in-Ok-desk.desk).counts.faults (g.K.Desk.Desk.told c.begin-begun.new.desk).counts.faults
     c.begin-begun.result c.requires.fit c.requires.uuid c.requires.again c.begin-begun.ensures.begins
 
@@ -22,7 +22,7 @@ returns g c =
     let words = c.args.words.now in
     let old = c.args.input.now in
     let new = c.begin-begun.new.input in
-    let flow = input_flow (g.I.Source.told old).given (g.I.Source.told new).given (g.I.Source.told old).left (g.I.Source.told new).left (g.I.Source.told old).faults (g.I.Source.told new).faults in
+    let flow = input_flow (g.I.Source.told old) (g.I.Source.told new) in
     let value = g.K.Desk.Desk.told in
     let told = (g.K.Desk.Desk.told c.in-Ok-desk.desk).files in
     let before = value c.begin-begun.new.desk in

@@ -8,10 +8,8 @@ use Rattle.special_cli.proofs.top.do_words.Goals as goal
 
 pub returns-in-Err : goal.returns-in-Err
 returns-in-Err g c =
-    let given = (g.I.Source.told c.args.input.now).given in
-    let left = (g.I.Source.told c.args.input.now).left in
-    let faults = (g.I.Source.told c.args.input.now).faults in
-    runs_nothing (g.C.Clock.answer c.args.clock.now) c.args.outside (input_flow given given left left faults faults) (command_of (texts_of c.args.words.now)) c.nothing.result c.nothing.ensures.end
+    let input = g.I.Source.told c.args.input.now in
+    runs_nothing (g.C.Clock.answer c.args.clock.now) c.args.outside (input_flow input input) (command_of (texts_of c.args.words.now)) c.nothing.result c.nothing.ensures.end
     c.nothing.ensures.idle (record { given = refl; left = refl; faults = refl })
 
 pub do_command-requires-clause-words : goal.do_command-requires-clause-words
