@@ -1,7 +1,7 @@
 -- What several crates above this one use.
 use Rattle.std.specs.Prelude.{IfSome, count_by}
 use Rattle.ann_outside.specs.Files.{Files, WhereTold}
-use Rattle.std.proofs.Common.{ℕ, ◌≤◌, arith, ◌≡◌, refl, ◌∙◌, None, Option, Some, ◌+◌, List, ◌++◌, take, sym, subst, Bool, true, false, cond, not, [], ◌∷◌}
+use Rattle.std.proofs.Common.{ℕ, ◌≤◌, arith, ◌≡◌, refl, ◌∙◌, None, Option, Some, List, ◌++◌, take, sym, subst, Bool, true, false, cond, not, [], ◌∷◌}
 use Rattle.ann_outside.specs.Causes.{Rose, Stays}
 use Rattle.ann_outside.specs.Starts.{Starts}
 use Rattle.std.specs.Io.KnownBytes.{Appends}

@@ -1,7 +1,7 @@
 -- How a log gains calls.
 use Rattle.std.proofs.Common.{◌≡◌, ◌∙◌, List, [], ◌∷◌, ◌++◌, refl, sym, ap, append_assoc, append-nil}
 use Rattle.std.specs.Prelude.{true, false, Option, Some, None, option_map}
-use Rattle.ann_outside.specs.Calls.{Log, Gained, logged, lacks_memory, IsLogBlank}
+use Rattle.ann_outside.specs.Calls.{Log, Gained, logged, lacks_memory}
 use Rattle.ann_outside.specs.declared.file_desk.Call.{Call}
 
 pub gained_nothing : (log : Option Log) → Gained log log []

@@ -1,6 +1,6 @@
 -- How what was played goes on by a call.
 use Rattle.std.proofs.Common.{◌≡◌, ◌∙◌, ℕ, List, [], ◌∷◌, ◌++◌, length, take, drop, refl, sym, ap, subst}
-use Rattle.std.specs.Prelude.{Bool, true, false, if◌then◌else◌, Option, Some, None, option_map, Result, Ok, Err}
+use Rattle.std.specs.Prelude.{Bool, true, false, if◌then◌else◌, None, option_map, Result, Ok, Err}
 use Rattle.std.specs.Io.{ReadsAtMost}
 use mathlib.Core.Logic.{∥∥₁_map}
 use Rattle.ann_outside.specs.Calls.{bytes_read, calls_with, lacks_memory}

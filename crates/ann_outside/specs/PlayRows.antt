@@ -3,7 +3,7 @@ use Rattle.std.specs.Prelude.{ℕ, List, [], ◌∷◌, codes, Ok, Err}
 use Rattle.ann_outside.specs.Files.{Files}
 use Rattle.ann_outside.specs.declared.file_desk.DeskError.TheVariants.{Failed}
 use Rattle.ann_outside.specs.declared.file_desk.Call.{Call}
-use Rattle.ann_outside.specs.declared.file_desk.Call.TheVariants.{Size, ReadAt, Create, Append, Rename}
+use Rattle.ann_outside.specs.declared.file_desk.Call.TheVariants.{Size, ReadAt, Create, Append}
 
 -- one file with these bytes
 abbrev pub holding : List ℕ → Files

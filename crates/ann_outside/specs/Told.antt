@@ -1,7 +1,8 @@
 -- What the objects outside tell, each as one value.
-use Rattle.std.specs.Prelude.{ℕ, Bool, List, Option}
-use Rattle.ann_outside.specs.Calls.{Log}
+use Rattle.std.specs.Prelude.{ℕ, ◌≡◌, Bool, List, Option}
+use Rattle.ann_outside.specs.Calls.{IsLogBlank, IsLogFrom, Log}
 use Rattle.ann_outside.specs.DeskCauses.{Counts}
+use Rattle.ann_outside.specs.Desks.{no_counts}
 use Rattle.ann_outside.specs.Files.{Files}
 use Rattle.ann_outside.specs.Starts.{Starts}
 
@@ -33,3 +34,7 @@ pub record DeskTold : Type 0 where
   pub counts : Counts
   pub files : Option Files
   pub log : Option Log
+
+-- a desk that was made just now: it counted nothing, no call was made on it, and its log begins with the files that it has
+abbrev pub IsNew : DeskTold → Type 0
+IsNew desk = (desk.counts ≡ no_counts) × IsLogBlank desk.log × IsLogFrom desk.log desk.files

@@ -3,13 +3,13 @@
 // A desk has a count of faults and a count of missing files, and neither ever falls. A call answers `Failed` only where
 // the first rose in that call, and `Missing` only where the second did. What files it has, and the log of its calls,
 // are meanings that it may or may not tell; a desk in memory tells them, a real one doesn't.
-ghost use Rattle.ann_outside.specs.Told.{DeskTold};
+ghost use Rattle.ann_outside.specs.Told.{DeskTold, IsNew};
 ghost use Rattle.std.specs.Prelude.{◌≡◌, ℕ, ◌+◌, ◌<◌, ◌^◌, length, List, Option, IfOk, IfSome, MatchResult};
 ghost use Rattle.std.specs.Io.{ReadsAtMost};
-ghost use Rattle.ann_outside.specs.Calls.{Log, logged, bytes_read, IsLogBlank, IsLogFrom};
+ghost use Rattle.ann_outside.specs.Calls.{logged, bytes_read};
 ghost use Rattle.ann_outside.specs.Causes.{AddsOne, Stays};
 ghost use Rattle.ann_outside.specs.DeskCauses.{HasCauses, LeavesOther, Counts};
-ghost use Rattle.ann_outside.specs.Desks.{Made, no_counts};
+ghost use Rattle.ann_outside.specs.Desks.{Made};
 ghost use Rattle.ann_outside.specs.Files.{Files, WhereTold, CanCut, SizeIs, ReadIs, CreateDoes, CreateNewDoes, AppendDoes, CutDoes, RenameDoes, RemoveDoes, SyncIs};
 ghost use Rattle.ann_outside.specs.Played.{ArePlayed};
 ghost use Rattle.ann_outside.specs.declared.file_desk.Call.TheVariants.{Size, ReadAt, Create, Append, Cut, Rename, Remove};
@@ -161,5 +161,5 @@ pub trait Desks {
         ensures made { MatchResult result
             (λ d. AddsOne (made self.old) (made self.new) (record { number = number; files = (Self.Desk.told d).files }))
             (λ _. Stays (made self.old) (made self.new)) }
-        ensures fresh { IfOk result (λ d. ((Self.Desk.told d).counts ≡ no_counts) × IsLogBlank (Self.Desk.told d).log × IsLogFrom (Self.Desk.told d).log (Self.Desk.told d).files) };
+        ensures fresh { IfOk result (λ d. IsNew (Self.Desk.told d)) };
 }

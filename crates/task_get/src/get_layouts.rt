@@ -36,7 +36,8 @@ fn whole_by<A: Asker, D: Desk>(
     requires number { get.turn.task ≡ (A.told asker.old).task }
     requires ready { A.ready asker.old }
     ensures ran { (first : ℕ) → fetch.now ≡ fetch_file get.entry.setup.now get.entry.turn (first + 1) → first + 1 < 2 ^ 64
-        → WholeRan get.entry.setup.now get.entry.turn (parts_of get.entry.key) get.entry.file.now first (A.told asker.old).pairs (A.told asker.new).pairs (D.told desk.old).log (D.told desk.new).log result }
+        → WholeRan get.entry.setup.now get.entry.turn (parts_of get.entry.key) get.entry.file.now first
+        (A.told asker.old).pairs (A.told asker.new).pairs (D.told desk.old).log (D.told desk.new).log result }
     ensures notes { (A.told asker.new).notes ≡ (A.told asker.old).notes }
     ensures same { IsSameTask (A.told asker.old) (A.told asker.new) }
     ensures on { A.goes_on asker.old asker.new }
@@ -56,7 +57,8 @@ fn get_whole<A: Asker, D: Desk>(
 ) -> Result<Answer, NoMemory>
     requires number { get.turn.task ≡ (A.told asker.old).task }
     requires ready { A.ready asker.old }
-    ensures ran { WholeRan get.entry.setup.now get.entry.turn (parts_of get.entry.key) get.entry.file.now asked (A.told asker.old).pairs (A.told asker.new).pairs (D.told desk.old).log (D.told desk.new).log result }
+    ensures ran { WholeRan get.entry.setup.now get.entry.turn (parts_of get.entry.key) get.entry.file.now asked
+        (A.told asker.old).pairs (A.told asker.new).pairs (D.told desk.old).log (D.told desk.new).log result }
     ensures notes { (A.told asker.new).notes ≡ (A.told asker.old).notes }
     ensures same { IsSameTask (A.told asker.old) (A.told asker.new) }
     ensures on { A.goes_on asker.old asker.new }
@@ -141,7 +143,8 @@ fn get_from<A: Asker, D: Desk>(
     requires sizes { are_layouts layouts.now ≡ true }
     requires number { get.turn.task ≡ (A.told asker.old).task }
     requires ready { A.ready asker.old }
-    ensures ran { GetRan get.entry.setup.now get.entry.turn (parts_of get.entry.key) get.entry.file.now layouts.now (A.told asker.old).pairs (A.told asker.new).pairs (D.told desk.old).log (D.told desk.new).log result }
+    ensures ran { GetRan get.entry.setup.now get.entry.turn (parts_of get.entry.key) get.entry.file.now layouts.now
+        (A.told asker.old).pairs (A.told asker.new).pairs (D.told desk.old).log (D.told desk.new).log result }
     ensures notes { (A.told asker.new).notes ≡ (A.told asker.old).notes }
     ensures same { IsSameTask (A.told asker.old) (A.told asker.new) }
     ensures on { A.goes_on asker.old asker.new }

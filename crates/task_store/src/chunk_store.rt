@@ -347,7 +347,8 @@ pub fn store_chunks<A: Asker, D: Desk>(
     requires number { turn.task ≡ (A.told asker.old).task }
     requires ready { A.ready asker.old }
     requires may { (A.told asker.old).may_note ≡ true }
-    ensures ran { RanStore task.now turn setup.now (A.told asker.old).pairs (A.told asker.new).pairs (A.told asker.old).notes (A.told asker.new).notes (D.told desk.old).log (D.told desk.new).log result }
+    ensures ran { RanStore task.now turn setup.now (A.told asker.old).pairs (A.told asker.new).pairs (A.told asker.old).notes (A.told asker.new).notes
+        (D.told desk.old).log (D.told desk.new).log result }
     ensures same { IsSameTask (A.told asker.old) (A.told asker.new) }
     ensures on { A.goes_on asker.old asker.new }
     ensures causes { HasQuietCauses (D.told desk.old).counts (D.told desk.new).counts result }

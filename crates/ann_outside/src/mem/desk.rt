@@ -92,7 +92,11 @@ impl Desk for MemDesk {
     ghost use Rattle.ann_outside.specs.MemDesk.{desk_fails};
     ghost use Rattle.ann_outside.specs.DeskState.{IsCounted, IsCountedOr};
 
-    ghost told = { λ d. record { counts = record { faults = d.state.fails.faults; missing = d.state.missing }; files = Some d.state.files.items; log = Some (record { origin = Some d.origin.value.items; calls = d.state.log.items }) } };
+    ghost told = { λ d. record {
+      counts = record { faults = d.state.fails.faults; missing = d.state.missing };
+      files = Some d.state.files.items;
+      log = Some (record { origin = Some d.origin.value.items; calls = d.state.log.items });
+    } };
 
     fn size(&mut self, name: &str) -> Result<u64, DeskError>
         ensures files { (⟦<MemDesk as Desk>⟧.told self.new).files ≡ (⟦<MemDesk as Desk>⟧.told self.old).files }

@@ -1,8 +1,8 @@
 // Desks in memory, handed out in order.
 ghost use Rattle.std.specs.Prelude.{◌≡◌, [], Some, drop, IfOk, MatchResult};
-ghost use Rattle.ann_outside.specs.Calls.{IsLogBlank, IsLogFrom};
+ghost use Rattle.ann_outside.specs.Told.{IsNew};
 ghost use Rattle.ann_outside.specs.Causes.{AddsOne, Stays};
-ghost use Rattle.ann_outside.specs.Desks.{Made, no_counts};
+ghost use Rattle.ann_outside.specs.Desks.{Made};
 
 use super::super::{Desk, Desks};
 use super::desk::MemDesk;
@@ -55,7 +55,7 @@ impl Desks for MemDesks {
         ensures made { MatchResult result
             (λ d. AddsOne (⟦<MemDesks as Desks>⟧.made self.old) (⟦<MemDesks as Desks>⟧.made self.new) (record { number = number; files = (⟦<MemDesk as Desk>⟧.told d).files }))
             (λ _. Stays (⟦<MemDesks as Desks>⟧.made self.old) (⟦<MemDesks as Desks>⟧.made self.new)) }
-        ensures fresh { IfOk result (λ d. ((⟦<MemDesk as Desk>⟧.told d).counts ≡ no_counts) × IsLogBlank (⟦<MemDesk as Desk>⟧.told d).log × IsLogFrom (⟦<MemDesk as Desk>⟧.told d).log (⟦<MemDesk as Desk>⟧.told d).files) }
+        ensures fresh { IfOk result (λ d. IsNew (⟦<MemDesk as Desk>⟧.told d)) }
         ensures begun { IfOk result (λ d. IsBegun d (files_next (desks_left self.old)) (fails_next_desk (desks_left self.old))) }
         ensures later { MatchResult result (λ _. desks_left self.new ≡ drop 1 (desks_left self.old)) (λ _. desks_left self.new ≡ desks_left self.old) }
     {

@@ -1,5 +1,5 @@
-use Rattle.std.proofs.Common.{◌≡◌, ◌≤◌, ℕ, List, [], ◌∷◌, length, take, drop, refl, sym, ap, arith}
-use Rattle.std.specs.Prelude.{codes, bytes_eq, false, Option, Some, None, unwrap_or, Ok}
+use Rattle.std.proofs.Common.{◌≡◌, ℕ, List, [], length, take, drop, refl, sym, ap}
+use Rattle.std.specs.Prelude.{codes, Option, Some, None, unwrap_or, Ok}
 use Rattle.ann_outside.specs.Files.{content}
 use Rattle.ann_outside.specs.Played.{Does}
 use Rattle.ann_outside.specs.PlayRows.{holding}

@@ -1,7 +1,5 @@
-use Rattle.std.proofs.Common.{◌≡◌, ◌∙◌, ℕ, ◌==◌, zero, suc, List, [], ◌∷◌, ◌++◌, take, refl, sym, ap}
-use Rattle.std.specs.Prelude.{codes, bytes_eq, Bool, true, false, Option, Some, None, option_map, unwrap_or, IfSome}
-use Rattle.ann_outside.specs.Files.{content}
-use Rattle.ann_outside.specs.PlayRows.{holding}
+use Rattle.std.proofs.Common.{◌≡◌, ◌∙◌, ℕ, ◌==◌, zero, suc, List, [], ◌++◌, take, refl, sym, ap}
+use Rattle.std.specs.Prelude.{codes, bytes_eq, true, false, Option, Some, None, option_map, unwrap_or}
 use Rattle.ann_outside.proofs.laws.plays_no_other.Goals as goal
 
 differ : false ≡ true → ⊥
