@@ -2,7 +2,8 @@
 ghost use Rattle.std.specs.Prelude.{IfSome, IsNone, ℕ, Bool, None, true, false, ◌<◌, IsTrue, ◌≡◌, ◌≤◌, ◌==◌, not, length, take, filter, option_copied, option_map, IfOk};
 ghost use Rattle.std.specs.List.{list_any, list_all};
 ghost use Rattle.journal_model.specs.Limits.{most_tasks};
-ghost use Rattle.journal_model.specs.Journal.{offers, first_of, any, is_started, is_ended, is_mute, is_live, has_spoken, asked_jobs, open_jobs, is_open, verdict_of, why_of, line_at, is_tagged, addressed, on_wire, unsent, is_full};
+ghost use Rattle.journal_model.specs.Journal.{offers, first_of, any, is_started, is_ended, is_mute, is_live, has_spoken, asked_jobs, open_jobs, is_open, verdict_of, why_of, line_at};
+ghost use Rattle.journal_model.specs.Journal.{is_tagged, addressed, on_wire, unsent, is_full};
 ghost use Rattle.journal_model.specs.Parts.{item_at};
 ghost use Rattle.journal_model.specs.Legality.{count, is_start, is_empty, is_claimed, numbers_of, least_free, is_prepared, is_greeted, may_ask, is_claimed_by, has_open_job, has_busy_task};
 ghost use Rattle.journal_scan.specs.Looks.{NoneDue, is_no_start, asked_at, request_text, remote_text, job_at};

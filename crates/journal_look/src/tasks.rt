@@ -2,7 +2,8 @@
 ghost use Rattle.std.specs.Prelude.{ℕ, ◌≡◌, ◌≤◌, ◌<◌, ◌-◌, ◌^◌, ◌&&◌, filter, find, length, not, false, true, IfSome, IsNone, option_copied};
 ghost use Rattle.std.specs.List.{list_any, list_all, range_with_len};
 ghost use Rattle.journal_model.specs.Limits.{most_tasks};
-ghost use Rattle.journal_model.specs.Legality.{is_claimed, holder, is_busy, task_of, both_conflict, numbers_of, is_free, least_free, is_claimed_by, is_held_for, has_open_job, may_work, has_busy_task, claimed_for};
+ghost use Rattle.journal_model.specs.Legality.{is_claimed, holder, is_busy, task_of, is_claimed_by, is_held_for, has_open_job, may_work, has_busy_task, claimed_for};
+ghost use Rattle.journal_model.specs.Legality.{is_free, least_free, both_conflict, numbers_of};
 ghost use Rattle.journal_model.specs.Journal.{each_of};
 ghost use Rattle.journal_look.specs.Holds.{held_of};
 ghost use Rattle.journal_look.specs.Marks.{AreClaimed};

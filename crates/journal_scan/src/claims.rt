@@ -1,6 +1,7 @@
 // What the entries say of who holds a task, and of its jobs.
 ghost use Rattle.std.specs.Prelude.{◌≡◌};
-ghost use Rattle.journal_model.specs.Legality.{claims, claimed_on, renews, count, is_claimed, turned, holder, is_busy, is_held_by, is_held_for, is_busy_with, job_for, has_open_job, claimed_for, has_busy_task};
+ghost use Rattle.journal_model.specs.Legality.{holder, is_busy, is_held_by, is_held_for, is_busy_with, job_for, has_open_job, has_busy_task};
+ghost use Rattle.journal_model.specs.Legality.{claims, claimed_on, is_claimed, claimed_for, renews, turned, count};
 ghost use Rattle.journal_scan.specs.Shown.{what_shown, entry_shown};
 
 use crate::{Entries, EntryRef, WhatRef, children};

@@ -1,7 +1,8 @@
 // What one message is, as a line of an answer.
 ghost use Rattle.std.specs.Prelude.{◌≡◌, ◌∷◌, [], List, ℕ, Some, None, true, false, if◌then◌else◌, bytes_eq};
 ghost use Rattle.ann_key.specs.KeyRefs.{text_of};
-ghost use Rattle.annex_model.specs.Messages.{AskExtensions, Prepare, Initremote, Transfer, Checkpresent, Remove, Getcost, Getavailability, Whereis, Exportsupported, Transferexport, Checkpresentexport, Removeexport, Renameexport};
+ghost use Rattle.annex_model.specs.Messages.{AskExtensions, Prepare, Initremote, Transfer, Checkpresent, Remove, Getcost, Getavailability, Whereis};
+ghost use Rattle.annex_model.specs.Messages.{Exportsupported, Transferexport, Checkpresentexport, Removeexport, Renameexport};
 ghost use Rattle.annex_model.specs.Talks.{is_aside, is_same, is_unsupported, is_infofield, one_line};
 ghost use Rattle.wire_msg.specs.Shown.{remote_shown};
 ghost use Rattle.talk_serial.specs.Requests.{message_of};

@@ -16,7 +16,7 @@ pub record HasGiven (given given' left left' : Option (List ℕ)) (bytes : List 
 
 -- the same of a source, from the one to the other
 abbrev pub Gave : {S : Type 0} → SourceGhosts S → S → S → List ℕ → Type 0
-Gave g old new bytes = HasGiven (g.given old) (g.given new) (g.left old) (g.left new) bytes
+Gave g old new bytes = HasGiven (g.told old).given (g.told new).given (g.told old).left (g.told new).left bytes
 
 -- the input was read to its end, or to a byte past the limit
 abbrev pub IsRead : ℕ → List ℕ → Option (List ℕ) → Type 0

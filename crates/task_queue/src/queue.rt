@@ -1,5 +1,6 @@
 // The tasks of a run: which are claimed, which are busy, and which of the others may be free.
-ghost use Rattle.std.specs.Prelude.{ℕ, ◌≡◌, ◌<◌, ◌≤◌, ◌+◌, ◌==◌, ◌^◌, ◌++◌, ◌∷◌, [], not, Bool, List, length, filter, find, replicate, true, false, if◌then◌else◌, ◌&&◌, min, IfOk, option_copied, vec_capacity};
+ghost use Rattle.std.specs.Prelude.{ℕ, ◌≡◌, ◌<◌, ◌≤◌, ◌+◌, ◌==◌, ◌^◌, ◌++◌, ◌∷◌, [], not, Bool, List, true, false, if◌then◌else◌, ◌&&◌};
+ghost use Rattle.std.specs.Prelude.{length, filter, find, replicate, min, IfOk, option_copied, vec_capacity};
 ghost use Rattle.std.specs.List.{slice_set};
 ghost use Rattle.journal_model.specs.declared.entry.Entry.{Entry};
 ghost use Rattle.journal_model.specs.declared.opening.Opening.{Opening};
