@@ -93,3 +93,7 @@ pub record IsCalled (w : World) (wish : Option Command) (status : ℕ) (left : L
   pub starts : IfSome (run_in wish) (λ program. HaveStarted (LacksMemory status (Rose w.err.faults w.err.faults')) program left.journal w.before.programs.starts left.outside.programs.starts)
   pub faults : IfSome (run_in wish) (λ program. RoseBy (count is_failed_start left.journal) w.before.programs.faults left.outside.programs.faults)
   pub desks : HaveMade w.before.made left.outside.made left.tables
+
+-- whatever was done is called so
+abbrev pub DoneIsCalled : Type 0
+DoneIsCalled = (w : World) (wish : Option Command) (status : ℕ) (left : Left) → IsDone w wish status left → IsCalled w wish status left

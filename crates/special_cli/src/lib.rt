@@ -7,6 +7,7 @@ mod closing;
 mod end;
 mod info;
 mod init;
+pub mod laws;
 mod meeting;
 mod openings;
 mod outside;
