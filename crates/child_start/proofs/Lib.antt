@@ -1,3 +1,4 @@
+pub mod Across
 pub mod Begun
 pub mod Jobs
 pub mod Losing

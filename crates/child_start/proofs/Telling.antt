@@ -4,22 +4,18 @@ use Rattle.ann_outside.specs.declared.Sink.{Ghosts as SinkGhosts}
 use Rattle.ann_outside.specs.declared.Source.{Ghosts as SourceGhosts}
 use Rattle.journal_model.specs.declared.entry.What.TheVariants.{Start}
 use Rattle.journal_model.specs.declared.entry.Entry.{Entry}
-use Rattle.journal_model.specs.Journal.{is_tagged}
 use Rattle.journal_model.specs.Legality.{count, is_start}
 use Rattle.journal_model.proofs.Looks.{entry}
 use Rattle.child_start.specs.declared.greeting.Greeting.{Greeting}
-use Rattle.child_start.specs.declared.greeting.Greeting.TheVariants.{Ready, Refused, Ended, Unsent, StartFault, NoMemory}
+use Rattle.child_start.specs.declared.greeting.Greeting.TheVariants.{Child, StartFault, NoMemory}
 use Rattle.journal_model.specs.Halves.{EarValue, MouthValue}
 use Rattle.child_start.specs.declared.greeting.Mode.{Mode}
-use Rattle.child_start.specs.Greetings.{GreetedFor, IsReadyFor, IsRefused, HasEnded, IsUnsent, TellsFor, IfHasLink}
+use Rattle.child_start.specs.Greetings.{CameTo, GreetedFor, TellsFor, IfHasLink}
 use Rattle.child_start.specs.Stages.{GreetsOn, TellsOf}
 
 -- what follows of the halves of a greeting's link
 pub has_link : {I O S : Type 0} {sinks : SinkGhosts I} {sources : SourceGhosts O} (P Q : EarValue → MouthValue → Type 0) (greeting : Greeting I O S sinks sources) → ((e : EarValue) (m : MouthValue) → P e m → Q e m) → IfHasLink P greeting → IfHasLink Q greeting
-has_link P Q (Ready link stub tagged) f h = f link.ear link.mouth h
-has_link P Q (Refused verdict link stub) f h = f link.ear link.mouth h
-has_link P Q (Ended why link stub) f h = f link.ear link.mouth h
-has_link P Q (Unsent link stub) f h = f link.ear link.mouth h
+has_link P Q (Child link stub came) f h = f link.ear link.mouth h
 has_link P Q StartFault f h = tt
 has_link P Q NoMemory f h = tt
 
@@ -37,17 +33,8 @@ module _ (mode : Mode) (old mid new : List Entry) (slot : ℕ) (offer : Bool) (c
   }
 
   pub tells_whole : {I O S : Type 0} {sinks : SinkGhosts I} {sources : SourceGhosts O} (greeting : Greeting I O S sinks sources) → TellsOf mode new c greeting → TellsFor mode old new slot offer greeting
-  tells_whole (Ready link stub tagged) t =
+  tells_whole (Child link stub came) t =
       let e = sym t.0 in
-      (subst (GreetedFor mode old new slot offer) e greeted, subst (IsReadyFor mode new) e t.1, t.2 ∙ ap (is_tagged new) e)
-  tells_whole (Refused verdict link stub) t =
-      let e = sym t.0 in
-      (subst (GreetedFor mode old new slot offer) e greeted, subst (λ (k : ℕ). IsRefused new k verdict) e t.1)
-  tells_whole (Ended why link stub) t =
-      let e = sym t.0 in
-      (subst (GreetedFor mode old new slot offer) e greeted, subst (λ (k : ℕ). HasEnded new k why) e t.1)
-  tells_whole (Unsent link stub) t =
-      let e = sym t.0 in
-      (subst (GreetedFor mode old new slot offer) e greeted, subst (IsUnsent new) e t.1)
+      (subst (GreetedFor mode old new slot offer) e greeted, subst (λ (k : ℕ). CameTo mode new k came) e t.1)
   tells_whole StartFault t = absurd t
   tells_whole NoMemory t = absurd t

@@ -1,14 +1,15 @@
 -- What each stage of a greeting leaves.
-use Rattle.std.specs.Prelude.{ℕ, ◌≡◌, ◌⊎◌, ◌≤◌, Bool, true, false, List, [], ◌∷◌, ◌++◌, Option, Some, None}
+use Rattle.std.specs.Prelude.{ℕ, ◌≡◌, ◌⊎◌, ◌≤◌, ◌+◌, Bool, true, false, List, [], ◌∷◌, ◌++◌, Option, Some, None}
 use Rattle.std.specs.List.{list_all}
 use Rattle.ann_outside.specs.declared.Sink.{Ghosts as SinkGhosts}
 use Rattle.ann_outside.specs.declared.Source.{Ghosts as SourceGhosts}
 use Rattle.journal_model.specs.declared.verdict.Verdict.{Verdict}
 use Rattle.journal_model.specs.declared.verdict.Verdict.TheVariants.{Done as DoneAt, Failed as FailedAt, Unsupported as UnsupportedAt}
 use Rattle.annex_model.specs.Messages.{HostMessage, AskExtensions, Prepare, Initremote}
+use Rattle.journal_model.specs.declared.entry.What.TheVariants.{Start}
 use Rattle.journal_model.specs.declared.entry.Entry.{Entry}
-use Rattle.journal_model.specs.Journal.{any, is_started, is_ended, has_spoken, is_tagged, verdict_of, asked_jobs, open_jobs}
-use Rattle.journal_model.specs.Legality.{count, said_version, offered_names, is_done}
+use Rattle.journal_model.specs.Journal.{any, is_started, is_ended, has_spoken, verdict_of, asked_jobs, open_jobs}
+use Rattle.journal_model.specs.Legality.{count, is_start, said_version, offered_names, is_done}
 use Rattle.annex_model.specs.Extensions.{names_of}
 use Rattle.host_core.specs.declared.event.Reply.{Reply}
 use Rattle.host_core.specs.declared.event.Reply.TheVariants.{Child}
@@ -17,17 +18,21 @@ use Rattle.host_core.specs.Steps.{is_gone, next_job, may_request}
 use Rattle.child_start.specs.declared.greeting.Mode.{Mode}
 use Rattle.child_start.specs.declared.greeting.Mode.TheVariants.{Serve, Init}
 use Rattle.child_start.specs.declared.greeting.Greeting.{Greeting}
-use Rattle.child_start.specs.declared.greeting.Greeting.TheVariants.{Ready, Refused as RefusedGreeting, Ended, Unsent, StartFault, NoMemory}
+use Rattle.child_start.specs.declared.greeting.Greeting.TheVariants.{Child as GreetedChild}
+use Rattle.child_start.specs.declared.greeting.Came.{Came}
 use Rattle.child_start.specs.declared.starting.RequestOutcome.{RequestOutcome}
 use Rattle.child_start.specs.declared.starting.RequestOutcome.TheVariants.{Done, Refused, Gone}
-use Rattle.child_start.specs.declared.starting.Came.{Came}
-use Rattle.child_start.specs.declared.starting.Came.TheVariants.{Prepared, Refused as RefusedToPrepare, Over, Mute}
-use Rattle.child_start.specs.Greetings.{is_of_greeting_for, is_refusal, loses, IsReadyFor, IsRefused, HasEnded, IsUnsent}
+use Rattle.child_start.specs.Greetings.{is_of_greeting_for, is_refusal, loses, CameTo, IsReadyFor, IsRefused}
 
 -- the child that the core numbers
 abbrev pub child_of : Reply → Option ℕ
 child_of (Child child) = Some child
 child_of _ = None
+
+-- the next child's start in that slot is noted; None where nothing is
+abbrev pub NotesStart : List Entry → List Entry → ℕ → Bool → Option ℕ → Type 0
+NotesStart old new slot offer None = new ≡ old
+NotesStart old new slot offer (Some c) = (c ≡ count is_start old + 1) × (new ≡ old ++ record { by = 0; what = Start c slot offer } ∷ [])
 
 -- a request of the greeting. It has no answer that says absent or unknown
 abbrev pub is_greeting : HostMessage → Bool
@@ -132,17 +137,12 @@ Prepares mode journal c Done = IsReadyFor mode journal c
 Prepares mode journal c (Refused verdict) = IsRefused journal c verdict
 Prepares mode journal c Gone = IsGoneUnready journal c
 
-abbrev pub GreetingComesTo : Mode → List Entry → ℕ → Came → Type 0
-GreetingComesTo mode journal c Prepared = IsReadyFor mode journal c
-GreetingComesTo mode journal c (RefusedToPrepare verdict) = IsRefused journal c verdict
-GreetingComesTo mode journal c (Over why) = HasEnded journal c why
-GreetingComesTo mode journal c Mute = IsUnsent journal c
+-- what the journal says of a greeting that came to this; None where the child is ready, with tags or without
+abbrev pub ComesTo : Mode → List Entry → ℕ → Option Came → Type 0
+ComesTo mode journal c None = IsReadyFor mode journal c
+ComesTo mode journal c (Some came) = CameTo mode journal c came
 
 -- what a greeting says of the child, which was started
 abbrev pub TellsOf : {I O S : Type 0} {sinks : SinkGhosts I} {sources : SourceGhosts O} → Mode → List Entry → ℕ → Greeting I O S sinks sources → Type 0
-TellsOf mode new c (Ready link stub tagged) = (link.ear.child ≡ c) × IsReadyFor mode new c × (tagged ≡ is_tagged new c)
-TellsOf mode new c (RefusedGreeting verdict link stub) = (link.ear.child ≡ c) × IsRefused new c verdict
-TellsOf mode new c (Ended why link stub) = (link.ear.child ≡ c) × HasEnded new c why
-TellsOf mode new c (Unsent link stub) = (link.ear.child ≡ c) × IsUnsent new c
-TellsOf mode new c StartFault = ⊥
-TellsOf mode new c NoMemory = ⊥
+TellsOf mode new c (GreetedChild link stub came) = (link.ear.child ≡ c) × CameTo mode new c came
+TellsOf mode new c greeting = ⊥

@@ -5,5 +5,5 @@ mod greeting;
 pub mod laws;
 mod starting;
 
-pub use greeting::{Greeting, Mode};
+pub use greeting::{Came, Greeting, Mode};
 pub use starting::{greet, wait_for};

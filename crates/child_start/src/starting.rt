@@ -1,6 +1,6 @@
-ghost use Rattle.std.specs.Prelude.{◌≡◌, ◌≤◌, ◌<◌, ◌+◌, ◌++◌, ◌∷◌, [], false, true, MatchOption, MatchResult};
+ghost use Rattle.std.specs.Prelude.{◌≡◌, ◌≤◌, ◌<◌, ◌++◌, ◌∷◌, [], false, true, MatchResult};
 ghost use Rattle.ann_outside.specs.Causes.{Rose, Stays};
-ghost use Rattle.journal_model.specs.declared.entry.What.TheVariants.{Start, NoStart};
+ghost use Rattle.journal_model.specs.declared.entry.What.TheVariants.{NoStart};
 ghost use Rattle.journal_model.specs.Legality.{Legal, count, is_start};
 ghost use Rattle.link_roles.specs.Writings.{LoneWired};
 ghost use Rattle.talk_serial.specs.Requests.{message_of};
@@ -8,14 +8,14 @@ ghost use Rattle.link_roles.specs.Alone.{KeepsLink};
 ghost use Rattle.link_roles.specs.Doors.{IsSameDoor};
 ghost use Rattle.child_start.specs.Cores.{IsSameCore};
 ghost use Rattle.child_start.specs.declared.greeting.Mode.{Mode};
-ghost use Rattle.child_start.specs.Greetings.{TellsFor, IfHasLink, StartsOnce, AreNumbered};
-ghost use Rattle.child_start.specs.Stages.{asked_as, child_of, is_asked_for, last_request, HasBegun, IsMain, MayAsk, MayGreet, GreetsOn, AsksNext, Prepares, GreetingComesTo, TellsOf};
+ghost use Rattle.child_start.specs.Greetings.{CameTo, TellsFor, IfHasLink, StartsOnce, AreNumbered};
+ghost use Rattle.child_start.specs.Stages.{asked_as, child_of, is_asked_for, last_request, HasBegun, IsMain, MayAsk, MayGreet, GreetsOn, AsksNext, Prepares, ComesTo, NotesStart, TellsOf};
 
-use crate::greeting::{Greeting, Mode};
+use crate::greeting::{Came, Greeting, Mode};
 use ann_key::NoMemory;
 use ann_outside::{Programs, Sink, Source, StartError, Started};
 use host_core::{Core, Event, Reply};
-use journal_model::{Verdict, Why};
+use journal_model::Verdict;
 use link_roles::{Door, Lone, OwnDoor};
 use std::alloc::Global;
 use talk_serial::Request;
@@ -28,14 +28,6 @@ enum RequestOutcome {
     Refused(Verdict),
     // The child has ended or is mute.
     Gone,
-}
-
-// What a greeting comes to, without its link.
-enum Came {
-    Prepared,
-    Refused(Verdict),
-    Over(Why),
-    Mute,
 }
 
 fn asked_as(verdict: Verdict) -> RequestOutcome
@@ -103,30 +95,30 @@ fn ask_both<I: Sink, O: Source, D: Door>(
     ask_one(link, door, &last_request(mode))
 }
 
-// The whole greeting, from the child's first line on.
+// The whole greeting, from the child's first line on. None where the child did what it is prepared for.
 fn hear_and_ask<I: Sink, O: Source, D: Door>(
     link: &mut Lone<I, O>,
     door: &mut D,
     offer: bool,
     mode: Mode,
-) -> Came
+) -> Option<Came>
     requires main { IsMain (D.view door.old).number (D.view door.old).alone }
     requires legal { Legal (D.view door.old).opening (D.view door.old).seen }
     requires begun { HasBegun (D.view door.old).seen link.old.ear.child offer }
     ensures on { GreetsOn mode (D.view door.old).seen (D.view door.new).seen link.old.ear.child }
-    ensures comes { GreetingComesTo mode (D.view door.new).seen link.old.ear.child result }
+    ensures comes { ComesTo mode (D.view door.new).seen link.old.ear.child result }
     ensures link { KeepsLink (D.view door.old).seen (D.view door.new).seen link.old.ear link.new.ear link.old.mouth link.new.mouth }
     ensures door { IsSameDoor (D.view door.old) (D.view door.new) }
 {
     if let Some(why) = link.hear_version_alone(door) {
-        return Came::Over(why);
+        return Some(Came::Ended { why });
     }
     match ask_both(link, door, offer, mode) {
-        RequestOutcome::Done => Came::Prepared,
-        RequestOutcome::Refused(verdict) => Came::Refused(verdict),
+        RequestOutcome::Done => None,
+        RequestOutcome::Refused(verdict) => Some(Came::Refused { verdict }),
         RequestOutcome::Gone => match link.why_ended_alone(door) {
-            Some(why) => Came::Over(why),
-            None => Came::Mute,
+            Some(why) => Some(Came::Ended { why }),
+            None => Some(Came::Unsent),
         },
     }
 }
@@ -141,14 +133,20 @@ fn greet_link<I: Sink, O: Source>(
     requires legal { Legal core.old.opening core.old.journal }
     requires begun { HasBegun core.old.journal link.old.ear.child offer }
     ensures on { GreetsOn mode core.old.journal core.new.journal link.old.ear.child }
-    ensures comes { GreetingComesTo mode core.new.journal link.old.ear.child result }
+    ensures comes { CameTo mode core.new.journal link.old.ear.child result }
     ensures link { KeepsLink core.old.journal core.new.journal link.old.ear link.new.ear link.old.mouth link.new.mouth }
     ensures core { IsSameCore core.old core.new }
 {
     let mut door = OwnDoor { core };
-    let came = hear_and_ask(link, &mut door, offer, mode);
-    let OwnDoor { core: _ } = door;
-    came
+    let unready = hear_and_ask(link, &mut door, offer, mode);
+    let OwnDoor { core } = door;
+    match unready {
+        Some(came) => came,
+        None => {
+            let tagged = core.tagged(link.child());
+            Came::Ready { tagged }
+        }
+    }
 }
 
 // The greeting of a child that was started, with its link and its stub.
@@ -167,19 +165,8 @@ fn greet_child<I: Sink, O: Source, S>(
     ensures core { IsSameCore core.old core.new }
 {
     let mut link = link;
-    match greet_link(&mut link, core, offer, mode) {
-        Came::Prepared => {
-            let tagged = core.tagged(link.child());
-            Greeting::Ready { link, stub, tagged }
-        }
-        Came::Refused(verdict) => Greeting::Refused {
-            verdict,
-            link,
-            stub,
-        },
-        Came::Over(why) => Greeting::Ended { why, link, stub },
-        Came::Mute => Greeting::Unsent { link, stub },
-    }
+    let came = greet_link(&mut link, core, offer, mode);
+    Greeting::Child { link, stub, came }
 }
 
 fn child_of(reply: Reply) -> Option<u32>
@@ -194,7 +181,7 @@ fn child_of(reply: Reply) -> Option<u32>
 // Tells the core of a child that was started, and answers its number. None: out of memory.
 fn note_start(core: &mut Core, slot: u32, offer: bool) -> Option<u32>
     requires few { count is_start core.old.journal < 4294967295 }
-    ensures started { MatchOption result (core.new.journal ≡ core.old.journal) (λ child. (child ≡ count is_start core.old.journal + 1) × (core.new.journal ≡ core.old.journal ++ record { by = 0; what = Start child slot offer } ∷ [])) }
+    ensures started { NotesStart core.old.journal core.new.journal slot offer result }
     ensures opening { core.new.opening ≡ core.old.opening }
     ensures legal { Legal core.new.opening core.new.journal }
 {

@@ -1,6 +1,7 @@
 // Laws over the definitions, each the contract of a function with nothing to do.
 ghost use Rattle.std.specs.Prelude.{◌≡◌, [], ◌∷◌, Some, None, codes, true, false};
-ghost use Rattle.annex_model.specs.Messages.{UnsupportedRequest, Config, Configend, Cost, Availability, Infofield, Infovalue, Infoend, WhereisSuccess, WhereisFailure, ExportsupportedSuccess, ExportsupportedFailure, Listconfigs, Getcost, Getavailability, Getinfo, Exportsupported, Whereis};
+ghost use Rattle.annex_model.specs.Messages.{UnsupportedRequest, Config, Configend, Cost, Availability, Infofield, Infovalue, Infoend, WhereisSuccess, WhereisFailure};
+ghost use Rattle.annex_model.specs.Messages.{ExportsupportedSuccess, ExportsupportedFailure, Listconfigs, Getcost, Getavailability, Getinfo, Exportsupported, Whereis};
 ghost use Rattle.info_run.specs.Infos.{lines_of, child_lines, is_informed, info_lines};
 ghost use Rattle.info_run.specs.Rows.{foul_cost, ended_early, lost_cost, answered, not_started};
 

@@ -13,6 +13,7 @@ use Rattle.host_core.specs.Steps.{asking, group_of, is_gone, next_job}
 use Rattle.journal_model.specs.Shares.{are_by, by_link, is_by_line}
 use Rattle.journal_model.specs.Halves.{EarValue, MouthValue, LinkWired, IsSameEar, IsSameMouth}
 use Rattle.link_roles.specs.Asks.{lost_as, IsHeardOut}
+use Rattle.link_roles.specs.Doors.{DoorView}
 use Rattle.link_roles.specs.Writings.{is_written_first, LoneWired}
 
 -- the journal has grown by entries of c's link alone, made by this number
@@ -43,6 +44,10 @@ pub record IsLost (o : Opening) (old new : List Entry) (by c t : ℕ) (verdict :
 
 abbrev pub AskedAlone : Opening → List Entry → List Entry → ℕ → ℕ → ℕ → Option (List ℕ) → HostMessage → Verdict → Type 0
 AskedAlone o old new by c t name q verdict = IsSettled o old new by c t name q verdict ⊎ IsLost o old new by c t verdict
+
+-- the same of a door, by its views before and after
+abbrev pub AsksAlone : {H : Type 0} → DoorView H → DoorView H → ℕ → ℕ → Option (List ℕ) → HostMessage → Verdict → Type 0
+AsksAlone old new c t name q verdict = AskedAlone old.opening old.seen new.seen old.number c t name q verdict
 
 -- both halves stay those of the child and of its start, and stay wired, and requests stay written before they are answered
 pub record KeepsLink (old new : List Entry) (ear ear' : EarValue) (mouth mouth' : MouthValue) : Type 0 where

@@ -60,6 +60,10 @@ pub record IsHeardOut (c job : ℕ) (verdict : Verdict) (journal : List Entry) :
 abbrev pub HeardOut : ℕ → ℕ → List Entry → Type 0
 HeardOut c job journal = (v : Verdict) → verdict_of journal c job ≡ Some v → is_by_line v ≡ true → IsHeardOut c job v journal
 
+-- what asking came to, for a link that hears out what it asks
+abbrev pub HasHeardOut : Opening → ℕ → Bool → List Entry → List Entry → ℕ → ℕ → Option (List ℕ) → HostMessage → Verdict → Type 0
+HasHeardOut o number alone old new c t name q verdict = HasAsked o number alone (by_link c) old new c t name q (λ job. HeardOut c job new) verdict
+
 -- no line has given the job's verdict
 abbrev pub IsUnheard : ℕ → ℕ → List Entry → Type 0
 IsUnheard c job journal = (v : Verdict) → verdict_of journal c job ≡ Some v → is_by_line v ≡ false
@@ -71,6 +75,14 @@ IsWritten c journal = (unsent journal c ≡ []) ⊎ (is_gone journal c ≡ true)
 -- what a link did, where others left its child alone
 abbrev pub HeardMoved : ℕ → Bool → List Entry → List Entry → ℕ → ℕ → Type 0 → Type 0
 HeardMoved number alone old new c job Before = Moved number alone (by_link c) (is_of_child c) old new Before (HeardOut c job new)
+
+-- the same, where what was heard before was heard out
+abbrev pub HeardOn : ℕ → Bool → List Entry → List Entry → ℕ → ℕ → Type 0
+HeardOn number alone old new c job = HeardMoved number alone old new c job (HeardOut c job old)
+
+-- the same, where nothing is to be written and no line has given the job's verdict
+abbrev pub HeardNext : ℕ → Bool → List Entry → List Entry → ℕ → ℕ → Type 0
+HeardNext number alone old new c job = HeardMoved number alone old new c job (IsWritten c old × IsUnheard c job old)
 
 -- a job that stands as settled is settled so
 abbrev pub IsSettling : List Entry → ℕ → ℕ → Settling → Type 0

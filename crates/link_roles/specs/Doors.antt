@@ -100,3 +100,7 @@ pub record IsSameDoor {H : Type 0} (old new : DoorView H) : Type 0 where
 -- what holds of a door between two calls, by what the run began with, its number, whether it is alone, and what it has seen before and after
 abbrev pub Between : {H : Type 0} {A : Type 1} → (Opening → ℕ → Bool → List Entry → List Entry → A) → DoorView H → DoorView H → A
 Between R old new = R old.opening old.number old.alone old.seen new.seen
+
+-- the same for relations that don't ask what the run began with
+abbrev pub During : {H : Type 0} {A : Type 1} → (ℕ → Bool → List Entry → List Entry → A) → DoorView H → DoorView H → A
+During R old new = R old.number old.alone old.seen new.seen

@@ -1,10 +1,16 @@
 -- What one read of a child's output does to an ear.
 use Rattle.std.specs.Prelude.{ℕ, ◌≡◌, ◌<◌, ◌≤◌, ◌++◌, length, Bool, true, false, List, Option, None}
 use Rattle.std.specs.Io.KnownBytes.{Appends}
+use Rattle.ann_outside.specs.Told.{SourceTold}
 use Rattle.wire_line.specs.HeldBytes.{TakesPiece}
 use Rattle.link_roles.specs.declared.ear.Fill.{Fill}
 use Rattle.link_roles.specs.declared.ear.Fill.TheVariants.{Got, End, Fault, NoRoom}
 use Rattle.journal_model.specs.Halves.{EarValue}
+
+-- the child, what its outlet tells, and what is held of it
+abbrev pub ear_value : ℕ → SourceTold → List ℕ → EarValue
+ear_value child outlet held =
+    record { child = child; given = outlet.given; left = outlet.left; faults = outlet.faults; number = outlet.number; held = held }
 
 abbrev pub is_got : Fill → Bool
 is_got Got = true

@@ -1,6 +1,7 @@
 -- Whether what was asked of a child was written to it before a line answered, and what one turn of a mouth does.
 use Rattle.std.specs.Prelude.{ℕ, ◌≡◌, ◌⊎◌, ◌<◌, ◌==◌, ◌&&◌, ◌||◌, not, Bool, true, false, List, [], ◌∷◌, ◌++◌, take, Option}
 use Rattle.std.specs.Io.KnownBytes.{Appends}
+use Rattle.ann_outside.specs.Told.{SinkTold}
 use Rattle.journal_model.specs.declared.verdict.Why.TheVariants.{Memory}
 use Rattle.journal_model.specs.declared.entry.What.{What}
 use Rattle.journal_model.specs.declared.entry.What.TheVariants.{Verdict as Settled}
@@ -43,8 +44,8 @@ pub record LoneWired (journal : List Entry) (e : EarValue) (m : MouthValue) : Ty
 -- ---- one turn
 
 -- the child, and what its inlet tells
-abbrev pub mouth_value : ℕ → Option (List ℕ) → ℕ → Option ℕ → MouthValue
-mouth_value child taken faults number = record { child = child; taken = taken; faults = faults; number = number }
+abbrev pub mouth_value : ℕ → SinkTold → MouthValue
+mouth_value child inlet = record { child = child; taken = inlet.taken; faults = inlet.faults; number = inlet.number }
 
 -- the line was written whole and noted so; or a write failed, and the child was noted as mute
 abbrev pub IsWriting : Opening → ℕ → Bool → List Entry → List Entry → MouthValue → MouthValue → List ℕ → Type 0

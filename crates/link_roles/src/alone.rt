@@ -7,7 +7,7 @@ ghost use Rattle.journal_model.specs.Projection.{IsNamed};
 ghost use Rattle.host_core.specs.Steps.{is_named_well, may_request};
 ghost use Rattle.talk_serial.specs.Requests.{message_of, name_of};
 ghost use Rattle.link_roles.specs.Doors.{IsSameDoor};
-ghost use Rattle.link_roles.specs.Alone.{GoesOn, Closes, AskedAlone, HearsLink, KeepsLink};
+ghost use Rattle.link_roles.specs.Alone.{GoesOn, Closes, AsksAlone, HearsLink, KeepsLink};
 
 use crate::door::Door;
 use crate::events;
@@ -30,7 +30,7 @@ impl<I: Sink, O: Source> Lone<I, O> {
         requires legal { Legal (D.view door.old).opening (D.view door.old).seen }
         requires may { may_request (D.view door.old).seen (D.view door.old).number task self.old.ear.child (message_of request.now) ≡ true }
         requires named { is_named_well (name_of request.now) ≡ true }
-        ensures asked { IfOk result (AskedAlone (D.view door.old).opening (D.view door.old).seen (D.view door.new).seen (D.view door.old).number self.old.ear.child task (name_of request.now) (message_of request.now)) }
+        ensures asked { IfOk result (AsksAlone (D.view door.old) (D.view door.new) self.old.ear.child task (name_of request.now) (message_of request.now)) }
         ensures named { IfOk result (IsNamed (message_of request.now)) }
         ensures none { OnErr result ((D.view door.new).seen ≡ (D.view door.old).seen) }
         ensures link { KeepsLink (D.view door.old).seen (D.view door.new).seen self.old.ear self.new.ear self.old.mouth self.new.mouth }

@@ -5,15 +5,14 @@ ghost use Rattle.host_core.specs.declared.event.Event.TheVariants.{Listen};
 ghost use Rattle.host_core.specs.declared.event.Reply.TheVariants.{Wait, Over};
 ghost use Rattle.journal_model.specs.Journal.{is_started, is_ended, has_spoken};
 ghost use Rattle.journal_model.specs.Limits.{longest_line};
-ghost use Rattle.journal_model.specs.Wires.{RestFits, may_hear, is_heard_in_turn};
+ghost use Rattle.journal_model.specs.Wires.{RestFits, may_hear};
 ghost use Rattle.wire_line.specs.HeldBytes.{has_line, first_line, TakesLine};
-ghost use Rattle.link_roles.specs.Doors.{Between, IsSameDoor};
-ghost use Rattle.journal_model.specs.Shares.{Moved, by_ear, is_heard, is_of_child};
+ghost use Rattle.link_roles.specs.Doors.{Between, During, IsSameDoor};
 ghost use Rattle.journal_model.specs.Halves.{EarWired, IsSameEar};
 ghost use Rattle.link_roles.specs.Firsts.{IsFirst};
-ghost use Rattle.link_roles.specs.Fills.{Fills, ReadsOn, is_got, GrowsBy};
+ghost use Rattle.link_roles.specs.Fills.{Fills, ReadsOn, ear_value, is_got, GrowsBy};
 ghost use Rattle.link_roles.specs.Hearings.{IsLong, by_long, IsFeeding, IsHearing, IsNextFed, IsAllFed, IsTurned};
-ghost use Rattle.link_roles.specs.Moves.{EarMoved, TurnMoved};
+ghost use Rattle.link_roles.specs.Moves.{EarMoved, FeedMoved, TurnMoved};
 ghost use Rattle.link_roles.specs.Asks.{Grows};
 ghost use Rattle.link_roles.specs.Events.{Says};
 
@@ -45,10 +44,11 @@ impl<O: Source> Model for Ear<O> {
     ghost use Rattle.std.specs.Prelude.{◌≡◌, true};
     ghost use Rattle.journal_model.specs.Limits.{longest_line};
     ghost use Rattle.journal_model.specs.Halves.{EarValue};
+    ghost use Rattle.link_roles.specs.Fills.{ear_value};
 
     ghost Value = { EarValue };
 
-    ghost view = { λ s. record { child = s.child; given = (O.told s.outlet).given; left = (O.told s.outlet).left; faults = (O.told s.outlet).faults; number = (O.told s.outlet).number; held = s.splitter.bytes } };
+    ghost view = { λ s. ear_value s.child (O.told s.outlet) s.splitter.bytes };
 
     ghost invariant = { λ s. ((O.told s.outlet).is_open ≡ true) × (s.splitter.limit ≡ longest_line) };
 }
@@ -96,7 +96,7 @@ impl<O: Source> Ear<O> {
     /// An ear that has read nothing. It takes no memory.
     pub fn new(alloc: Global, child: u32, outlet: O) -> Ear<O>
         requires { (O.told outlet).is_open ≡ true }
-        ensures { result ≡ record { child = child; given = (O.told outlet).given; left = (O.told outlet).left; faults = (O.told outlet).faults; number = (O.told outlet).number; held = [] } }
+        ensures { result ≡ ear_value child (O.told outlet) [] }
     {
         Ear {
             alloc,
@@ -177,8 +177,8 @@ impl<O: Source> Ear<O> {
     fn feed<D: Door>(&mut self, door: &mut D, line: Bytes) -> bool
         requires started { is_started (D.view door.old).seen self.old.child ≡ true }
         requires line { IsTrue (has_line longest_line self.old.held) × (line ≡ first_line self.old.held) }
-        ensures moved { EarMoved (D.view door.old).number (D.view door.old).alone (D.view door.old).seen (D.view door.new).seen self.old self.new }
-        ensures turned { Moved (D.view door.old).number (D.view door.old).alone (by_ear self.old.child) (is_of_child self.old.child) (D.view door.old).seen (D.view door.new).seen ((may_hear (D.view door.old).seen self.old.child ≡ true) × (is_heard_in_turn (D.view door.old).seen self.old.child ≡ true)) (is_heard_in_turn (D.view door.new).seen self.old.child ≡ true) }
+        ensures moved { During EarMoved (D.view door.old) (D.view door.new) self.old self.new }
+        ensures turned { During FeedMoved (D.view door.old) (D.view door.new) self.old.child }
         ensures same { IsSameEar self.old self.new }
         ensures over { IsFalse result → is_ended (D.view door.new).seen self.old.child ≡ true }
         ensures came { Between IsFeeding (D.view door.old) (D.view door.new) self.old self.new result }
@@ -203,8 +203,8 @@ impl<O: Source> Ear<O> {
         requires started { is_started (D.view door.old).seen self.old.child ≡ true }
         requires live { is_ended (D.view door.old).seen self.old.child ≡ false }
         requires more { IsTrue (not (has_line longest_line self.old.held)) × (length self.old.held ≤ longest_line) }
-        ensures moved { EarMoved (D.view door.old).number (D.view door.old).alone (D.view door.old).seen (D.view door.new).seen self.old self.new }
-        ensures turned { TurnMoved (D.view door.old).number (D.view door.old).alone (D.view door.old).seen (D.view door.new).seen self.old.child }
+        ensures moved { During EarMoved (D.view door.old) (D.view door.new) self.old self.new }
+        ensures turned { During TurnMoved (D.view door.old) (D.view door.new) self.old.child }
         ensures same { IsSameEar self.old self.new }
         ensures heard { Between IsHearing (D.view door.old) (D.view door.new) self.old self.new result }
         ensures over { result ≡ Heard.Over → is_ended (D.view door.new).seen self.old.child ≡ true }
@@ -225,8 +225,8 @@ impl<O: Source> Ear<O> {
         requires started { is_started (D.view door.old).seen self.old.child ≡ true }
         requires live { is_ended (D.view door.old).seen self.old.child ≡ false }
         requires turn { may_hear (D.view door.old).seen self.old.child ≡ true }
-        ensures moved { EarMoved (D.view door.old).number (D.view door.old).alone (D.view door.old).seen (D.view door.new).seen self.old self.new }
-        ensures turned { TurnMoved (D.view door.old).number (D.view door.old).alone (D.view door.old).seen (D.view door.new).seen self.old.child }
+        ensures moved { During EarMoved (D.view door.old) (D.view door.new) self.old self.new }
+        ensures turned { During TurnMoved (D.view door.old) (D.view door.new) self.old.child }
         ensures same { IsSameEar self.old self.new }
         ensures heard { Between IsHearing (D.view door.old) (D.view door.new) self.old self.new result }
         ensures over { result ≡ Heard.Over → is_ended (D.view door.new).seen self.old.child ≡ true }
@@ -258,7 +258,7 @@ impl<O: Source> Ear<O> {
     fn feed_next<D: Door>(&mut self, door: &mut D) -> bool
         requires started { is_started (D.view door.old).seen self.old.child ≡ true }
         ensures next { IsNextFed self.old self.new (D.view door.new).seen result }
-        ensures moved { EarMoved (D.view door.old).number (D.view door.old).alone (D.view door.old).seen (D.view door.new).seen self.old self.new }
+        ensures moved { During EarMoved (D.view door.old) (D.view door.new) self.old self.new }
         ensures same { IsSameEar self.old self.new }
         ensures door { IsSameDoor (D.view door.old) (D.view door.new) }
     {
@@ -278,7 +278,7 @@ impl<O: Source> Ear<O> {
     fn feed_all<D: Door>(&mut self, door: &mut D)
         requires started { is_started (D.view door.old).seen self.old.child ≡ true }
         ensures all { IsAllFed self.old self.new (D.view door.new).seen }
-        ensures moved { EarMoved (D.view door.old).number (D.view door.old).alone (D.view door.old).seen (D.view door.new).seen self.old self.new }
+        ensures moved { During EarMoved (D.view door.old) (D.view door.new) self.old self.new }
         ensures same { IsSameEar self.old self.new }
         ensures door { IsSameDoor (D.view door.old) (D.view door.new) }
     {
@@ -289,7 +289,7 @@ impl<O: Source> Ear<O> {
     /// there is no memory, or the child is at its end, the child ends.
     pub fn turn<D: Door>(&mut self, door: &mut D) -> Turn
         requires started { is_started (D.view door.old).seen self.old.child ≡ true }
-        ensures moved { EarMoved (D.view door.old).number (D.view door.old).alone (D.view door.old).seen (D.view door.new).seen self.old self.new }
+        ensures moved { During EarMoved (D.view door.old) (D.view door.new) self.old self.new }
         ensures same { IsSameEar self.old self.new }
         ensures turned { IsTurned self.old self.new (D.view door.new).seen result }
         ensures long { IsLong self.old.held → Grows (D.view door.old).number (D.view door.old).alone (by_long self.old.child) (D.view door.old).seen (D.view door.new).seen }
@@ -310,7 +310,7 @@ impl<O: Source> Ear<O> {
         requires started { is_started (D.view door.old).seen self.old.child ≡ true }
         requires live { is_ended (D.view door.old).seen self.old.child ≡ false }
         requires turn { may_hear (D.view door.old).seen self.old.child ≡ true }
-        ensures moved { EarMoved (D.view door.old).number (D.view door.old).alone (D.view door.old).seen (D.view door.new).seen self.old self.new }
+        ensures moved { During EarMoved (D.view door.old) (D.view door.new) self.old self.new }
         ensures same { IsSameEar self.old self.new }
         ensures turned { IsTurned self.old self.new (D.view door.new).seen result }
         ensures long { IsLong self.old.held → Grows (D.view door.old).number (D.view door.old).alone (by_long self.old.child) (D.view door.old).seen (D.view door.new).seen }
@@ -331,7 +331,7 @@ impl<O: Source> Ear<O> {
     // One turn, and a rest where there is nothing to do.
     fn go_on<D: Door>(&mut self, door: &mut D) -> bool
         requires started { is_started (D.view door.old).seen self.old.child ≡ true }
-        ensures moved { EarMoved (D.view door.old).number (D.view door.old).alone (D.view door.old).seen (D.view door.new).seen self.old self.new }
+        ensures moved { During EarMoved (D.view door.old) (D.view door.new) self.old self.new }
         ensures same { IsSameEar self.old self.new }
         ensures over { IsFalse result → Says (D.view door.old).opening (D.view door.old).number (D.view door.new).seen (Listen self.old.child) Over }
         ensures door { IsSameDoor (D.view door.old) (D.view door.new) }
@@ -349,7 +349,7 @@ impl<O: Source> Ear<O> {
     /// Turns until there is nothing more to do.
     pub fn run<D: Door>(&mut self, door: &mut D)
         requires started { is_started (D.view door.old).seen self.old.child ≡ true }
-        ensures moved { EarMoved (D.view door.old).number (D.view door.old).alone (D.view door.old).seen (D.view door.new).seen self.old self.new }
+        ensures moved { During EarMoved (D.view door.old) (D.view door.new) self.old self.new }
         ensures same { IsSameEar self.old self.new }
         ensures over { Says (D.view door.old).opening (D.view door.old).number (D.view door.new).seen (Listen self.old.child) Over }
         ensures door { IsSameDoor (D.view door.old) (D.view door.new) }

@@ -7,7 +7,7 @@ ghost use Rattle.journal_model.specs.declared.verdict.Why.TheVariants.{Closed};
 ghost use Rattle.link_roles.specs.Alone.{Closes};
 ghost use Rattle.host_core.specs.Steps.{is_asked, takes_no_memory};
 ghost use Rattle.talk_serial.specs.Requests.{message_of, name_of};
-ghost use Rattle.link_roles.specs.Doors.{Between, Stepped, Made, Passed, Ends, Sends, Mutes, Takes, IsSameDoor};
+ghost use Rattle.link_roles.specs.Doors.{Between, During, Stepped, Made, Passed, Ends, Sends, Mutes, Takes, IsSameDoor};
 ghost use Rattle.link_roles.specs.Replies.{gone_why, is_done, settled_as, fetched_of, asked_of, listening_of};
 ghost use Rattle.link_roles.specs.Events.{IsListening, IsFetched, IsAsked, can_end};
 
@@ -126,7 +126,7 @@ fn asked_of(reply: Reply) -> Asked
 pub fn listen<D: Door>(door: &mut D, child: u32) -> Listening
     requires started { is_started (D.view door.old).seen child ≡ true }
     ensures listening { IsListening (D.view door.old).opening (D.view door.old).number (D.view door.new).seen child result }
-    ensures passed { Passed (D.view door.old).number (D.view door.old).alone (D.view door.old).seen (D.view door.new).seen }
+    ensures passed { During Passed (D.view door.old) (D.view door.new) }
     ensures door { IsSameDoor (D.view door.old) (D.view door.new) }
 {
     listening_of(make(door, Event::Listen { child }))
@@ -136,7 +136,7 @@ pub fn listen<D: Door>(door: &mut D, child: u32) -> Listening
 pub fn why_ended<D: Door>(door: &mut D, child: u32) -> Option<Why>
     requires started { is_started (D.view door.old).seen child ≡ true }
     ensures why { result ≡ why_of (D.view door.new).seen child }
-    ensures passed { Passed (D.view door.old).number (D.view door.old).alone (D.view door.old).seen (D.view door.new).seen }
+    ensures passed { During Passed (D.view door.old) (D.view door.new) }
     ensures door { IsSameDoor (D.view door.old) (D.view door.new) }
 {
     gone_why(make(door, Event::Look { child }))
@@ -146,7 +146,7 @@ pub fn why_ended<D: Door>(door: &mut D, child: u32) -> Option<Why>
 pub fn verdict<D: Door>(door: &mut D, child: u32, job: u64) -> Option<Verdict>
     requires asked { is_asked (D.view door.old).seen child job ≡ true }
     ensures verdict { result ≡ verdict_of (D.view door.new).seen child job }
-    ensures passed { Passed (D.view door.old).number (D.view door.old).alone (D.view door.old).seen (D.view door.new).seen }
+    ensures passed { During Passed (D.view door.old) (D.view door.new) }
     ensures door { IsSameDoor (D.view door.old) (D.view door.new) }
 {
     settled_as(make(door, Event::Lookup { child, job }))
@@ -156,7 +156,7 @@ pub fn verdict<D: Door>(door: &mut D, child: u32, job: u64) -> Option<Verdict>
 pub fn fetch<D: Door>(door: &mut D, child: u32) -> Result<Fetched, NoMemory>
     requires started { is_started (D.view door.old).seen child ≡ true }
     ensures line { IfOk result (IsFetched (D.view door.old).opening (D.view door.old).number (D.view door.new).seen child) }
-    ensures passed { Passed (D.view door.old).number (D.view door.old).alone (D.view door.old).seen (D.view door.new).seen }
+    ensures passed { During Passed (D.view door.old) (D.view door.new) }
     ensures door { IsSameDoor (D.view door.old) (D.view door.new) }
 {
     match step(door, Event::Fetch { child }) {
@@ -170,7 +170,7 @@ pub fn got<D: Door>(door: &mut D, child: u32, line: Bytes) -> Result<bool, NoMem
     requires started { is_started (D.view door.old).seen child ≡ true }
     requires line { has_newline line ≡ false }
     ensures ok { IfOk result (Between Takes (D.view door.old) (D.view door.new) child line) }
-    ensures err { OnErr result (Passed (D.view door.old).number (D.view door.old).alone (D.view door.old).seen (D.view door.new).seen) }
+    ensures err { OnErr result (During Passed (D.view door.old) (D.view door.new)) }
     ensures door { IsSameDoor (D.view door.old) (D.view door.new) }
 {
     match step(door, Event::Got { child, line }) {
@@ -232,7 +232,7 @@ pub fn ask<D: Door>(
     request: Request,
 ) -> Result<Asked, NoMemory>
     ensures asked { IfOk result (Between IsAsked (D.view door.old) (D.view door.new) child task (name_of request) (message_of request)) }
-    ensures err { OnErr result (Passed (D.view door.old).number (D.view door.old).alone (D.view door.old).seen (D.view door.new).seen) }
+    ensures err { OnErr result (During Passed (D.view door.old) (D.view door.new)) }
     ensures door { IsSameDoor (D.view door.old) (D.view door.new) }
 {
     match step(

@@ -5,13 +5,13 @@ ghost use Rattle.journal_model.specs.Legality.{Legal, said_version};
 ghost use Rattle.journal_model.specs.Projection.{IsNamed};
 ghost use Rattle.host_core.specs.Steps.{is_asked, is_named_well, may_request};
 ghost use Rattle.talk_serial.specs.Requests.{message_of, name_of};
-ghost use Rattle.link_roles.specs.Doors.{Between, IsSameDoor, Passed, Ends};
+ghost use Rattle.link_roles.specs.Doors.{Between, During, IsSameDoor, Passed, Ends};
 ghost use Rattle.journal_model.specs.declared.verdict.Why.TheVariants.{Memory};
-ghost use Rattle.journal_model.specs.Shares.{Moved, by_link, by_asker, is_of_child};
-ghost use Rattle.link_roles.specs.Asks.{HasAsked, HeardOut, HeardMoved, IsWritten, IsUnheard, IsSettling, HasBegun};
-ghost use Rattle.link_roles.specs.Moves.{LinkMoved, LoneMoved, LoneHears, IsSameLink};
+ghost use Rattle.link_roles.specs.Asks.{HasHeardOut, HeardNext, HeardOn, IsSettling, HasBegun};
+ghost use Rattle.link_roles.specs.Moves.{AskMoved, LinkMoved, LoneMoved, LoneHears, IsSameLink};
 ghost use Rattle.link_roles.specs.Wires.{IsLeft};
-ghost use Rattle.link_roles.specs.Writings.{LoneWired};
+ghost use Rattle.link_roles.specs.Fills.{ear_value};
+ghost use Rattle.link_roles.specs.Writings.{mouth_value};
 
 use crate::door::Door;
 use crate::ear::{Ear, Heard, Turn};
@@ -62,8 +62,8 @@ impl<I: Sink, O: Source> Lone<I, O> {
     pub fn new(alloc: Global, child: u32, inlet: I, outlet: O) -> Lone<I, O>
         requires inlet { (I.told inlet).is_open ≡ true }
         requires outlet { (O.told outlet).is_open ≡ true }
-        ensures ear { result.ear ≡ record { child = child; given = (O.told outlet).given; left = (O.told outlet).left; faults = (O.told outlet).faults; number = (O.told outlet).number; held = [] } }
-        ensures mouth { result.mouth ≡ record { child = child; taken = (I.told inlet).taken; faults = (I.told inlet).faults; number = (I.told inlet).number } }
+        ensures ear { result.ear ≡ ear_value child (O.told outlet) [] }
+        ensures mouth { result.mouth ≡ mouth_value child (I.told inlet) }
     {
         Lone {
             ear: Ear::new(alloc, child, outlet),
@@ -92,7 +92,7 @@ impl<I: Sink, O: Source> Lone<I, O> {
     pub fn why_ended<D: Door>(&self, door: &mut D) -> Option<Why>
         requires started { is_started (D.view door.old).seen self.now.ear.child ≡ true }
         ensures why { result ≡ why_of (D.view door.new).seen self.now.ear.child }
-        ensures passed { Passed (D.view door.old).number (D.view door.old).alone (D.view door.old).seen (D.view door.new).seen }
+        ensures passed { During Passed (D.view door.old) (D.view door.new) }
         ensures door { IsSameDoor (D.view door.old) (D.view door.new) }
     {
         events::why_ended(door, self.child())
@@ -110,7 +110,7 @@ impl<I: Sink, O: Source> Lone<I, O> {
     // Feeds one line or reads once. True where the child has said a line or has ended.
     fn hear_first<D: Door>(&mut self, door: &mut D) -> bool
         requires started { is_started (D.view door.old).seen self.old.ear.child ≡ true }
-        ensures moved { LinkMoved (D.view door.old).number (D.view door.old).alone (D.view door.old).seen (D.view door.new).seen self.old.ear self.new.ear self.old.mouth self.new.mouth }
+        ensures moved { During LinkMoved (D.view door.old) (D.view door.new) self.old.ear self.new.ear self.old.mouth self.new.mouth }
         ensures same { IsSameLink self.old.ear self.new.ear self.old.mouth self.new.mouth }
         ensures begun { IsTrue result → HasBegun (D.view door.new).seen self.old.ear.child }
         ensures door { IsSameDoor (D.view door.old) (D.view door.new) }
@@ -130,7 +130,7 @@ impl<I: Sink, O: Source> Lone<I, O> {
     // Reads until the child has said a line or has ended.
     fn hear_line<D: Door>(&mut self, door: &mut D)
         requires started { is_started (D.view door.old).seen self.old.ear.child ≡ true }
-        ensures moved { LinkMoved (D.view door.old).number (D.view door.old).alone (D.view door.old).seen (D.view door.new).seen self.old.ear self.new.ear self.old.mouth self.new.mouth }
+        ensures moved { During LinkMoved (D.view door.old) (D.view door.new) self.old.ear self.new.ear self.old.mouth self.new.mouth }
         ensures same { IsSameLink self.old.ear self.new.ear self.old.mouth self.new.mouth }
         ensures begun { HasBegun (D.view door.new).seen self.old.ear.child }
         ensures door { IsSameDoor (D.view door.old) (D.view door.new) }
@@ -150,7 +150,7 @@ impl<I: Sink, O: Source> Lone<I, O> {
         requires legal { Legal (D.view door.old).opening (D.view door.old).seen }
         ensures why { result ≡ why_of (D.view door.new).seen self.old.ear.child }
         ensures version { IfNone result (said_version (D.view door.new).seen self.old.ear.child ≡ true) }
-        ensures moved { LinkMoved (D.view door.old).number (D.view door.old).alone (D.view door.old).seen (D.view door.new).seen self.old.ear self.new.ear self.old.mouth self.new.mouth }
+        ensures moved { During LinkMoved (D.view door.old) (D.view door.new) self.old.ear self.new.ear self.old.mouth self.new.mouth }
         ensures same { IsSameLink self.old.ear self.new.ear self.old.mouth self.new.mouth }
         ensures door { IsSameDoor (D.view door.old) (D.view door.new) }
     {
@@ -162,7 +162,7 @@ impl<I: Sink, O: Source> Lone<I, O> {
     /// Ends a child that hasn't ended, for lack of memory.
     pub fn give_up<D: Door>(&mut self, door: &mut D)
         requires started { is_started (D.view door.old).seen self.old.ear.child ≡ true }
-        ensures moved { LinkMoved (D.view door.old).number (D.view door.old).alone (D.view door.old).seen (D.view door.new).seen self.old.ear self.new.ear self.old.mouth self.new.mouth }
+        ensures moved { During LinkMoved (D.view door.old) (D.view door.new) self.old.ear self.new.ear self.old.mouth self.new.mouth }
         ensures same { IsSameLink self.old.ear self.new.ear self.old.mouth self.new.mouth }
         ensures over { is_ended (D.view door.new).seen self.old.ear.child ≡ true }
         ensures ends { Between Ends (D.view door.old) (D.view door.new) self.old.ear.child Memory }
@@ -176,8 +176,8 @@ impl<I: Sink, O: Source> Lone<I, O> {
     fn look_up<D: Door>(&mut self, door: &mut D, job: u64) -> Option<Verdict>
         requires asked { is_asked (D.view door.old).seen self.old.ear.child job ≡ true }
         ensures verdict { result ≡ verdict_of (D.view door.new).seen self.old.ear.child job }
-        ensures passed { Passed (D.view door.old).number (D.view door.old).alone (D.view door.old).seen (D.view door.new).seen }
-        ensures moved { LoneMoved (D.view door.old).number (D.view door.old).alone (D.view door.old).seen (D.view door.new).seen self.old.ear self.new.ear self.old.mouth self.new.mouth }
+        ensures passed { During Passed (D.view door.old) (D.view door.new) }
+        ensures moved { During LoneMoved (D.view door.old) (D.view door.new) self.old.ear self.new.ear self.old.mouth self.new.mouth }
         ensures same { IsSameLink self.old.ear self.new.ear self.old.mouth self.new.mouth }
         ensures door { IsSameDoor (D.view door.old) (D.view door.new) }
     {
@@ -191,8 +191,8 @@ impl<I: Sink, O: Source> Lone<I, O> {
         requires asked { is_asked (D.view door.old).seen self.old.ear.child job ≡ true }
         requires legal { Legal (D.view door.old).opening (D.view door.old).seen }
         ensures settling { IsSettling (D.view door.new).seen self.old.ear.child job result }
-        ensures heard { HeardMoved (D.view door.old).number (D.view door.old).alone (D.view door.old).seen (D.view door.new).seen self.old.ear.child job (IsWritten self.old.ear.child (D.view door.old).seen × IsUnheard self.old.ear.child job (D.view door.old).seen) }
-        ensures moved { LoneHears (D.view door.old).number (D.view door.old).alone (D.view door.old).seen (D.view door.new).seen self.old.ear self.new.ear self.old.mouth self.new.mouth }
+        ensures heard { During HeardNext (D.view door.old) (D.view door.new) self.old.ear.child job }
+        ensures moved { During LoneHears (D.view door.old) (D.view door.new) self.old.ear self.new.ear self.old.mouth self.new.mouth }
         ensures same { IsSameLink self.old.ear self.new.ear self.old.mouth self.new.mouth }
         ensures door { IsSameDoor (D.view door.old) (D.view door.new) }
     {
@@ -215,8 +215,8 @@ impl<I: Sink, O: Source> Lone<I, O> {
         requires asked { is_asked (D.view door.old).seen self.old.ear.child job ≡ true }
         requires legal { Legal (D.view door.old).opening (D.view door.old).seen }
         ensures settling { IsSettling (D.view door.new).seen self.old.ear.child job result }
-        ensures heard { HeardMoved (D.view door.old).number (D.view door.old).alone (D.view door.old).seen (D.view door.new).seen self.old.ear.child job (HeardOut self.old.ear.child job (D.view door.old).seen) }
-        ensures moved { LoneMoved (D.view door.old).number (D.view door.old).alone (D.view door.old).seen (D.view door.new).seen self.old.ear self.new.ear self.old.mouth self.new.mouth }
+        ensures heard { During HeardOn (D.view door.old) (D.view door.new) self.old.ear.child job }
+        ensures moved { During LoneMoved (D.view door.old) (D.view door.new) self.old.ear self.new.ear self.old.mouth self.new.mouth }
         ensures same { IsSameLink self.old.ear self.new.ear self.old.mouth self.new.mouth }
         ensures door { IsSameDoor (D.view door.old) (D.view door.new) }
     {
@@ -235,8 +235,8 @@ impl<I: Sink, O: Source> Lone<I, O> {
         requires asked { is_asked (D.view door.old).seen self.old.ear.child job ≡ true }
         requires settled { verdict_of (D.view door.old).seen self.old.ear.child job ≢ None }
         ensures verdict { verdict_of (D.view door.new).seen self.old.ear.child job ≡ Some result }
-        ensures heard { HeardMoved (D.view door.old).number (D.view door.old).alone (D.view door.old).seen (D.view door.new).seen self.old.ear.child job (HeardOut self.old.ear.child job (D.view door.old).seen) }
-        ensures moved { LoneMoved (D.view door.old).number (D.view door.old).alone (D.view door.old).seen (D.view door.new).seen self.old.ear self.new.ear self.old.mouth self.new.mouth }
+        ensures heard { During HeardOn (D.view door.old) (D.view door.new) self.old.ear.child job }
+        ensures moved { During LoneMoved (D.view door.old) (D.view door.new) self.old.ear self.new.ear self.old.mouth self.new.mouth }
         ensures same { IsSameLink self.old.ear self.new.ear self.old.mouth self.new.mouth }
         ensures door { IsSameDoor (D.view door.old) (D.view door.new) }
     {
@@ -252,8 +252,8 @@ impl<I: Sink, O: Source> Lone<I, O> {
         requires asked { is_asked (D.view door.old).seen self.old.ear.child job ≡ true }
         requires legal { Legal (D.view door.old).opening (D.view door.old).seen }
         ensures verdict { verdict_of (D.view door.new).seen self.old.ear.child job ≡ Some result }
-        ensures heard { HeardMoved (D.view door.old).number (D.view door.old).alone (D.view door.old).seen (D.view door.new).seen self.old.ear.child job (HeardOut self.old.ear.child job (D.view door.old).seen) }
-        ensures moved { LoneMoved (D.view door.old).number (D.view door.old).alone (D.view door.old).seen (D.view door.new).seen self.old.ear self.new.ear self.old.mouth self.new.mouth }
+        ensures heard { During HeardOn (D.view door.old) (D.view door.new) self.old.ear.child job }
+        ensures moved { During LoneMoved (D.view door.old) (D.view door.new) self.old.ear self.new.ear self.old.mouth self.new.mouth }
         ensures same { IsSameLink self.old.ear self.new.ear self.old.mouth self.new.mouth }
         ensures door { IsSameDoor (D.view door.old) (D.view door.new) }
     {
@@ -271,8 +271,8 @@ impl<I: Sink, O: Source> Lone<I, O> {
         requires legal { Legal (D.view door.old).opening (D.view door.old).seen }
         ensures small { job < 2 ^ 64 }
         ensures verdict { verdict_of (D.view door.new).seen self.old.ear.child job ≡ Some result }
-        ensures heard { HeardMoved (D.view door.old).number (D.view door.old).alone (D.view door.old).seen (D.view door.new).seen self.old.ear.child job (HeardOut self.old.ear.child job (D.view door.old).seen) }
-        ensures moved { LoneMoved (D.view door.old).number (D.view door.old).alone (D.view door.old).seen (D.view door.new).seen self.old.ear self.new.ear self.old.mouth self.new.mouth }
+        ensures heard { During HeardOn (D.view door.old) (D.view door.new) self.old.ear.child job }
+        ensures moved { During LoneMoved (D.view door.old) (D.view door.new) self.old.ear self.new.ear self.old.mouth self.new.mouth }
         ensures same { IsSameLink self.old.ear self.new.ear self.old.mouth self.new.mouth }
         ensures door { IsSameDoor (D.view door.old) (D.view door.new) }
     {
@@ -298,10 +298,10 @@ impl<I: Sink, O: Source> Lone<I, O> {
         requires legal { Legal (D.view door.old).opening (D.view door.old).seen }
         requires may { (D.view door.old).alone ≡ true → may_request (D.view door.old).seen (D.view door.old).number task self.old.ear.child (message_of request.now) ≡ true }
         requires named { is_named_well (name_of request.now) ≡ true }
-        ensures asked { IfOk result (HasAsked (D.view door.old).opening (D.view door.old).number (D.view door.old).alone (by_link self.old.ear.child) (D.view door.old).seen (D.view door.new).seen self.old.ear.child task (name_of request.now) (message_of request.now) (λ job. HeardOut self.old.ear.child job (D.view door.new).seen)) }
+        ensures asked { IfOk result (Between HasHeardOut (D.view door.old) (D.view door.new) self.old.ear.child task (name_of request.now) (message_of request.now)) }
         ensures named { IfOk result (IsNamed (message_of request.now)) }
-        ensures none { OnErr result (Passed (D.view door.old).number (D.view door.old).alone (D.view door.old).seen (D.view door.new).seen) }
-        ensures moved { Moved (D.view door.old).number (D.view door.old).alone (by_asker self.old.ear.child) (is_of_child self.old.ear.child) (D.view door.old).seen (D.view door.new).seen (LoneWired (D.view door.old).seen self.old.ear self.old.mouth) (LoneWired (D.view door.new).seen self.new.ear self.new.mouth) }
+        ensures none { OnErr result (During Passed (D.view door.old) (D.view door.new)) }
+        ensures moved { During AskMoved (D.view door.old) (D.view door.new) self.old.ear self.new.ear self.old.mouth self.new.mouth }
         ensures same { IsSameLink self.old.ear self.new.ear self.old.mouth self.new.mouth }
         ensures door { IsSameDoor (D.view door.old) (D.view door.new) }
     {

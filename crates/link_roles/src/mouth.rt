@@ -5,7 +5,7 @@ ghost use Rattle.std.specs.Io.KnownBytes.{Appends};
 ghost use Rattle.host_core.specs.declared.event.Event.TheVariants.{Fetch};
 ghost use Rattle.host_core.specs.declared.event.Reply.TheVariants.{Wait, Over};
 ghost use Rattle.journal_model.specs.Journal.{is_started, is_ended};
-ghost use Rattle.link_roles.specs.Doors.{Between, Ends, IsSameDoor};
+ghost use Rattle.link_roles.specs.Doors.{Between, During, Ends, IsSameDoor};
 ghost use Rattle.journal_model.specs.Halves.{IsSameMouth};
 ghost use Rattle.link_roles.specs.Moves.{MouthMoved};
 ghost use Rattle.link_roles.specs.Events.{Says, IsNextLine};
@@ -38,9 +38,9 @@ fn send<I: Sink, D: Door>(inlet: &mut I, door: &mut D, child: u32, line: &Bytes)
     requires started { is_started (D.view door.old).seen child ≡ true }
     requires next { IsNextLine (D.view door.old).seen child line.now }
     ensures writing { Between IsWriting (D.view door.old) (D.view door.new)
-        (mouth_value child (I.told inlet.old).taken (I.told inlet.old).faults (I.told inlet.old).number) (mouth_value child (I.told inlet.new).taken (I.told inlet.new).faults (I.told inlet.new).number) line.now }
-    ensures moved { MouthMoved (D.view door.old).number (D.view door.old).alone (D.view door.old).seen (D.view door.new).seen
-        (mouth_value child (I.told inlet.old).taken (I.told inlet.old).faults (I.told inlet.old).number) (mouth_value child (I.told inlet.new).taken (I.told inlet.new).faults (I.told inlet.new).number) }
+        (mouth_value child (I.told inlet.old)) (mouth_value child (I.told inlet.new)) line.now }
+    ensures moved { During MouthMoved (D.view door.old) (D.view door.new)
+        (mouth_value child (I.told inlet.old)) (mouth_value child (I.told inlet.new)) }
     ensures open { (I.told inlet.new).is_open ≡ true }
     ensures number { (I.told inlet.new).number ≡ (I.told inlet.old).number }
     ensures door { IsSameDoor (D.view door.old) (D.view door.new) }
@@ -58,7 +58,7 @@ fn end_child<I: Sink, D: Door>(inlet: &mut I, door: &mut D, child: u32)
     requires open { (I.told inlet.old).is_open ≡ true }
     requires started { is_started (D.view door.old).seen child ≡ true }
     ensures closed { (I.told inlet.new).is_open ≡ false }
-    ensures same { mouth_value child (I.told inlet.new).taken (I.told inlet.new).faults (I.told inlet.new).number ≡ mouth_value child (I.told inlet.old).taken (I.told inlet.old).faults (I.told inlet.old).number }
+    ensures same { mouth_value child (I.told inlet.new) ≡ mouth_value child (I.told inlet.old) }
     ensures ends { Between Ends (D.view door.old) (D.view door.new) child Memory }
     ensures over { is_ended (D.view door.new).seen child ≡ true }
     ensures door { IsSameDoor (D.view door.old) (D.view door.new) }
@@ -80,10 +80,11 @@ pub struct Mouth<I: Sink> {
 impl<I: Sink> Model for Mouth<I> {
     ghost use Rattle.std.specs.Prelude.{◌≡◌, not};
     ghost use Rattle.journal_model.specs.Halves.{MouthValue};
+    ghost use Rattle.link_roles.specs.Writings.{mouth_value};
 
     ghost Value = { MouthValue };
 
-    ghost view = { λ s. record { child = s.child; taken = (I.told s.inlet).taken; faults = (I.told s.inlet).faults; number = (I.told s.inlet).number } };
+    ghost view = { λ s. mouth_value s.child (I.told s.inlet) };
 
     ghost invariant = { λ s. (I.told s.inlet).is_open ≡ not s.closed };
 }
@@ -92,7 +93,7 @@ impl<I: Sink> Mouth<I> {
     /// A mouth that has written nothing. It takes no memory.
     pub fn new(child: u32, inlet: I) -> Mouth<I>
         requires { (I.told inlet).is_open ≡ true }
-        ensures { result ≡ record { child = child; taken = (I.told inlet).taken; faults = (I.told inlet).faults; number = (I.told inlet).number } }
+        ensures { result ≡ mouth_value child (I.told inlet) }
     {
         Mouth {
             child,
@@ -147,7 +148,7 @@ impl<I: Sink> Mouth<I> {
     /// Writes the next line to the child, where there is one. Where there is no memory the child ends, and its inlet is closed.
     pub fn turn<D: Door>(&mut self, door: &mut D) -> Turn
         requires started { is_started (D.view door.old).seen self.old.child ≡ true }
-        ensures moved { MouthMoved (D.view door.old).number (D.view door.old).alone (D.view door.old).seen (D.view door.new).seen self.old self.new }
+        ensures moved { During MouthMoved (D.view door.old) (D.view door.new) self.old self.new }
         ensures same { IsSameMouth self.old self.new }
         ensures turned { Between IsSpeaking (D.view door.old) (D.view door.new) self.old self.new result }
         ensures rest { result ≡ Turn.Rest → Says (D.view door.old).opening (D.view door.old).number (D.view door.new).seen (Fetch self.old.child) Wait }
@@ -175,7 +176,7 @@ impl<I: Sink> Mouth<I> {
     // One turn, and a rest where there is nothing to do.
     fn go_on<D: Door>(&mut self, door: &mut D) -> bool
         requires started { is_started (D.view door.old).seen self.old.child ≡ true }
-        ensures moved { MouthMoved (D.view door.old).number (D.view door.old).alone (D.view door.old).seen (D.view door.new).seen self.old self.new }
+        ensures moved { During MouthMoved (D.view door.old) (D.view door.new) self.old self.new }
         ensures same { IsSameMouth self.old self.new }
         ensures over { IsFalse result → Says (D.view door.old).opening (D.view door.old).number (D.view door.new).seen (Fetch self.old.child) Over }
         ensures door { IsSameDoor (D.view door.old) (D.view door.new) }
@@ -193,7 +194,7 @@ impl<I: Sink> Mouth<I> {
     /// Turns until there is nothing more to do. Where there is no memory the child ends, and its inlet is closed.
     pub fn run<D: Door>(&mut self, door: &mut D)
         requires started { is_started (D.view door.old).seen self.old.child ≡ true }
-        ensures moved { MouthMoved (D.view door.old).number (D.view door.old).alone (D.view door.old).seen (D.view door.new).seen self.old self.new }
+        ensures moved { During MouthMoved (D.view door.old) (D.view door.new) self.old self.new }
         ensures same { IsSameMouth self.old self.new }
         ensures over { Says (D.view door.old).opening (D.view door.old).number (D.view door.new).seen (Fetch self.old.child) Over }
         ensures door { IsSameDoor (D.view door.old) (D.view door.new) }

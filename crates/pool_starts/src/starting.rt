@@ -18,7 +18,7 @@ use crate::pool::{Gathering, Pool, Seat};
 use ann_key::NoMemory;
 use ann_outside::{Programs, Sink, Source};
 use child_end::close_child;
-use child_start::{Greeting, Mode, greet, wait_for};
+use child_start::{Came, Greeting, Mode, greet, wait_for};
 use host_core::Core;
 use link_roles::Lone;
 use std::alloc::Global;
@@ -107,30 +107,16 @@ where
     ensures core { IsSameCore core.old core.new }
 {
     match greet(alloc, programs, program, core, slot, false, Mode::Serve) {
-        Greeting::Ready {
-            link,
-            stub,
-            tagged: _,
-        } => {
-            seat_serving(pool, link, stub);
-            Ok(())
-        }
-        Greeting::Refused {
-            verdict: _,
-            link,
-            stub,
-        } => {
-            seat_over(programs, core, pool, link, stub);
-            Ok(())
-        }
-        Greeting::Ended { why: _, link, stub } => {
-            seat_over(programs, core, pool, link, stub);
-            Ok(())
-        }
-        Greeting::Unsent { link, stub } => {
-            seat_over(programs, core, pool, link, stub);
-            Ok(())
-        }
+        Greeting::Child { link, stub, came } => match came {
+            Came::Ready { .. } => {
+                seat_serving(pool, link, stub);
+                Ok(())
+            }
+            _ => {
+                seat_over(programs, core, pool, link, stub);
+                Ok(())
+            }
+        },
         Greeting::StartFault => Ok(()),
         Greeting::NoMemory => Err(NoMemory),
     }

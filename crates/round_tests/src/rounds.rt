@@ -9,7 +9,7 @@ ghost use Rattle.crew_rounds.specs.Tagged.{TaggedCan, link_of};
 
 use ann_key::{Bytes, NoMemory, Text};
 use ann_outside::{MemChild, MemDesk, MemPrograms, MemSink, MemSource};
-use child_start::{Greeting, Mode, greet};
+use child_start::{Came, Greeting, Mode, greet};
 use chunk_log::NoteBook;
 use crew_rounds::{Outcome, TaggedRound, round_tagged_some};
 use host_core::Core;
@@ -99,18 +99,21 @@ fn ready(rt: &impl Abort, alloc: Global, programs: &mut MemPrograms, core: &mut 
 {
     know_book(&core.opening().notes);
     match greet(alloc, programs, "child", core, 0, true, Mode::Serve) {
-        Greeting::Ready {
+        Greeting::Child {
             link,
             stub: _,
-            tagged,
-        } => {
-            if tagged {
-                link
-            } else {
-                panic!(rt; "the child takes no tags")
+            came,
+        } => match came {
+            Came::Ready { tagged } => {
+                if tagged {
+                    link
+                } else {
+                    panic!(rt; "the child takes no tags")
+                }
             }
-        }
-        _ => panic!(rt; "the child isn't ready"),
+            _ => panic!(rt; "the child isn't ready"),
+        },
+        _ => panic!(rt; "no child was started"),
     }
 }
 

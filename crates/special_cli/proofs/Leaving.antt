@@ -3,7 +3,7 @@ use Rattle.ann_outside.specs.Told.{ProgramsTold}
 use Rattle.std.proofs.Common.{◌≡◌, ◌⊎◌, ◌≤◌, inl, inr, ℕ, suc, List, [], ◌∷◌, length, refl, sym, ap, subst, ◌∙◌, arith, cond, Bool, true, false, Some, None, Option}
 use Rattle.std.specs.Prelude.{IsTrue, filter, filter_map, option_and_then}
 use Rattle.std.specs.List.{cons_option}
-use Rattle.ann_outside.specs.Starts.{Starts}
+use Rattle.ann_outside.specs.Starts.{Starts, IsNumbered}
 use Rattle.ann_outside.specs.Causes.{AddsOne, Rose, Stays}
 use Rattle.journal_model.specs.declared.entry.What.{What}
 use Rattle.journal_model.specs.declared.entry.What.TheVariants.{Start, NoStart}
@@ -19,6 +19,7 @@ use Rattle.child_end.specs.Wires.{came_in, came, is_served_alone, IsOfStart, IsW
 use Rattle.child_end.specs.Programs.{told_in, told, AddsAll, HaveStarted, Leaves, RoseBy, is_failed_start}
 use Rattle.lone_rounds.proofs.Leaving.{rose_still, of_start, adds_stays, stays_none}
 use Rattle.special_cli.specs.Objects.{OneIsLeft}
+use Rattle.link_roles.specs.Alone.{KeepsLink}
 use Rattle.link_roles.specs.Wires.{WireValue}
 use Rattle.special_cli.proofs.Looking.{through}
 use Rattle.child_end.proofs.Across.{adds_one as adds_all, adds_none}
@@ -70,6 +71,10 @@ one_laid {ear} {mouth} {old} {new} laid none = go (subst (λ (xs : List WireValu
   where
     go : IsLaid ear mouth [] new → OneIsLeft ear mouth new
     go (wire, only, is) = (wire, only, is)
+
+-- a link that is kept keeps its start's number
+pub numbers_kept : {starts : Option Starts} {old new : List Entry} {ear ear' : EarValue} {mouth mouth' : MouthValue} → KeepsLink old new ear ear' mouth mouth' → AreNumbered starts ear mouth → AreNumbered starts ear' mouth'
+numbers_kept {starts} k n = (subst (IsNumbered starts) (sym k.same_mouth.1) n.0, subst (IsNumbered starts) (sym k.same_ear.1) n.1)
 
 -- the one child's wire
 one_wire : (old new : Option Starts) (journal : List Entry) (x : List ℕ × Bool) (ear : EarValue) (mouth : MouthValue) (wires : List WireValue) → starts_in journal ≡ Start 1 0 false ∷ []

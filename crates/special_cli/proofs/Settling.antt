@@ -20,7 +20,9 @@ use Rattle.journal_scan.specs.Looks.{is_no_start}
 use Rattle.journal_model.specs.Shares.{are_by, is_closed}
 use Rattle.link_roles.specs.Alone.{Closes}
 use Rattle.child_start.specs.declared.greeting.Mode.TheVariants.{Init}
-use Rattle.child_start.specs.Greetings.{GreetedFor, IsSetUp, IsRefused, HasEnded, IsUnsent, is_of_greeting_for, is_refusal}
+use Rattle.child_start.specs.declared.greeting.Came.{Came}
+use Rattle.child_start.specs.declared.greeting.Came.TheVariants.{Ready, Refused, Ended, Unsent}
+use Rattle.child_start.specs.Greetings.{CameTo, GreetedFor, IsSetUp, IsRefused, HasEnded, IsUnsent, is_of_greeting_for, is_refusal}
 use Rattle.child_start.proofs.Jobs.{idle_on}
 use Rattle.init_run.specs.declared.setup.Setup.{Setup}
 use Rattle.init_run.specs.declared.setup.Setup.TheVariants.{Initialized, Stopped}
@@ -28,7 +30,7 @@ use Rattle.init_run.specs.Setups.{setup_for, mute_outcome, gone_outcome, verdict
 use Rattle.special_cli.specs.Endings.{start_in, starts_in}
 use Rattle.special_cli.specs.Informs.{is_of_task}
 use Rattle.lone_rounds.specs.Stints.{main_entry}
-use Rattle.special_cli.specs.Setups.{is_of_setup, IsSetup, IsTalked}
+use Rattle.special_cli.specs.Setups.{is_of_setup, setup_of, IsSetup, IsTalked}
 use Rattle.special_cli.proofs.Talking.{no_claims, closing_of, closed_so, IsStill, closing_still, over_or}
 use Rattle.ann_key.proofs.Booleans.{or_false as or_none, and_false as off}
 use Rattle.std.proofs.lemmas.Bool.{and_parts as both}
@@ -132,27 +134,34 @@ module _ (old journal : List Entry) (c : ℕ) (none : old ≡ []) (greeted : Gre
             ∙ ap (λ (b : Bool). from false b (verdict_of journal 1 1) (why_of journal 1) (is_mute journal 1)) there ∙ first;
       }
 
-  pub ready_talked : IsSetUp journal c → IsTalked journal c Initialized
+  ready_talked : IsSetUp journal c → IsTalked journal c Initialized
   ready_talked h = talked_so Initialized (done_outcome (verdict_of journal c 1) (why_of journal c) (is_mute journal c) h.done)
 
-  pub refused_talked : (v : Verdict) (setup : Setup) → setup ≡ setup_for v → IsRefused journal c v → IsTalked journal c setup
-  refused_talked v setup e h =
-      talked_so setup
+  refused_talked : (v : Verdict) → IsRefused journal c v → IsTalked journal c (setup_for v)
+  refused_talked v h =
+      talked_so (setup_for v)
       (ap (λ (x : Option Verdict). verdict_outcome x (why_of journal c) (is_mute journal c)) h.settled
-      ∙ refused_outcome v h.place (why_of journal c) (is_mute journal c) h.refusal ∙ ap Some (sym e))
+      ∙ refused_outcome v h.place (why_of journal c) (is_mute journal c) h.refusal)
 
-  pub ended_talked : (why : Why) → HasEnded journal c why → IsTalked journal c (Stopped (answer.Ended why))
+  ended_talked : (why : Why) → HasEnded journal c why → IsTalked journal c (Stopped (answer.Ended why))
   ended_talked why h =
       talked_so (Stopped (answer.Ended why))
       (silent_outcome (verdict_of journal c 1) (why_of journal c) (is_mute journal c) h.undone h.unrefused
       ∙ ap (λ (w : Option Why). gone_outcome w (is_mute journal c)) h.ended ∙ ended_outcome why (is_mute journal c) h.kept)
 
-  pub unsent_talked : IsUnsent journal c → IsTalked journal c (Stopped answer.Unsent)
+  unsent_talked : IsUnsent journal c → IsTalked journal c (Stopped answer.Unsent)
   unsent_talked h =
       let live : why_of journal c ≡ None = none_why (why_of journal c) (why_is_end journal c ∙ h.live) in
       talked_so (Stopped answer.Unsent)
       (silent_outcome (verdict_of journal c 1) (why_of journal c) (is_mute journal c) h.undone h.unrefused
       ∙ ap (λ (w : Option Why). gone_outcome w (is_mute journal c)) live ∙ ap mute_outcome h.mute)
+
+-- whatever the greeting came to
+pub talked : {old journal : List Entry} {c : ℕ} → old ≡ [] → GreetedFor Init old journal 0 false c → (came : Came) → CameTo Init journal c came → IsTalked journal c (setup_of came)
+talked {old} {journal} {c} none greeted (Ready tagged) h = ready_talked old journal c none greeted h.0
+talked {old} {journal} {c} none greeted (Refused verdict) h = refused_talked old journal c none greeted verdict h
+talked {old} {journal} {c} none greeted (Ended why) h = ended_talked old journal c none greeted why h
+talked {old} {journal} {c} none greeted Unsent h = unsent_talked old journal c none greeted h
 
 -- ---- the child is closed
 

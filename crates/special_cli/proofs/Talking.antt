@@ -19,7 +19,10 @@ use Rattle.journal_model.proofs.Looks.{any-append, each_of-append, verdict_of-ap
 use Rattle.journal_model.proofs.Linking.{why_of-append}
 use Rattle.task_run.specs.TaskRuns.{refused_at}
 use Rattle.link_roles.specs.Alone.{Closes}
-use Rattle.child_start.specs.Greetings.{Greeted, IsReady, IsRefused, HasEnded, IsUnsent, is_greeting_line, is_of_greeting, loses}
+use Rattle.child_start.specs.declared.greeting.Mode.TheVariants.{Serve}
+use Rattle.child_start.specs.declared.greeting.Came.{Came}
+use Rattle.child_start.specs.declared.greeting.Came.TheVariants.{Ready, Refused, Ended, Unsent}
+use Rattle.child_start.specs.Greetings.{CameTo, Greeted, IsReady, IsRefused, HasEnded, IsUnsent, is_greeting_line, is_of_greeting, loses}
 use Rattle.child_start.proofs.Jobs.{idle_on}
 use Rattle.child_start.proofs.Losing.{count_behind, count_before}
 use Rattle.info_run.specs.Infos.{questions}
@@ -100,21 +103,29 @@ some_refused : (v : Verdict) (at : ℕ) → (v ≡ FailedAt at) ⊎ (v ≡ Unsup
 some_refused v at (inl e) = rw e refl
 some_refused v at (inr e) = rw e refl
 
-pub refused_complete : (key : Option (List ℕ)) (old journal : List Entry) (c : ℕ) (v : Verdict) → old ≡ [] → Greeted old journal 0 false c → IsRefused journal c v → IsComplete key journal
+refused_complete : (key : Option (List ℕ)) (old journal : List Entry) (c : ℕ) (v : Verdict) → old ≡ [] → Greeted old journal 0 false c → IsRefused journal c v → IsComplete key journal
 refused_complete key old journal c v none greeted h =
     let one : c ≡ 1 = (from_nothing old journal c none greeted).next in
     let settled : verdict_of journal 1 1 ≡ Some v = subst (λ (x : ℕ). verdict_of journal x 1 ≡ Some v) one h.settled in
     inr (inr (inl (subst (λ (x : Option Verdict). IsSome (option_and_then refused_at x)) (sym settled) (some_refused v h.place h.refusal))))
 
-pub ended_complete : (key : Option (List ℕ)) (old journal : List Entry) (c : ℕ) (why : Why) → old ≡ [] → Greeted old journal 0 false c → HasEnded journal c why → IsComplete key journal
+ended_complete : (key : Option (List ℕ)) (old journal : List Entry) (c : ℕ) (why : Why) → old ≡ [] → Greeted old journal 0 false c → HasEnded journal c why → IsComplete key journal
 ended_complete key old journal c why none greeted h =
     let one : c ≡ 1 = (from_nothing old journal c none greeted).next in
     inr (inr (inr (inl (why, subst (λ (x : ℕ). why_of journal x ≡ Some why) one h.ended, h.kept))))
 
-pub unsent_complete : (key : Option (List ℕ)) (old journal : List Entry) (c : ℕ) → old ≡ [] → Greeted old journal 0 false c → IsUnsent journal c → IsComplete key journal
+unsent_complete : (key : Option (List ℕ)) (old journal : List Entry) (c : ℕ) → old ≡ [] → Greeted old journal 0 false c → IsUnsent journal c → IsComplete key journal
 unsent_complete key old journal c none greeted h =
     let one : c ≡ 1 = (from_nothing old journal c none greeted).next in
     inr (inr (inr (inr (subst (λ (x : ℕ). is_mute journal x ≡ true) one h.mute))))
+
+-- a child that isn't ready has said why
+pub unready_complete : (key : Option (List ℕ)) (journal : List Entry) (c : ℕ) (came : Came) → Greeted [] journal 0 false c → ((tagged : Bool) → came ≡ Ready tagged → ⊥)
+    → CameTo Serve journal c came → IsComplete key journal
+unready_complete key journal c (Ready tagged) greeted no h = absurd (no tagged refl)
+unready_complete key journal c (Refused verdict) greeted no h = refused_complete key [] journal c verdict refl greeted h
+unready_complete key journal c (Ended why) greeted no h = ended_complete key [] journal c why refl greeted h
+unready_complete key journal c Unsent greeted no h = unsent_complete key [] journal c refl greeted h
 
 -- ---- after the questions
 

@@ -10,7 +10,6 @@ pub mod Openings
 pub mod Rehearsals
 pub mod Sayings
 pub mod Interviews
-pub mod Meetings
 pub mod Tells
 pub mod Walks
 pub mod Wishes

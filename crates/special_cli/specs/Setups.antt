@@ -15,6 +15,7 @@ use Rattle.chunk_log.specs.ChunkLines.{IsWrittenUuid}
 use Rattle.cli_words.specs.Identities.{IsFit}
 use Rattle.cli_words.specs.declared.command.Command.TheVariants.{Init as InitCommand}
 use Rattle.cli_words.specs.declared.command.InitWords.{InitWords}
+use Rattle.journal_model.specs.declared.answer.Answer.TheVariants as answer
 use Rattle.journal_model.specs.declared.entry.What.{What}
 use Rattle.journal_model.specs.declared.entry.What.TheVariants.{Start, NoStart, End}
 use Rattle.journal_model.specs.declared.entry.Entry.{Entry}
@@ -26,8 +27,10 @@ use Rattle.journal_model.specs.Projection.{JobFits}
 use Rattle.journal_model.specs.Shares.{are_by}
 use Rattle.host_core.specs.Settings.{registers_after}
 use Rattle.child_start.specs.declared.greeting.Mode.TheVariants.{Init}
+use Rattle.child_start.specs.declared.greeting.Came.{Came}
+use Rattle.child_start.specs.declared.greeting.Came.TheVariants.{Ready, Refused, Ended, Unsent}
 use Rattle.child_start.specs.Greetings.{is_of_greeting_for}
-use Rattle.init_run.specs.Setups.{IsOpening, IsTextOf, outcome_of}
+use Rattle.init_run.specs.Setups.{IsOpening, IsTextOf, outcome_of, setup_for}
 use Rattle.init_run.specs.declared.setup.Setup.{Setup}
 use Rattle.init_run.specs.declared.setup.Setup.TheVariants.{Initialized, Stopped}
 use Rattle.special_cli.specs.declared.end.End.{End as Ending}
@@ -139,6 +142,13 @@ abbrev pub EndsKeep : InitWords → Option Files → Option Files → Counts →
 EndsKeep words told told' counts o journal (SetUp written) = IsInitKept words told (record { counts = counts; files = told'; log = None }) o journal written
 EndsKeep words told told' counts o journal Memory = WhereTold told told' (OthersStay (λ other. other ≡ new_name words.keep))
 EndsKeep words told told' counts o journal end = ⊥
+
+-- what a setup comes to by what its greeting came to
+abbrev pub setup_of : Came → Setup
+setup_of (Ready tagged) = Initialized
+setup_of (Refused verdict) = setup_for verdict
+setup_of (Ended why) = Stopped (answer.Ended why)
+setup_of Unsent = Stopped answer.Unsent
 
 -- the child is the first, its jobs are settled, and it comes to this
 pub record IsTalked (journal : List Entry) (c : ℕ) (setup : Setup) : Type 0 where

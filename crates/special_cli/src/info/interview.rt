@@ -2,68 +2,43 @@
 ghost use Rattle.std.specs.Prelude.{◌≡◌, ◌<◌, [], true, IfSome, IfOk, IsErr, option_map, vec_capacity};
 ghost use Rattle.ann_key.specs.KeyRefs.{text_of};
 ghost use Rattle.annex_model.specs.Messages.{is_sent_key};
+ghost use Rattle.journal_model.specs.Legality.{Legal};
+ghost use Rattle.link_roles.specs.Alone.{KeepsLink};
+ghost use Rattle.child_start.specs.declared.greeting.Mode.TheVariants.{Serve};
 ghost use Rattle.child_start.specs.Cores.{IsSameCore};
+ghost use Rattle.child_start.specs.Greetings.{CameTo, Greeted};
 ghost use Rattle.special_cli.specs.Informs.{IsAsked, IsComplete};
 ghost use Rattle.child_end.specs.Programs.{Leaves};
 ghost use Rattle.special_cli.specs.Interviews.{Interviewed};
-ghost use Rattle.special_cli.specs.Meetings.{Met};
 
-use crate::meeting::Meeting;
 use ann_key::{KeyRef, NoMemory};
-use ann_outside::Programs;
+use ann_outside::{Programs, Sink, Source};
 use child_end::{close_child, finish};
-use child_start::{Greeting, Mode, greet};
+use child_start::{Came, Greeting, Mode, greet};
 use host_core::Core;
 use info_run::ask_all;
-use link_roles::Wire;
+use link_roles::{Lone, Wire};
 use std::alloc::Global;
 
-// Starts the program, and asks its child about itself once it is ready.
-fn hold_interview<P: Programs>(
+// Asks a child that is ready about itself, and another nothing.
+fn interview<I: Sink, O: Source>(
     alloc: Global,
-    program: &str,
     key: Option<KeyRef<'_>>,
-    programs: &mut P,
+    link: &mut Lone<I, O>,
     core: &mut Core,
-) -> Meeting<P::Inlet, P::Outlet, P::Stub, Result<(), NoMemory>>
-where
-    P::Inlet: Drop,
-    P::Outlet: Drop,
-    requires empty { core.old.journal ≡ [] }
+    came: Came,
+) -> Result<(), NoMemory>
+    requires legal { Legal core.old.opening core.old.journal }
     requires key { IfSome key (λ k. is_sent_key (text_of k) ≡ true) }
-    ensures met { Met (Interviewed (option_map text_of key.entry) core.new.journal) core.new.journal (P.told programs.old) (P.told programs.new) program.now result }
+    requires greeted { Greeted [] core.old.journal 0 false link.old.ear.child }
+    requires comes { CameTo Serve core.old.journal link.old.ear.child came }
+    ensures interviewed { Interviewed (option_map text_of key.entry) core.new.journal link.new.ear.child result }
+    ensures link { KeepsLink core.old.journal core.new.journal link.old.ear link.new.ear link.old.mouth link.new.mouth }
     ensures core { IsSameCore core.old core.new }
 {
-    match greet(alloc, programs, program, core, 0, false, Mode::Serve) {
-        Greeting::Ready {
-            mut link,
-            stub,
-            tagged: _,
-        } => {
-            let came = ask_all(alloc, &mut link, core, key);
-            Meeting::Over { link, stub, came }
-        }
-        Greeting::Refused {
-            verdict: _,
-            link,
-            stub,
-        } => Meeting::Over {
-            link,
-            stub,
-            came: Ok(()),
-        },
-        Greeting::Ended { why: _, link, stub } => Meeting::Over {
-            link,
-            stub,
-            came: Ok(()),
-        },
-        Greeting::Unsent { link, stub } => Meeting::Over {
-            link,
-            stub,
-            came: Ok(()),
-        },
-        Greeting::StartFault => Meeting::StartFault,
-        Greeting::NoMemory => Meeting::NoMemory,
+    match came {
+        Came::Ready { .. } => ask_all(alloc, link, core, key),
+        _ => Ok(()),
     }
 }
 
@@ -89,13 +64,18 @@ where
         (P.told programs.new) wires.new.items }
     ensures core { IsSameCore core.old core.new }
 {
-    match hold_interview(alloc, program, key, programs, core) {
-        Meeting::Over { link, stub, came } => {
+    match greet(alloc, programs, program, core, 0, false, Mode::Serve) {
+        Greeting::Child {
+            mut link,
+            stub,
+            came,
+        } => {
+            let asked = interview(alloc, key, &mut link, core, came);
             close_child(&link, core);
             finish(programs, link, stub, wires);
-            came
+            asked
         }
-        Meeting::StartFault => Ok(()),
-        Meeting::NoMemory => Err(NoMemory),
+        Greeting::StartFault => Ok(()),
+        Greeting::NoMemory => Err(NoMemory),
     }
 }

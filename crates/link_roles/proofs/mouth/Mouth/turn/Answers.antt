@@ -21,8 +21,8 @@ returns-in-Ok-Line-clause-moved g c =
     let d = c.args.door.now in
     let before = c.self.inside.inlet in
     let after = c.send.new.inlet in
-    let v = mouth_value c.self.inside.child (g.I.Sink.told before).taken (g.I.Sink.told before).faults (g.I.Sink.told before).number in
-    let w = mouth_value c.self.inside.child (g.I.Sink.told after).taken (g.I.Sink.told after).faults (g.I.Sink.told after).number in
+    let v = mouth_value c.self.inside.child (g.I.Sink.told before) in
+    let w = mouth_value c.self.inside.child (g.I.Sink.told after) in
     subst (λ (m : MouthValue). MouthMoved (g.D.Door.view d).number (g.D.Door.view d).alone (g.D.Door.view d).seen (g.D.Door.view c.send.new.door).seen m w) c.self.view_is
     (moved_both c.fetch.ensures.door.number c.fetch.ensures.door.alone (mouth_on v c.fetch.ensures.passed) c.send.ensures.moved)
 
@@ -31,8 +31,8 @@ returns-in-Ok-Line-clause-turned g c =
     let d = c.args.door.now in
     let before = c.self.inside.inlet in
     let after = c.send.new.inlet in
-    let v = mouth_value c.self.inside.child (g.I.Sink.told before).taken (g.I.Sink.told before).faults (g.I.Sink.told before).number in
-    let w = mouth_value c.self.inside.child (g.I.Sink.told after).taken (g.I.Sink.told after).faults (g.I.Sink.told after).number in
+    let v = mouth_value c.self.inside.child (g.I.Sink.told before) in
+    let w = mouth_value c.self.inside.child (g.I.Sink.told after) in
     subst (λ (m : MouthValue). IsSpeaking (g.D.Door.view d).opening (g.D.Door.view d).number (g.D.Door.view d).alone (g.D.Door.view d).seen (g.D.Door.view c.send.new.door).seen m w Again) c.self.view_is (
       (g.D.Door.view c.fetch.new.door).seen,
       c.fetch.ensures.passed,
