@@ -183,3 +183,23 @@ same_both s t = record {
 -- a rest changes nothing of it
 pub rested : {H : Type 0} {x y z : DoorView H} → z ≡ y → IsSameDoor x y → IsSameDoor x z
 rested {x = x} e t = subst (λ w. IsSameDoor x w) (sym e) t
+
+-- and so the journal that it has seen
+pub seen_still : {H : Type 0} {y z : DoorView H} → z ≡ y → y.seen ≡ z.seen
+seen_still {H} e = sym (ap (λ (v : DoorView H). v.seen) e)
+
+-- ---- what stays
+
+pub any_on : (p : What → Bool) (old more new : List Entry) → new ≡ old ++ more → any p old ≡ true → any p new ≡ true
+any_on p old more new e h = ap (any p) e ∙ any-append p old more ∙ ap (λ (b : Bool). b || any p more) h
+
+pub asked_on : (old more new : List Entry) (c j : ℕ) → new ≡ old ++ more → is_asked old c j ≡ true → is_asked new c j ≡ true
+asked_on old more new c j e a =
+    ap (λ (x : List Entry). is_asked x c j) e ∙ ap (list_any (λ k. k == j)) (each_of-append (asks c) old more)
+    ∙ list_any-append (λ k. k == j) (asked_jobs old c) (asked_jobs more c) ∙ ap (λ (b : Bool). b || list_any (λ k. k == j) (asked_jobs more c)) a
+
+pub started_on : {n : ℕ} {a : Bool} {makes mine : What → Bool} {old new : List Entry} {P Q : Type 0} (c : ℕ) → Moved n a makes mine old new P Q → is_started old c ≡ true → is_started new c ≡ true
+started_on {old = old} {new = new} c s h = any_on (starts c) old s.more new s.is h
+
+pub ended_on : {n : ℕ} {a : Bool} {makes mine : What → Bool} {old new : List Entry} {P Q : Type 0} (c : ℕ) → Moved n a makes mine old new P Q → is_ended old c ≡ true → is_ended new c ≡ true
+ended_on {old = old} {new = new} c s h = any_on (ends c) old s.more new s.is h

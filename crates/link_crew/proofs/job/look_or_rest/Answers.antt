@@ -3,6 +3,7 @@ use Rattle.std.specs.Option.{is_some}
 use Rattle.journal_model.specs.declared.verdict.Verdict.{Verdict}
 use Rattle.link_roles.proofs.Asking.{grows_on, grows_seen}
 use Rattle.link_roles.proofs.Replying.{asked_then, unsettled_waits}
+use Rattle.link_roles.proofs.Roles.{seen_still}
 use Rattle.link_crew.proofs.job.look_or_rest.Goals as goal
 
 none_there : (v : Option Verdict) → is_some v ≡ false → v ≡ None
@@ -18,7 +19,7 @@ rest-requires g c = record {
 }
 
 pub returns-then-is_none-clause-grows : goal.returns-then-is_none-clause-grows
-returns-then-is_none-clause-grows g c = grows_seen (ap (λ d. d.seen) c.rest.ensures) (grows_on c.verdict-settled.ensures.passed)
+returns-then-is_none-clause-grows g c = grows_seen (sym (seen_still c.rest.ensures)) (grows_on c.verdict-settled.ensures.passed)
 
 pub returns-else-is_none-clause-grows : goal.returns-else-is_none-clause-grows
 returns-else-is_none-clause-grows g c = grows_on c.verdict-settled.ensures.passed
