@@ -9,8 +9,7 @@ use Rattle.special_cli.proofs.info.interview.interview.Goals as goal
 pub returns-in-Ready-clause-interviewed : goal.returns-in-Ready-clause-interviewed
 returns-in-Ready-clause-interviewed g c =
     let key = option_map text_of c.args.key in
-    let ready = (subst (CameTo Serve c.args.core.now.journal c.args.link.now.ear.child) c.in-Ready.is c.requires.comes).0 in
-    (
+    let ready = (subst (CameTo Serve c.args.core.now.journal c.args.link.now.ear.child) c.in-Ready.is c.requires.comes).0 in (
       ready_talked c.args.core.now.opening key [] c.args.core.now.journal c.ask_all.new.core.journal c.args.link.now.ear.child c.ask_all.new.link.ear.child
           refl c.requires.legal c.requires.greeted ready c.ask_all.ensures.asks c.ask_all.ensures.link.same_ear.0,
       if_ok c.ask_all.result _ _
@@ -20,8 +19,7 @@ returns-in-Ready-clause-interviewed g c =
 
 pub returns-in_default-clause-interviewed : goal.returns-in_default-clause-interviewed
 returns-in_default-clause-interviewed g c =
-    let key = option_map text_of c.args.key in
-    (
+    let key = option_map text_of c.args.key in (
       unready_talked c.args.core.now.opening key [] c.args.core.now.journal c.args.link.now.ear.child refl c.requires.legal c.requires.greeted,
       unready_complete key c.args.core.now.journal c.args.link.now.ear.child c.args.came c.requires.greeted c.in_default.not-Ready c.requires.comes,
     )
