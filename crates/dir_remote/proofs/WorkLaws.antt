@@ -5,6 +5,7 @@ use Rattle.ann_key.specs.FileNames.{file_name_of}
 use Rattle.std.specs.Prelude.{Bool, IsTrue, Option, None, IfSome, Result, Ok, Err}
 use Rattle.ann_outside.specs.DeskCauses.{Counts, HasCauses}
 use Rattle.ann_outside.specs.Files.{Files, content, WhereTold, OthersStay, AllStay, SizeIs, RenameDoes, RemoveDoes}
+use Rattle.ann_outside.specs.Told.{DeskTold}
 use Rattle.ann_outside.specs.declared.file_desk.DeskError.{DeskError}
 use Rattle.ann_outside.specs.declared.file_desk.DeskError.TheVariants.{Failed, Missing, NoMemory}
 use Rattle.dir_remote.specs.Answers.{Works, StoreDoes, StoredUnder, RetrieveDoes, RetrievedTo, CheckDoes, RemoveDoes as RemovalDoes, is_of_transfer, is_of_check, is_of_removal}
@@ -86,53 +87,53 @@ causes_same : (counts : Counts) (outcome : Outcome) → outcome ≢ O.DiskFailed
 causes_same counts outcome a b d =
     record { faults_later = omega arith; missing_later = omega arith; failed = λ e. absurd (a e); missing = λ e. absurd (b e); not_there = λ e. absurd (d e) }
 
-unnamed : (is_word : Outcome → Bool) (Does : Outcome → Files → Files → Type 0) (key : List ℕ) (counts : Counts) (a : Option Files) (outcome : Outcome)
+unnamed : (is_word : Outcome → Bool) (Does : Outcome → Files → Files → Type 0) (key : List ℕ) (desk : DeskTold) (outcome : Outcome)
     → IsTrue (is_word O.NotText) → IsTrue (is_word O.NoMemory) → ((x : Files) → Does O.NotText x x) → ((x : Files) → Does O.NoMemory x x)
-    → IsUnnamed key outcome → Works is_word Does key counts counts a a outcome
-unnamed is_word Does key counts a O.NotText v w f g h =
-    record { word = v; prepared = λ e. cc; text = h; causes = causes_same counts O.NotText (λ e. cc) (λ e. cc) (λ e. cc); files_do = told_refl (Does O.NotText) a f }
-unnamed is_word Does key counts a O.NoMemory v w f g h =
-    record { word = w; prepared = λ e. cc; text = tt; causes = causes_same counts O.NoMemory (λ e. cc) (λ e. cc) (λ e. cc); files_do = told_refl (Does O.NoMemory) a g }
-unnamed is_word Does key counts a O.Done v w f g h = absurd h
-unnamed is_word Does key counts a O.NotThere v w f g h = absurd h
-unnamed is_word Does key counts a O.NotPrepared v w f g h = absurd h
-unnamed is_word Does key counts a O.NoDirectory v w f g h = absurd h
-unnamed is_word Does key counts a O.DiskFailed v w f g h = absurd h
-unnamed is_word Does key counts a O.NoSuchFile v w f g h = absurd h
+    → IsUnnamed key outcome → Works is_word Does key desk desk outcome
+unnamed is_word Does key desk O.NotText v w f g h =
+    record { word = v; prepared = λ e. cc; text = h; causes = causes_same desk.counts O.NotText (λ e. cc) (λ e. cc) (λ e. cc); files_do = told_refl (Does O.NotText) desk.files f }
+unnamed is_word Does key desk O.NoMemory v w f g h =
+    record { word = w; prepared = λ e. cc; text = tt; causes = causes_same desk.counts O.NoMemory (λ e. cc) (λ e. cc) (λ e. cc); files_do = told_refl (Does O.NoMemory) desk.files g }
+unnamed is_word Does key desk O.Done v w f g h = absurd h
+unnamed is_word Does key desk O.NotThere v w f g h = absurd h
+unnamed is_word Does key desk O.NotPrepared v w f g h = absurd h
+unnamed is_word Does key desk O.NoDirectory v w f g h = absurd h
+unnamed is_word Does key desk O.DiskFailed v w f g h = absurd h
+unnamed is_word Does key desk O.NoSuchFile v w f g h = absurd h
 
-pub store_idle : (directory key file : List ℕ) (counts : Counts) (a : Option Files) (outcome : Outcome) → IsUnnamed key outcome
-    → Works is_of_transfer (StoreDoes directory key file) key counts counts a a outcome
-store_idle directory key file counts a outcome =
-    unnamed is_of_transfer (StoreDoes directory key file) key counts a outcome refl refl
+pub store_idle : (directory key file : List ℕ) (desk : DeskTold) (outcome : Outcome) → IsUnnamed key outcome
+    → Works is_of_transfer (StoreDoes directory key file) key desk desk outcome
+store_idle directory key file desk outcome =
+    unnamed is_of_transfer (StoreDoes directory key file) key desk outcome refl refl
     (λ x. record { this = λ name is. refl; other_keys = λ other name d is. refl; outside = λ other out. refl })
     (λ x. record { this = λ name is. refl; other_keys = λ other name d is. refl; outside = λ other out. refl })
 
-pub retrieve_idle : (directory key file : List ℕ) (counts : Counts) (a : Option Files) (outcome : Outcome) → IsUnnamed key outcome
-    → Works is_of_transfer (RetrieveDoes directory key file) key counts counts a a outcome
-retrieve_idle directory key file counts a outcome =
-    unnamed is_of_transfer (RetrieveDoes directory key file) key counts a outcome refl refl
+pub retrieve_idle : (directory key file : List ℕ) (desk : DeskTold) (outcome : Outcome) → IsUnnamed key outcome
+    → Works is_of_transfer (RetrieveDoes directory key file) key desk desk outcome
+retrieve_idle directory key file desk outcome =
+    unnamed is_of_transfer (RetrieveDoes directory key file) key desk outcome refl refl
     (λ x. record { this = λ out name is. tt; keys = λ out text name is. refl; others = λ other d. refl })
     (λ x. record { this = λ out name is. tt; keys = λ out text name is. refl; others = λ other d. refl })
 
-pub check_idle : (directory key : List ℕ) (counts : Counts) (a : Option Files) (outcome : Outcome) → IsUnnamed key outcome
-    → Works is_of_check (CheckDoes directory key) key counts counts a a outcome
-check_idle directory key counts a outcome =
-    unnamed is_of_check (CheckDoes directory key) key counts a outcome refl refl (λ x. record { this = λ name is. tt; all = λ other. refl }) (λ x. record { this = λ name is. tt; all = λ other. refl })
+pub check_idle : (directory key : List ℕ) (desk : DeskTold) (outcome : Outcome) → IsUnnamed key outcome
+    → Works is_of_check (CheckDoes directory key) key desk desk outcome
+check_idle directory key desk outcome =
+    unnamed is_of_check (CheckDoes directory key) key desk outcome refl refl (λ x. record { this = λ name is. tt; all = λ other. refl }) (λ x. record { this = λ name is. tt; all = λ other. refl })
 
-pub remove_idle : (directory key : List ℕ) (counts : Counts) (a : Option Files) (outcome : Outcome) → IsUnnamed key outcome
-    → Works is_of_removal (RemovalDoes directory key) key counts counts a a outcome
-remove_idle directory key counts a outcome =
-    unnamed is_of_removal (RemovalDoes directory key) key counts a outcome refl refl
+pub remove_idle : (directory key : List ℕ) (desk : DeskTold) (outcome : Outcome) → IsUnnamed key outcome
+    → Works is_of_removal (RemovalDoes directory key) key desk desk outcome
+remove_idle directory key desk outcome =
+    unnamed is_of_removal (RemovalDoes directory key) key desk outcome refl refl
     (λ x. record { this = λ name is. refl; other_keys = λ other name d is. refl; outside = λ other out. refl })
     (λ x. record { this = λ name is. refl; other_keys = λ other name d is. refl; outside = λ other out. refl })
 
 -- ---- the desk refused
 
-pub transfer_refused : (Does : Outcome → Files → Files → Type 0) (key : List ℕ) (counts after : Counts) (a b : Option Files) (e : DeskError) → IsUtf8 (file_name_of key)
-    → HasOutcomeCauses counts after (refusal_of e) → WhereTold a b (Does (refusal_of e)) → Works is_of_transfer Does key counts after a b (refusal_of e)
-transfer_refused Does key counts after a b Failed text causes does = record { word = refl; prepared = λ e. cc; text = text; causes = causes; files_do = does }
-transfer_refused Does key counts after a b Missing text causes does = record { word = refl; prepared = λ e. cc; text = text; causes = causes; files_do = does }
-transfer_refused Does key counts after a b NoMemory text causes does = record { word = refl; prepared = λ e. cc; text = tt; causes = causes; files_do = does }
+pub transfer_refused : (Does : Outcome → Files → Files → Type 0) (key : List ℕ) (old new : DeskTold) (e : DeskError) → IsUtf8 (file_name_of key)
+    → HasOutcomeCauses old.counts new.counts (refusal_of e) → WhereTold old.files new.files (Does (refusal_of e)) → Works is_of_transfer Does key old new (refusal_of e)
+transfer_refused Does key old new Failed text causes does = record { word = refl; prepared = λ e. cc; text = text; causes = causes; files_do = does }
+transfer_refused Does key old new Missing text causes does = record { word = refl; prepared = λ e. cc; text = text; causes = causes; files_do = does }
+transfer_refused Does key old new NoMemory text causes does = record { word = refl; prepared = λ e. cc; text = tt; causes = causes; files_do = does }
 
 -- ---- store
 

@@ -3,9 +3,9 @@ use Rattle.std.specs.Prelude.{ℕ, ◌≡◌, ◌≢◌, ◌⊎◌, Bool, true, 
 use Rattle.std.specs.Str.{IsUtf8}
 use Rattle.ann_key.specs.FileNames.{file_name_of}
 use Rattle.ann_key.specs.declared.bytes.NoMemory.{NoMemory as WithoutMemory}
-use Rattle.ann_outside.specs.Calls.{Log}
 use Rattle.ann_outside.specs.DeskCauses.{Counts}
 use Rattle.ann_outside.specs.Files.{Files, content, OthersStay, AllStay, WhereTold}
+use Rattle.ann_outside.specs.Told.{DeskTold}
 use Rattle.kit_core.specs.declared.call.Said.{Said}
 use Rattle.dir_remote.specs.Contents.{IsContentName, IsOutside, OutsideStays, OtherKeysStay, KeysStay}
 use Rattle.ann_outside.specs.declared.file_desk.Call.{Call}
@@ -75,13 +75,12 @@ pub record RemoveDoes (directory key : List ℕ) (outcome : Outcome) (old new : 
   pub outside : OutsideStays directory old new
 
 -- what a call that knows its directory did, and how it went
-pub record Works (is_word : Outcome → Bool) (Does : Outcome → Files → Files → Type 0) (key : List ℕ)
-    (counts counts_after : Counts) (files files_after : Option Files) (outcome : Outcome) : Type 0 where
+pub record Works (is_word : Outcome → Bool) (Does : Outcome → Files → Files → Type 0) (key : List ℕ) (old new : DeskTold) (outcome : Outcome) : Type 0 where
   pub word : IsTrue (is_word outcome)
   pub prepared : outcome ≢ NotPrepared
   pub text : TextFits (file_name_of key) outcome
-  pub causes : HasOutcomeCauses counts counts_after outcome
-  pub files_do : WhereTold files files_after (Does outcome)
+  pub causes : HasOutcomeCauses old.counts new.counts outcome
+  pub files_do : WhereTold old.files new.files (Does outcome)
 
 -- A call that isn't said to have failed at the disk counted no fault; a file that is cleared away after a failure may fail to go.
 abbrev pub IsCalm : Bool → Counts → Counts → Outcome → Type 0
@@ -90,15 +89,14 @@ IsCalm clears old new outcome = (clears ≡ false) ⊎ (outcome ≡ Done) → ou
 -- A call that works in the directory, where one was given, makes these calls on the desk, and says how that went. Without a directory
 -- nothing is done.
 pub record Answers (is_word : Outcome → Bool) (Does : List ℕ → Outcome → Files → Files → Type 0) (Traces : List ℕ → Outcome → List Call → Type 0)
-    (clears : Bool) (directory : Option (List ℕ)) (key : List ℕ)
-    (counts counts_after : Counts) (files files_after : Option Files) (log log_after : Option Log) (result : Result Said WithoutMemory) : Type 0 where
+    (clears : Bool) (directory : Option (List ℕ)) (key : List ℕ) (old new : DeskTold) (result : Result Said WithoutMemory) : Type 0 where
   pub outcome : Outcome
   pub says : Says outcome result
   pub prepared : PreparedFits directory outcome
-  pub works : IfSome directory (λ d. Works is_word (Does d) key counts counts_after files files_after outcome)
-  pub traced : IfSome directory (λ d. Traced (Traces d outcome) log log_after)
-  pub calm : IfSome directory (λ d. IsCalm clears counts counts_after outcome)
-  pub idle : directory ≡ None → (counts_after ≡ counts) × (files_after ≡ files) × (log_after ≡ log)
+  pub works : IfSome directory (λ d. Works is_word (Does d) key old new outcome)
+  pub traced : IfSome directory (λ d. Traced (Traces d outcome) old.log new.log)
+  pub calm : IfSome directory (λ d. IsCalm clears old.counts new.counts outcome)
+  pub idle : directory ≡ None → new ≡ old
 
 -- the first value, or an empty one where there is none
 abbrev pub first_of : List (List ℕ) → List ℕ

@@ -8,7 +8,7 @@ ghost use Rattle.kit_core.specs.declared.call.Asked.TheVariants.{Prepare, Store,
 ghost use Rattle.kit_core.specs.Calls.{called, are_lines, is_line_said};
 ghost use Rattle.dir_remote.specs.Answers.{Prepares, PreparedBy, first_of};
 ghost use Rattle.dir_remote.specs.Contents.{IsMark};
-ghost use Rattle.dir_remote.specs.Desks.{CheckAnswers, RemoveAnswers, RetrieveAnswers, StoreAnswers, desk_at};
+ghost use Rattle.dir_remote.specs.Desks.{CheckAnswers, RemoveAnswers, RetrieveAnswers, StoreAnswers};
 
 use crate::outcome::{Outcome, say};
 use crate::works;
@@ -159,7 +159,7 @@ impl<D: Desk> Remote for DirRemote<D> {
         ensures calls { None ≡ called None (Store (text_of key.entry) file.now) result }
         ensures settings { ⟦<DirRemote<D> as Remote>⟧.settings self.new ≡ ⟦<DirRemote<D> as Remote>⟧.settings self.old }
         ensures text { IfOk result (λ said. IsTrue (is_line_said said)) }
-        ensures stored { StoreAnswers (desk_at D.Desk self.old.desk) (desk_at D.Desk self.new.desk) self.old.mark self.old.directory (text_of key.entry) file.now result }
+        ensures stored { StoreAnswers (D.told self.old.desk) (D.told self.new.desk) self.old.mark self.old.directory (text_of key.entry) file.now result }
         ensures mark { self.new.mark ≡ self.old.mark }
         ensures directory { self.new.directory ≡ self.old.directory }
     {
@@ -183,7 +183,7 @@ impl<D: Desk> Remote for DirRemote<D> {
         ensures calls { None ≡ called None (Retrieve (text_of key.entry) file.now) result }
         ensures settings { ⟦<DirRemote<D> as Remote>⟧.settings self.new ≡ ⟦<DirRemote<D> as Remote>⟧.settings self.old }
         ensures text { IfOk result (λ said. IsTrue (is_line_said said)) }
-        ensures retrieved { RetrieveAnswers (desk_at D.Desk self.old.desk) (desk_at D.Desk self.new.desk) self.old.directory (text_of key.entry) file.now result }
+        ensures retrieved { RetrieveAnswers (D.told self.old.desk) (D.told self.new.desk) self.old.directory (text_of key.entry) file.now result }
         ensures mark { self.new.mark ≡ self.old.mark }
         ensures directory { self.new.directory ≡ self.old.directory }
     {
@@ -205,7 +205,7 @@ impl<D: Desk> Remote for DirRemote<D> {
         ensures calls { None ≡ called None (Check (text_of key.entry)) result }
         ensures settings { ⟦<DirRemote<D> as Remote>⟧.settings self.new ≡ ⟦<DirRemote<D> as Remote>⟧.settings self.old }
         ensures text { IfOk result (λ said. IsTrue (is_line_said said)) }
-        ensures checked { CheckAnswers (desk_at D.Desk self.old.desk) (desk_at D.Desk self.new.desk) self.old.directory (text_of key.entry) result }
+        ensures checked { CheckAnswers (D.told self.old.desk) (D.told self.new.desk) self.old.directory (text_of key.entry) result }
         ensures mark { self.new.mark ≡ self.old.mark }
         ensures directory { self.new.directory ≡ self.old.directory }
     {
@@ -221,7 +221,7 @@ impl<D: Desk> Remote for DirRemote<D> {
         ensures calls { None ≡ called None (Remove (text_of key.entry)) result }
         ensures settings { ⟦<DirRemote<D> as Remote>⟧.settings self.new ≡ ⟦<DirRemote<D> as Remote>⟧.settings self.old }
         ensures text { IfOk result (λ said. IsTrue (is_line_said said)) }
-        ensures removed { RemoveAnswers (desk_at D.Desk self.old.desk) (desk_at D.Desk self.new.desk) self.old.directory (text_of key.entry) result }
+        ensures removed { RemoveAnswers (D.told self.old.desk) (D.told self.new.desk) self.old.directory (text_of key.entry) result }
         ensures mark { self.new.mark ≡ self.old.mark }
         ensures directory { self.new.directory ≡ self.old.directory }
     {

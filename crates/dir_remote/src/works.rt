@@ -1,9 +1,8 @@
 // The work of a remote in a directory that is known.
 ghost use Rattle.std.specs.Prelude.{false, is_some, IfSome};
 ghost use Rattle.ann_key.specs.KeyRefs.{text_of};
-ghost use Rattle.dir_remote.specs.Answers.{IsCalm, StoreDoes, RetrieveDoes, CheckDoes, RemoveDoes, is_of_transfer, is_of_check, is_of_removal};
+ghost use Rattle.dir_remote.specs.Answers.{IsCalm, Works, StoreDoes, RetrieveDoes, CheckDoes, RemoveDoes, is_of_transfer, is_of_check, is_of_removal};
 ghost use Rattle.dir_remote.specs.Contents.{IsMark};
-ghost use Rattle.dir_remote.specs.Desks.{WorksOn, desk_at};
 ghost use Rattle.dir_remote.specs.Traces.{Each, IsCheckCall, IsRemoveCall, IsRetrieveCall, StoreTraces, Traced};
 
 use crate::copying::{copy, give_up};
@@ -23,7 +22,7 @@ pub fn store<D: Desk>(
     file: &str,
 ) -> Outcome
     requires { IfSome mark.now IsMark }
-    ensures works { WorksOn is_of_transfer (StoreDoes directory.now (text_of key.entry) file.now) (text_of key.entry) (desk_at D.Desk desk.old) (desk_at D.Desk desk.new) result }
+    ensures works { Works is_of_transfer (StoreDoes directory.now (text_of key.entry) file.now) (text_of key.entry) (D.told desk.old) (D.told desk.new) result }
     ensures traced { Traced (StoreTraces mark.now directory.now (text_of key.entry) file.now result) (D.told desk.old).log (D.told desk.new).log }
     ensures calm { IsCalm (is_some mark.now) (D.told desk.old).counts (D.told desk.new).counts result }
 {
@@ -58,7 +57,7 @@ pub fn retrieve<D: Desk>(
     key: KeyRef<'_>,
     file: &str,
 ) -> Outcome
-    ensures works { WorksOn is_of_transfer (RetrieveDoes directory.now (text_of key.entry) file.now) (text_of key.entry) (desk_at D.Desk desk.old) (desk_at D.Desk desk.new) result }
+    ensures works { Works is_of_transfer (RetrieveDoes directory.now (text_of key.entry) file.now) (text_of key.entry) (D.told desk.old) (D.told desk.new) result }
     ensures traced { Traced (Each (IsRetrieveCall directory.now (text_of key.entry) file.now)) (D.told desk.old).log (D.told desk.new).log }
     ensures calm { IsCalm false (D.told desk.old).counts (D.told desk.new).counts result }
 {
@@ -78,7 +77,7 @@ pub fn retrieve<D: Desk>(
 
 // Whether there is a content.
 pub fn check<D: Desk>(alloc: Global, desk: &mut D, directory: &str, key: KeyRef<'_>) -> Outcome
-    ensures works { WorksOn is_of_check (CheckDoes directory.now (text_of key.entry)) (text_of key.entry) (desk_at D.Desk desk.old) (desk_at D.Desk desk.new) result }
+    ensures works { Works is_of_check (CheckDoes directory.now (text_of key.entry)) (text_of key.entry) (D.told desk.old) (D.told desk.new) result }
     ensures traced { Traced (Each (IsCheckCall directory.now (text_of key.entry))) (D.told desk.old).log (D.told desk.new).log }
     ensures calm { IsCalm false (D.told desk.old).counts (D.told desk.new).counts result }
 {
@@ -97,7 +96,7 @@ pub fn check<D: Desk>(alloc: Global, desk: &mut D, directory: &str, key: KeyRef<
 
 // Takes the content away, where there is one.
 pub fn remove<D: Desk>(alloc: Global, desk: &mut D, directory: &str, key: KeyRef<'_>) -> Outcome
-    ensures works { WorksOn is_of_removal (RemoveDoes directory.now (text_of key.entry)) (text_of key.entry) (desk_at D.Desk desk.old) (desk_at D.Desk desk.new) result }
+    ensures works { Works is_of_removal (RemoveDoes directory.now (text_of key.entry)) (text_of key.entry) (D.told desk.old) (D.told desk.new) result }
     ensures traced { Traced (Each (IsRemoveCall directory.now (text_of key.entry))) (D.told desk.old).log (D.told desk.new).log }
     ensures calm { IsCalm false (D.told desk.old).counts (D.told desk.new).counts result }
 {

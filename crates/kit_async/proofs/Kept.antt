@@ -2,10 +2,10 @@
 use Rattle.std.proofs.Common.{◌≡◌, ℕ, ◌+◌, ◌<◌, List, [], ◌∷◌, map, refl, sym, ap, subst, ◌∙◌, Bool, true, false, codes, length, Some, None, Option, get_or, arith}
 use Rattle.std.specs.List.{list_any}
 use Rattle.ann_outside.specs.Causes.{Rose}
+use Rattle.ann_outside.specs.Told.{SinkTold, SourceTold}
 use Rattle.hall.specs.Passes.{HasClosed}
 use Rattle.crew_round.proofs.Dealing.{map_map}
 use Rattle.kit_core.specs.declared.call.Call.{Call}
-use Rattle.kit_serve.specs.Turns.{Half}
 use Rattle.kit_async_model.specs.declared.entry.Entry.{Entry}
 use Rattle.kit_async_model.specs.declared.entry.Entry.TheVariants.{Say}
 use Rattle.kit_async_model.specs.declared.setup.Setup.{Setup}
@@ -21,7 +21,7 @@ use Rattle.kit_async_roles.specs.Writing.{mouth_of}
 use Rattle.kit_async.specs.declared.why.Why.{Why}
 use Rattle.kit_async.specs.declared.why.Why.TheVariants.{Eof, ReadFault, WriteFault, Bad, Memory}
 use Rattle.kit_async.specs.Endings.{AllWorked, ReaderDid, WriterDid, calls_told, why_by, why_read, why_rest, why_stopped}
-use Rattle.kit_async.specs.Served.{Gained, HasCauses, JournalValue, Serves, Tells, setup_of}
+use Rattle.kit_async.specs.Served.{Gained, HasCauses, JournalValue, Serves, Tells, tells_by}
 use Rattle.kit_async.proofs.Gathered.{roles_serve}
 use Rattle.kit_async_roles.proofs.Ends.{as_it_was as no_calls}
 use Rattle.ann_key.proofs.Lists.{appends_nothing}
@@ -84,14 +84,14 @@ settings_from h passes n (a ∷ olds) (b ∷ news) all =
     ap (λ (x : List (List ℕ)). x ∷ map (λ (c : HandValue). c.settings) news) all.0.ran.settings
     ∙ ap (λ (l : List (List (List ℕ))). a.settings ∷ l) (settings_from h passes (n + 1) olds news all.1)
 
-module _ {K S W : Type 0} (settings : K → List (List ℕ)) (calls : K → Option (List Call)) (given left : S → Option (List ℕ)) (half : S → Half) (taken : W → Option (List ℕ)) (side : W → Half)
+module _ {K S W : Type 0} (settings : K → List (List ℕ)) (calls : K → Option (List Call)) (source : S → SourceTold) (sink : W → SinkTold)
     (h : KitHall) (passes : List KitPass) (s t : S) (w v : W) (olds news : List K) (held : List ℕ) (read wrote : Option RoleWhy) (journal : JournalValue)
-    (reads : ReaderDid h passes (ear_of (given s) (left s) (half s) []) (ear_of (given t) (left t) (half t) held) read)
-    (writes : WriterDid h passes (mouth_of (taken w) (side w)) (mouth_of (taken v) (side v)) wrote)
+    (reads : ReaderDid h passes (ear_of (source s) []) (ear_of (source t) held) read)
+    (writes : WriterDid h passes (mouth_of (sink w)) (mouth_of (sink v)) wrote)
     (all : AllWorked h passes 0 (map (λ (k : K). hand_of (calls k) (settings k)) olds) (map (λ (k : K). hand_of (calls k) (settings k)) news))
     (why_is : journal.why ≡ why_stopped h.fixed journal.entries read wrote) where
   abbrev tells : S → W → List (Option (List Call)) → Tells
-  tells x y cs = record { given = given x; left = left x; taken = taken y; calls = cs }
+  tells x y cs = tells_by (source x) (sink y) cs
 
   abbrev hand : K → HandValue
   hand k = hand_of (calls k) (settings k)
@@ -102,14 +102,14 @@ module _ {K S W : Type 0} (settings : K → List (List ℕ)) (calls : K → Opti
   pub served : (setup : Setup) → HasClosed IsMadeBy MayStep h passes journal.entries h.fixed → h.start ≡ Say 0 (codes "VERSION 1") ∷ [] → h.fixed ≡ setup
       → Serves setup (tells s w (map calls olds)) (tells t v (map calls news)) journal
   served setup closed begins fixed =
-      let base = roles_serve h passes journal.entries h.fixed (ear_of (given s) (left s) (half s) []) (ear_of (given t) (left t) (half t) held) (mouth_of (taken w) (side w)) (mouth_of (taken v) (side v))
+      let base = roles_serve h passes journal.entries h.fixed (ear_of (source s) []) (ear_of (source t) held) (mouth_of (sink w)) (mouth_of (sink v))
       (map hand olds) (map hand news) read wrote closed begins refl reads writes all in
       subst (λ (x : Setup). Serves x (tells s w (map calls olds)) (tells t v (map calls news)) journal) fixed
       (subst (λ (y : Why). Serves h.fixed (tells s w (map calls olds)) (tells t v (map calls news)) (record { entries = journal.entries; why = y })) (sym why_is)
       (subst (λ (cs : List (Option (List Call))). Serves h.fixed (tells s w cs) (tells t v (map calls news)) (record { entries = journal.entries; why = why_stopped h.fixed journal.entries read wrote })) (told olds)
       (subst (λ (cs : List (Option (List Call))). Serves h.fixed (tells s w (calls_told (map hand olds))) (tells t v cs) (record { entries = journal.entries; why = why_stopped h.fixed journal.entries read wrote })) (told news) base)))
 
-  pub caused : HasCauses journal.why (half s).faults (half t).faults (side w).faults (side v).faults
+  pub caused : HasCauses journal.why (source s) (source t) (sink w) (sink v)
   caused =
       let k : Standing = standing h.fixed journal.entries in
       let f : Bool = is_finished h.fixed k in
@@ -122,7 +122,7 @@ module _ {K S W : Type 0} (settings : K → List (List ℕ)) (calls : K → Opti
         unwritten = λ never. writes.ran.sink.quiet (λ bad. never (why_is ∙ ap (λ (o : Option RoleWhy). why_by read o f k.over l) bad));
       }
 
-  pub still_open : ((half t).is_open ≡ true) × ((side v).is_open ≡ true)
+  pub still_open : ((source t).is_open ≡ true) × ((sink v).is_open ≡ true)
   still_open = (reads.ran.source.opened, writes.ran.sink.opened)
 
   pub same_settings : map settings news ≡ map settings olds
@@ -157,7 +157,7 @@ unserved setup tells journal none why_is =
     subst (λ (es : List Entry). Serves setup tells tells (record { entries = es; why = journal.why })) (sym none)
     (subst (λ (y : Why). Serves setup tells tells (record { entries = []; why = y })) (sym why_is) (nothing setup tells))
 
-pub uncaused : (why : Why) (source sink : ℕ) → why ≡ Memory → HasCauses why source source sink sink
+pub uncaused : (why : Why) (source : SourceTold) (sink : SinkTold) → why ≡ Memory → HasCauses why source source sink sink
 uncaused why source sink is = record {
   read = λ e. (let bad : Memory ≡ ReadFault = sym is ∙ e in absurd cc);
   unread = λ e. refl;

@@ -3,6 +3,7 @@ use Rattle.std.specs.Prelude.{ℕ, ◌≡◌, ◌⊎◌, ◌+◌, ◌<◌, Bool,
 use Rattle.std.specs.List.{list_any, list_all}
 use Rattle.std.specs.Io.KnownBytes.{Appends}
 use Rattle.ann_outside.specs.Causes.{Rose, StaysUntold}
+use Rattle.ann_outside.specs.Told.{SinkTold, SourceTold}
 use Rattle.annex_model.specs.Lines.{text, has_newline, Cut}
 use Rattle.kit_core.specs.declared.call.Call.{Call as RemoteCall}
 use Rattle.kit_core.specs.Descriptions.{Description}
@@ -49,11 +50,11 @@ status_of Memory = 7
 
 -- A read failed only where it stopped for that, and none where the host's lines came to an end. A write failed exactly where it stopped
 -- for that: whatever else came, a failed write counts.
-pub record HasCauses (why : Why) (source source' sink sink' : ℕ) : Type 0 where
-  pub read : why ≡ ReadFault → Rose source source'
-  pub unread : why ≡ Eof → source' ≡ source
-  pub wrote : why ≡ WriteFault → Rose sink sink'
-  pub unwritten : (why ≡ WriteFault → ⊥) → sink' ≡ sink
+pub record HasCauses (why : Why) (source source' : SourceTold) (sink sink' : SinkTold) : Type 0 where
+  pub read : why ≡ ReadFault → Rose source.faults source'.faults
+  pub unread : why ≡ Eof → source'.faults ≡ source.faults
+  pub wrote : why ≡ WriteFault → Rose sink.faults sink'.faults
+  pub unwritten : (why ≡ WriteFault → ⊥) → sink'.faults ≡ sink.faults
 
 -- ---- the journal as it is lent
 
@@ -90,6 +91,9 @@ pub record Tells : Type 0 where
   pub left : Option (List ℕ)
   pub taken : Option (List ℕ)
   pub calls : List (Option (List RemoteCall))
+
+abbrev pub tells_by : SourceTold → SinkTold → List (Option (List RemoteCall)) → Tells
+tells_by source sink calls = record { given = source.given; left = source.left; taken = sink.taken; calls = calls }
 
 -- each remote gained the calls that the journal has of it
 abbrev pub Gained : Setup → List Entry → ℕ → List (Option (List RemoteCall)) → List (Option (List RemoteCall)) → Type 0

@@ -6,21 +6,13 @@ use Rattle.kit_core.specs.declared.remote.Remote.{Ghosts as RemoteGhosts}
 use Rattle.kit_async_core.specs.Halls.{KitHall, KitPass}
 use Rattle.kit_async_roles.specs.declared.why.Why.{Why}
 use Rattle.kit_async_roles.specs.Calling.{HandValue, WorkerRan, hand_of}
-use Rattle.kit_async_roles.specs.Passes.{half_of}
 use Rattle.kit_async_roles.specs.Reading.{EarValue, ReaderRan, ear_of}
 use Rattle.kit_async_roles.specs.Writing.{MouthValue, WriterRan, mouth_of}
 use Rattle.kit_async.specs.declared.roles.Reader.{Reader}
 use Rattle.kit_async.specs.declared.roles.Worker.{Worker}
 use Rattle.kit_async.specs.declared.roles.Writer.{Writer}
 
--- ---- what is seen of what a role holds
-
-abbrev pub ear_at : {S : Type 0} → SourceGhosts S → S → List ℕ → EarValue
-ear_at g source held = ear_of (g.given source) (g.left source) (half_of (g.faults source) (g.is_open source) (g.number source)) held
-
-abbrev pub mouth_at : {W : Type 0} → SinkGhosts W → W → MouthValue
-mouth_at g sink = mouth_of (g.taken sink) (half_of (g.faults sink) (g.is_open sink) (g.number sink))
-
+-- what is seen of a remote that is called
 abbrev pub hand_at : {K : Type 0} → RemoteGhosts K → K → HandValue
 hand_at g remote = hand_of (g.calls remote) (g.settings remote)
 
@@ -39,10 +31,10 @@ WorkerWent h n p a g k q b = WorkerRan h n p q a b × (g ≡ h) × (k ≡ n)
 
 -- the same of the role that holds the pass
 abbrev pub ReaderGoes : {S R : Type 0} {g : SourceGhosts S} → Reader S R g → Reader S R g → Type 0
-ReaderGoes {g = g} a b = ReaderWent a.hall.now a.pass b.pass (ear_at g a.source a.splitter.bytes) (ear_at g b.source b.splitter.bytes) a.why b.why
+ReaderGoes {g = g} a b = ReaderWent a.hall.now a.pass b.pass (ear_of (g.told a.source) a.splitter.bytes) (ear_of (g.told b.source) b.splitter.bytes) a.why b.why
 
 abbrev pub WriterGoes : {W R : Type 0} {g : SinkGhosts W} → Writer W R g → Writer W R g → Type 0
-WriterGoes {g = g} a b = WriterWent a.hall.now a.pass b.pass (mouth_at g a.sink) (mouth_at g b.sink) a.why b.why
+WriterGoes {g = g} a b = WriterWent a.hall.now a.pass b.pass (mouth_of (g.told a.sink)) (mouth_of (g.told b.sink)) a.why b.why
 
 abbrev pub WorkerGoes : {K R : Type 0} {g : RemoteGhosts K} → Worker K R g → Worker K R g → Type 0
 WorkerGoes {g = g} a b = WorkerWent a.hall.now a.number a.pass (hand_at g a.remote) b.hall.now b.number b.pass (hand_at g b.remote)
@@ -51,7 +43,7 @@ WorkerGoes {g = g} a b = WorkerWent a.hall.now a.number a.pass (hand_at g a.remo
 
 -- it did what it promises in its hall, from the role as it began to the role as it came back
 abbrev pub ReaderRuns : {S R : Type 0} {g : SourceGhosts S} → Reader S R g → Reader S R g → Type 0
-ReaderRuns {g = g} a b = ReaderRan a.hall.now a.pass b.pass (ear_at g a.source a.splitter.bytes) (ear_at g b.source b.splitter.bytes) b.why
+ReaderRuns {g = g} a b = ReaderRan a.hall.now a.pass b.pass (ear_of (g.told a.source) a.splitter.bytes) (ear_of (g.told b.source) b.splitter.bytes) b.why
 
 abbrev pub WriterRuns : {W R : Type 0} {g : SinkGhosts W} → Writer W R g → Writer W R g → Type 0
-WriterRuns {g = g} a b = WriterRan a.hall.now a.pass b.pass (mouth_at g a.sink) (mouth_at g b.sink) b.why
+WriterRuns {g = g} a b = WriterRan a.hall.now a.pass b.pass (mouth_of (g.told a.sink)) (mouth_of (g.told b.sink)) b.why

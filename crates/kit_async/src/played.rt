@@ -5,9 +5,11 @@ ghost use Rattle.gathering.specs.Pairs.{Pairwise};
 ghost use Rattle.hall.specs.Passes.{IsPassOf};
 ghost use Rattle.kit_serve.specs.Limits.{longest_line};
 ghost use Rattle.kit_async_roles.specs.Passes.{Stands};
+ghost use Rattle.kit_async_roles.specs.Reading.{ear_of};
+ghost use Rattle.kit_async_roles.specs.Writing.{mouth_of};
 ghost use Rattle.kit_async.specs.Dealt.{AreFresh, AreNumbered};
 ghost use Rattle.kit_async.specs.Endings.{AllWorked, ReaderDid, WriterDid};
-ghost use Rattle.kit_async.specs.Turns.{ReaderGoes, ReaderRuns, WorkerGoes, WriterGoes, WriterRuns, ear_at, hand_at, mouth_at};
+ghost use Rattle.kit_async.specs.Turns.{ReaderGoes, ReaderRuns, WorkerGoes, WriterGoes, WriterRuns, hand_at};
 
 use crate::alone::serve_alone;
 use crate::dealt::{Site, deal, take_back};
@@ -245,8 +247,8 @@ pub(crate) fn play<
     requires fresh { AreFresh site.now.hall.now 1 kit.passes.items }
     requires open { ((S.told kit.source).is_open ≡ true) × ((W.told kit.sink).is_open ≡ true) }
     ensures own { All (IsPassOf site.now.hall.now) result.0.passes.items × (length result.0.passes.items ≡ length kit.passes.items) }
-    ensures read { (held : List ℕ) × ReaderDid site.now.hall.now result.0.passes.items (ear_at S.Source kit.source []) (ear_at S.Source result.0.source held) result.1.read }
-    ensures wrote { WriterDid site.now.hall.now result.0.passes.items (mouth_at W.Sink kit.sink) (mouth_at W.Sink result.0.sink) result.1.wrote }
+    ensures read { (held : List ℕ) × ReaderDid site.now.hall.now result.0.passes.items (ear_of (S.told kit.source) []) (ear_of (S.told result.0.source) held) result.1.read }
+    ensures wrote { WriterDid site.now.hall.now result.0.passes.items (mouth_of (W.told kit.sink)) (mouth_of (W.told result.0.sink)) result.1.wrote }
     ensures worked { AllWorked site.now.hall.now result.0.passes.items 0 (map (hand_at K.Remote) kit.remotes.items) (map (hand_at K.Remote) result.0.remotes.items) }
 {
     let Some((room, workers, backs)) = rooms(site.alloc, kit.remotes.len()) else {

@@ -6,7 +6,7 @@ ghost use Rattle.kit_async_model.specs.declared.setup.Setup.{Setup};
 ghost use Rattle.kit_async_model.specs.Events.{IsMadeBy, MayStep};
 ghost use Rattle.kit_async.specs.Dealt.{AreFresh};
 ghost use Rattle.kit_async.specs.Endings.{why_stopped};
-ghost use Rattle.kit_async.specs.Served.{HasCauses, Serves, described_setup, setup_of, status_of};
+ghost use Rattle.kit_async.specs.Served.{HasCauses, Serves, described_setup, setup_of, status_of, tells_by};
 
 use crate::dealt::Site;
 use crate::journal::KitJournal;
@@ -46,10 +46,10 @@ fn unserved<K: Remote + Drop, S: Source, W: Sink>(
 ) -> AsyncEnd<K, S, W>
     requires open { ((S.told source).is_open ≡ true) × ((W.told sink).is_open ≡ true) }
     ensures serves { (setup : Setup) → Serves setup
-        (record { given = (S.told source).given; left = (S.told source).left; taken = (W.told sink).taken; calls = map K.calls remotes.items })
-        (record { given = (S.told result.source).given; left = (S.told result.source).left; taken = (W.told result.sink).taken; calls = map K.calls result.remotes.items }) result.journal }
+        (tells_by (S.told source) (W.told sink) (map K.calls remotes.items))
+        (tells_by (S.told result.source) (W.told result.sink) (map K.calls result.remotes.items)) result.journal }
     ensures status { result.status ≡ status_of result.journal.why }
-    ensures causes { HasCauses result.journal.why (S.told source).faults (S.told result.source).faults (W.told sink).faults (W.told result.sink).faults }
+    ensures causes { HasCauses result.journal.why (S.told source) (S.told result.source) (W.told sink) (W.told result.sink) }
     ensures kept { (result.remotes ≡ remotes) × (result.source ≡ source) × (result.sink ≡ sink) }
 {
     AsyncEnd {
@@ -176,10 +176,10 @@ fn serve_over<
     requires remotes { (0 < vec_len remotes) × (vec_len remotes ≤ 64) }
     requires open { ((S.told source).is_open ≡ true) × ((W.told sink).is_open ≡ true) }
     ensures serves { Serves setup
-        (record { given = (S.told source).given; left = (S.told source).left; taken = (W.told sink).taken; calls = map K.calls remotes.items })
-        (record { given = (S.told result.source).given; left = (S.told result.source).left; taken = (W.told result.sink).taken; calls = map K.calls result.remotes.items }) result.journal }
+        (tells_by (S.told source) (W.told sink) (map K.calls remotes.items))
+        (tells_by (S.told result.source) (W.told result.sink) (map K.calls result.remotes.items)) result.journal }
     ensures status { result.status ≡ status_of result.journal.why }
-    ensures causes { HasCauses result.journal.why (S.told source).faults (S.told result.source).faults (W.told sink).faults (W.told result.sink).faults }
+    ensures causes { HasCauses result.journal.why (S.told source) (S.told result.source) (W.told sink) (W.told result.sink) }
     ensures open { ((S.told result.source).is_open ≡ true) × ((W.told result.sink).is_open ≡ true) }
     ensures settings { map K.settings result.remotes.items ≡ map K.settings remotes.items }
 {
@@ -212,10 +212,10 @@ pub fn serve_async_some<
     requires remotes { (0 < vec_len remotes) × (vec_len remotes ≤ 64) }
     requires open { ((S.told source).is_open ≡ true) × ((W.told sink).is_open ≡ true) }
     ensures serves { Serves (setup_of K.settings remotes.items)
-        (record { given = (S.told source).given; left = (S.told source).left; taken = (W.told sink).taken; calls = map K.calls remotes.items })
-        (record { given = (S.told result.source).given; left = (S.told result.source).left; taken = (W.told result.sink).taken; calls = map K.calls result.remotes.items }) result.journal }
+        (tells_by (S.told source) (W.told sink) (map K.calls remotes.items))
+        (tells_by (S.told result.source) (W.told result.sink) (map K.calls result.remotes.items)) result.journal }
     ensures status { result.status ≡ status_of result.journal.why }
-    ensures causes { HasCauses result.journal.why (S.told source).faults (S.told result.source).faults (W.told sink).faults (W.told result.sink).faults }
+    ensures causes { HasCauses result.journal.why (S.told source) (S.told result.source) (W.told sink) (W.told result.sink) }
     ensures open { ((S.told result.source).is_open ≡ true) × ((W.told result.sink).is_open ≡ true) }
     ensures settings { map K.settings result.remotes.items ≡ map K.settings remotes.items }
 {
@@ -238,10 +238,10 @@ pub fn serve_async<
     requires remotes { (0 < vec_len remotes) × (vec_len remotes ≤ 64) }
     requires open { ((S.told source).is_open ≡ true) × ((W.told sink).is_open ≡ true) }
     ensures serves { Serves (setup_of K.settings remotes.items)
-        (record { given = (S.told source).given; left = (S.told source).left; taken = (W.told sink).taken; calls = map K.calls remotes.items })
-        (record { given = (S.told result.source).given; left = (S.told result.source).left; taken = (W.told result.sink).taken; calls = map K.calls result.remotes.items }) result.journal }
+        (tells_by (S.told source) (W.told sink) (map K.calls remotes.items))
+        (tells_by (S.told result.source) (W.told result.sink) (map K.calls result.remotes.items)) result.journal }
     ensures status { result.status ≡ status_of result.journal.why }
-    ensures causes { HasCauses result.journal.why (S.told source).faults (S.told result.source).faults (W.told sink).faults (W.told result.sink).faults }
+    ensures causes { HasCauses result.journal.why (S.told source) (S.told result.source) (W.told sink) (W.told result.sink) }
     ensures open { ((S.told result.source).is_open ≡ true) × ((W.told result.sink).is_open ≡ true) }
     ensures settings { map K.settings result.remotes.items ≡ map K.settings remotes.items }
 {
@@ -261,10 +261,10 @@ pub fn serve_async_described<
     requires remotes { (0 < vec_len remotes) × (vec_len remotes ≤ 64) }
     requires open { ((S.told source).is_open ≡ true) × ((W.told sink).is_open ≡ true) }
     ensures serves { Serves (described_setup K.settings K.description facts.items remotes.items)
-        (record { given = (S.told source).given; left = (S.told source).left; taken = (W.told sink).taken; calls = map K.calls remotes.items })
-        (record { given = (S.told result.source).given; left = (S.told result.source).left; taken = (W.told result.sink).taken; calls = map K.calls result.remotes.items }) result.journal }
+        (tells_by (S.told source) (W.told sink) (map K.calls remotes.items))
+        (tells_by (S.told result.source) (W.told result.sink) (map K.calls result.remotes.items)) result.journal }
     ensures status { result.status ≡ status_of result.journal.why }
-    ensures causes { HasCauses result.journal.why (S.told source).faults (S.told result.source).faults (W.told sink).faults (W.told result.sink).faults }
+    ensures causes { HasCauses result.journal.why (S.told source) (S.told result.source) (W.told sink) (W.told result.sink) }
     ensures open { ((S.told result.source).is_open ≡ true) × ((W.told result.sink).is_open ≡ true) }
     ensures settings { map K.settings result.remotes.items ≡ map K.settings remotes.items }
 {

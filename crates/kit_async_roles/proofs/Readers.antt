@@ -5,12 +5,13 @@ use Rattle.std.specs.Io.KnownBytes.{Appends}
 use Rattle.std.proofs.lemmas.Bool.Decides.{nat_tests}
 use Rattle.std.proofs.lemmas.List.Folds.{list_all-append}
 use Rattle.ann_outside.specs.Causes.{Rose, StaysUntold}
+use Rattle.ann_outside.specs.Told.{SourceTold}
 use Rattle.ann_outside.proofs.Telling.{appends_both}
 use Rattle.annex_model.specs.Lines.{has_newline, Cut}
 use Rattle.hall.specs.Passes.{seen_of}
 use Rattle.wire_line.specs.HeldBytes.{first_line, has_line, TakesLine}
 use Rattle.kit_serve.specs.Limits.{longest_line, is_short, next_line}
-use Rattle.kit_serve.specs.Turns.{Half, IsSpent, Leaves, ReadsOn, end_of}
+use Rattle.kit_serve.specs.Turns.{Half, IsSpent, Leaves, ReadsOn, end_of, source_half}
 use Rattle.kit_serve.specs.declared.end.End.{End}
 use Rattle.kit_serve.specs.declared.end.End.TheVariants.{Eof as EndEof, ReadFault as EndReadFault, Bad as EndBad, WriteFault as EndWriteFault, Memory as EndMemory}
 use Rattle.kit_serve.proofs.Talks.{short_line, leaves_as, leaves_both}
@@ -122,26 +123,26 @@ hearing_reads h p q e held' k begun r = record {
 }
 
 -- nothing was read, and it ended so
-pub ran_for : (h : KitHall) (p q : KitPass) (given left : Option (List ℕ)) (half : Half) (held held' : List ℕ) (why : Option Why) → Hears h p q held held' → half.is_open ≡ true
-    → (why ≡ Some ReadFault → ⊥) → ReadingEnds why (ear_of given left half held') → ReaderRan h p q (ear_of given left half held) (ear_of given left half held') why
-ran_for h p q given left half held held' why k o none ends = record {
+pub ran_for : (h : KitHall) (p q : KitPass) (tells : SourceTold) (held held' : List ℕ) (why : Option Why) → Hears h p q held held' → tells.is_open ≡ true
+    → (why ≡ Some ReadFault → ⊥) → ReadingEnds why (ear_of tells held') → ReaderRan h p q (ear_of tells held) (ear_of tells held') why
+ran_for h p q tells held held' why k o none ends = record {
   stands = k.stands;
-  reads = hearing_reads h p q (ear_of given left half held) held' k;
-  source = still half (why ≡ Some ReadFault) o none;
+  reads = hearing_reads h p q (ear_of tells held) held' k;
+  source = still (source_half tells) (why ≡ Some ReadFault) o none;
   ends = ends;
 }
 
-pub ran_quiet : (h : KitHall) (p q : KitPass) (given left : Option (List ℕ)) (half : Half) (held held' : List ℕ) (why : Option Why) → Hears h p q held held' → half.is_open ≡ true
-    → IsQuiet why → ReaderRan h p q (ear_of given left half held) (ear_of given left half held') why
-ran_quiet h p q given left half held held' why k o quiet =
-    ran_for h p q given left half held held' why k o (no_fault why quiet) (quiet_ends why (ear_of given left half held') quiet)
+pub ran_quiet : (h : KitHall) (p q : KitPass) (tells : SourceTold) (held held' : List ℕ) (why : Option Why) → Hears h p q held held' → tells.is_open ≡ true
+    → IsQuiet why → ReaderRan h p q (ear_of tells held) (ear_of tells held') why
+ran_quiet h p q tells held held' why k o quiet =
+    ran_for h p q tells held held' why k o (no_fault why quiet) (quiet_ends why (ear_of tells held') quiet)
 
 -- a line that is too long stands first
-pub ran_long : (h : KitHall) (p q : KitPass) (given left : Option (List ℕ)) (half : Half) (held : List ℕ) (turn : Turn) → ((held : List ℕ) → Hears h p q held held) → half.is_open ≡ true
-    → turn ≡ TurnOver (Some Long) → longest_line < length (next_line held) → ReaderRan h p q (ear_of given left half held) (ear_of given left half held) (why_of turn)
-ran_long h p q given left half held turn k o e long =
-    subst (λ (t : Turn). ReaderRan h p q (ear_of given left half held) (ear_of given left half held) (why_of t)) (sym e)
-    (ran_for h p q given left half held held (Some Long) (k held) o (λ (bad : Some Long ≡ Some ReadFault). absurd cc) long)
+pub ran_long : (h : KitHall) (p q : KitPass) (tells : SourceTold) (held : List ℕ) (turn : Turn) → ((held : List ℕ) → Hears h p q held held) → tells.is_open ≡ true
+    → turn ≡ TurnOver (Some Long) → longest_line < length (next_line held) → ReaderRan h p q (ear_of tells held) (ear_of tells held) (why_of turn)
+ran_long h p q tells held turn k o e long =
+    subst (λ (t : Turn). ReaderRan h p q (ear_of tells held) (ear_of tells held) (why_of t)) (sym e)
+    (ran_for h p q tells held held (Some Long) (k held) o (λ (bad : Some Long ≡ Some ReadFault). absurd cc) long)
 
 -- a read, and then a step that heard nothing
 pub read_reads : {T : Type 0} (begun : Option (List ℕ)) (journal : List Entry) (e f : EarValue) (result : Result T End) → ReadsOn e.given f.given e.held f.held result → Reads begun journal e
@@ -154,55 +155,55 @@ read_reads begun journal e f result r k = record {
   short = k.short;
 }
 
-pub ran_read : {T : Type 0} (h : KitHall) (p q : KitPass) (given given' left left' : Option (List ℕ)) (half half' : Half) (held held' : List ℕ) (result : Result T End) (why : Option Why)
-    → Hears h p q held' held' → ReadsOn given given' held held' result → Leaves half half' (why ≡ Some ReadFault) → ReadingEnds why (ear_of given' left' half' held')
-    → ReaderRan h p q (ear_of given left half held) (ear_of given' left' half' held') why
-ran_read h p q given given' left left' half half' held held' result why k r source ends = record {
+pub ran_read : {T : Type 0} (h : KitHall) (p q : KitPass) (tells tells' : SourceTold) (held held' : List ℕ) (result : Result T End) (why : Option Why)
+    → Hears h p q held' held' → ReadsOn tells.given tells'.given held held' result → Leaves (source_half tells) (source_half tells') (why ≡ Some ReadFault) → ReadingEnds why (ear_of tells' held')
+    → ReaderRan h p q (ear_of tells held) (ear_of tells' held') why
+ran_read h p q tells tells' held held' result why k r source ends = record {
   stands = k.stands;
-  reads = λ begun j. hearing_reads h p q (ear_of given' left' half' held') held' k begun
-      (read_reads begun (seen_of p) (ear_of given left half held) (ear_of given' left' half' held') result r j);
+  reads = λ begun j. hearing_reads h p q (ear_of tells' held') held' k begun
+      (read_reads begun (seen_of p) (ear_of tells held) (ear_of tells' held') result r j);
   source = source;
   ends = ends;
 }
 
 -- it read some
-pub ran_on : {T : Type 0} (h : KitHall) (p : KitPass) (given given' left left' : Option (List ℕ)) (half half' : Half) (held held' : List ℕ) (result : Result T End) → Stands h 1 p
-    → ReadsOn given given' held held' result → Leaves half half' (end_of result ≡ Some EndReadFault) → (end_of result ≡ Some EndReadFault → ⊥)
-    → ReaderRan h p p (ear_of given left half held) (ear_of given' left' half' held') None
-ran_on h p given given' left left' half half' held held' result s r l none =
-    ran_read h p p given given' left left' half half' held held' result None (unheard h p p held' s refl) r
-    (leaves_as half half' (end_of result ≡ Some EndReadFault) (None ≡ Some ReadFault) l none (λ (bad : None ≡ Some ReadFault). absurd cc)) tt
+pub ran_on : {T : Type 0} (h : KitHall) (p : KitPass) (tells tells' : SourceTold) (held held' : List ℕ) (result : Result T End) → Stands h 1 p
+    → ReadsOn tells.given tells'.given held held' result → Leaves (source_half tells) (source_half tells') (end_of result ≡ Some EndReadFault) → (end_of result ≡ Some EndReadFault → ⊥)
+    → ReaderRan h p p (ear_of tells held) (ear_of tells' held') None
+ran_on h p tells tells' held held' result s r l none =
+    ran_read h p p tells tells' held held' result None (unheard h p p held' s refl) r
+    (leaves_as (source_half tells) (source_half tells') (end_of result ≡ Some EndReadFault) (None ≡ Some ReadFault) l none (λ (bad : None ≡ Some ReadFault). absurd cc)) tt
 
 -- the host's lines came to an end
-pub ran_eof : {T : Type 0} (h : KitHall) (p q : KitPass) (given given' left left' : Option (List ℕ)) (half half' : Half) (held held' : List ℕ) (result : Result T End) (turn : Turn)
-    → ((held : List ℕ) → Hears h p q held held) → turn ≡ TurnOver (Some Eof) → result ≡ Err EndEof → ReadsOn given given' held held' result → Leaves half half' (end_of result ≡ Some EndReadFault)
-    → held' ≡ held → has_newline held ≡ false → IsSpent (end_of result) left' → ReaderRan h p q (ear_of given left half held) (ear_of given' left' half' held') (why_of turn)
-ran_eof {T = T} h p q given given' left left' half half' held held' result turn k e is r l same none spent =
-    subst (λ (t : Turn). ReaderRan h p q (ear_of given left half held) (ear_of given' left' half' held') (why_of t)) (sym e)
-    (ran_read h p q given given' left left' half half' held held' result (Some Eof) (k held') r
-    (leaves_as half half' (end_of result ≡ Some EndReadFault) (Some Eof ≡ Some ReadFault) l
+pub ran_eof : {T : Type 0} (h : KitHall) (p q : KitPass) (tells tells' : SourceTold) (held held' : List ℕ) (result : Result T End) (turn : Turn)
+    → ((held : List ℕ) → Hears h p q held held) → turn ≡ TurnOver (Some Eof) → result ≡ Err EndEof → ReadsOn tells.given tells'.given held held' result → Leaves (source_half tells) (source_half tells') (end_of result ≡ Some EndReadFault)
+    → held' ≡ held → has_newline held ≡ false → IsSpent (end_of result) tells'.left → ReaderRan h p q (ear_of tells held) (ear_of tells' held') (why_of turn)
+ran_eof {T = T} h p q tells tells' held held' result turn k e is r l same none spent =
+    subst (λ (t : Turn). ReaderRan h p q (ear_of tells held) (ear_of tells' held') (why_of t)) (sym e)
+    (ran_read h p q tells tells' held held' result (Some Eof) (k held') r
+    (leaves_as (source_half tells) (source_half tells') (end_of result ≡ Some EndReadFault) (Some Eof ≡ Some ReadFault) l
     (λ f. let bad : Some EndEof ≡ Some EndReadFault = sym (ap (λ (x : Result T End). end_of x) is) ∙ f in absurd cc) (λ (bad : Some Eof ≡ Some ReadFault). absurd cc))
     (ap has_newline same ∙ none, spent (ap (λ (x : Result T End). end_of x) is)))
 
 -- reading failed
-pub ran_fault : {T : Type 0} (h : KitHall) (p q : KitPass) (given given' left left' : Option (List ℕ)) (half half' : Half) (held held' : List ℕ) (result : Result T End) (turn : Turn)
-    → ((held : List ℕ) → Hears h p q held held) → turn ≡ TurnOver (Some ReadFault) → result ≡ Err EndReadFault → ReadsOn given given' held held' result
-    → Leaves half half' (end_of result ≡ Some EndReadFault) → held' ≡ held → has_newline held ≡ false
-    → ReaderRan h p q (ear_of given left half held) (ear_of given' left' half' held') (why_of turn)
-ran_fault {T = T} h p q given given' left left' half half' held held' result turn k e is r l same none =
-    subst (λ (t : Turn). ReaderRan h p q (ear_of given left half held) (ear_of given' left' half' held') (why_of t)) (sym e)
-    (ran_read h p q given given' left left' half half' held held' result (Some ReadFault) (k held') r
+pub ran_fault : {T : Type 0} (h : KitHall) (p q : KitPass) (tells tells' : SourceTold) (held held' : List ℕ) (result : Result T End) (turn : Turn)
+    → ((held : List ℕ) → Hears h p q held held) → turn ≡ TurnOver (Some ReadFault) → result ≡ Err EndReadFault → ReadsOn tells.given tells'.given held held' result
+    → Leaves (source_half tells) (source_half tells') (end_of result ≡ Some EndReadFault) → held' ≡ held → has_newline held ≡ false
+    → ReaderRan h p q (ear_of tells held) (ear_of tells' held') (why_of turn)
+ran_fault {T = T} h p q tells tells' held held' result turn k e is r l same none =
+    subst (λ (t : Turn). ReaderRan h p q (ear_of tells held) (ear_of tells' held') (why_of t)) (sym e)
+    (ran_read h p q tells tells' held held' result (Some ReadFault) (k held') r
     (record { later = l.later; cause = λ f. l.cause (ap (λ (x : Result T End). end_of x) is); quiet = λ no. absurd (no refl); opened = l.opened; number = l.number })
     (ap has_newline same ∙ none))
 
 -- no memory was found for a read
-pub ran_memory : {T : Type 0} (h : KitHall) (p q : KitPass) (given given' left left' : Option (List ℕ)) (half half' : Half) (held held' : List ℕ) (result : Result T End) (turn : Turn)
-    → Hears h p q held' held' → turn ≡ TurnOver (Some Memory) → ReadsOn given given' held held' result → Leaves half half' (end_of result ≡ Some EndReadFault)
-    → (end_of result ≡ Some EndReadFault → ⊥) → ReaderRan h p q (ear_of given left half held) (ear_of given' left' half' held') (why_of turn)
-ran_memory h p q given given' left left' half half' held held' result turn k e r l none =
-    subst (λ (t : Turn). ReaderRan h p q (ear_of given left half held) (ear_of given' left' half' held') (why_of t)) (sym e)
-    (ran_read h p q given given' left left' half half' held held' result (Some Memory) k r
-    (leaves_as half half' (end_of result ≡ Some EndReadFault) (Some Memory ≡ Some ReadFault) l none (λ (bad : Some Memory ≡ Some ReadFault). absurd cc)) tt)
+pub ran_memory : {T : Type 0} (h : KitHall) (p q : KitPass) (tells tells' : SourceTold) (held held' : List ℕ) (result : Result T End) (turn : Turn)
+    → Hears h p q held' held' → turn ≡ TurnOver (Some Memory) → ReadsOn tells.given tells'.given held held' result → Leaves (source_half tells) (source_half tells') (end_of result ≡ Some EndReadFault)
+    → (end_of result ≡ Some EndReadFault → ⊥) → ReaderRan h p q (ear_of tells held) (ear_of tells' held') (why_of turn)
+ran_memory h p q tells tells' held held' result turn k e r l none =
+    subst (λ (t : Turn). ReaderRan h p q (ear_of tells held) (ear_of tells' held') (why_of t)) (sym e)
+    (ran_read h p q tells tells' held held' result (Some Memory) k r
+    (leaves_as (source_half tells) (source_half tells') (end_of result ≡ Some EndReadFault) (Some Memory ≡ Some ReadFault) l none (λ (bad : Some Memory ≡ Some ReadFault). absurd cc)) tt)
 
 -- ---- many turns
 
@@ -230,9 +231,9 @@ untold h p q v held s same t e = subst (λ (x : KitPass). Hears h x v held held)
 pub quiet_stop : (turn : Turn) → turn ≡ TurnOver (Some Memory) → IsQuiet (why_of turn)
 quiet_stop turn e = inr (ap why_of e)
 
-pub ran_stopped : (h : KitHall) (p q : KitPass) (given left : Option (List ℕ)) (half : Half) (held : List ℕ) (turn : Turn) → Hears h p q held held → half.is_open ≡ true
-    → turn ≡ TurnOver (Some Memory) → ReaderRan h p q (ear_of given left half held) (ear_of given left half held) (why_of turn)
-ran_stopped h p q given left half held turn k o e = ran_quiet h p q given left half held held (why_of turn) k o (quiet_stop turn e)
+pub ran_stopped : (h : KitHall) (p q : KitPass) (tells : SourceTold) (held : List ℕ) (turn : Turn) → Hears h p q held held → tells.is_open ≡ true
+    → turn ≡ TurnOver (Some Memory) → ReaderRan h p q (ear_of tells held) (ear_of tells held) (why_of turn)
+ran_stopped h p q tells held turn k o e = ran_quiet h p q tells held held (why_of turn) k o (quiet_stop turn e)
 
 pub read_on : {T : Type 0} (result : Result T End) (x : T) → result ≡ Ok x → end_of result ≡ Some EndReadFault → ⊥
 read_on {T = T} result x is f =
@@ -245,20 +246,20 @@ not_fault {T = T} result end is none f =
     let bad : end ≡ EndReadFault = cc in none bad
 
 -- no more was read
-pub ran_ended : {T : Type 0} (h : KitHall) (p q : KitPass) (given given' left left' : Option (List ℕ)) (half half' : Half) (held held' : List ℕ) (result : Result T End) (end : End) (turn : Turn)
-    → ((held : List ℕ) → Hears h p q held held) → turn ≡ TurnOver (Some (why_ended end)) → result ≡ Err end → ReadsOn given given' held held' result
-    → Leaves half half' (end_of result ≡ Some EndReadFault) → held' ≡ held → has_newline held ≡ false → IsSpent (end_of result) left'
-    → ReaderRan h p q (ear_of given left half held) (ear_of given' left' half' held') (why_of turn)
-ran_ended h p q given given' left left' half half' held held' result EndEof turn k e is r l same none spent =
-    ran_eof h p q given given' left left' half half' held held' result turn k e is r l same none spent
-ran_ended h p q given given' left left' half half' held held' result EndReadFault turn k e is r l same none spent =
-    ran_fault h p q given given' left left' half half' held held' result turn k e is r l same none
-ran_ended h p q given given' left left' half half' held held' result EndBad turn k e is r l same none spent =
-    ran_memory h p q given given' left left' half half' held held' result turn (k held') e r l (not_fault result EndBad is (λ (bad : EndBad ≡ EndReadFault). absurd cc))
-ran_ended h p q given given' left left' half half' held held' result EndWriteFault turn k e is r l same none spent =
-    ran_memory h p q given given' left left' half half' held held' result turn (k held') e r l (not_fault result EndWriteFault is (λ (bad : EndWriteFault ≡ EndReadFault). absurd cc))
-ran_ended h p q given given' left left' half half' held held' result EndMemory turn k e is r l same none spent =
-    ran_memory h p q given given' left left' half half' held held' result turn (k held') e r l (not_fault result EndMemory is (λ (bad : EndMemory ≡ EndReadFault). absurd cc))
+pub ran_ended : {T : Type 0} (h : KitHall) (p q : KitPass) (tells tells' : SourceTold) (held held' : List ℕ) (result : Result T End) (end : End) (turn : Turn)
+    → ((held : List ℕ) → Hears h p q held held) → turn ≡ TurnOver (Some (why_ended end)) → result ≡ Err end → ReadsOn tells.given tells'.given held held' result
+    → Leaves (source_half tells) (source_half tells') (end_of result ≡ Some EndReadFault) → held' ≡ held → has_newline held ≡ false → IsSpent (end_of result) tells'.left
+    → ReaderRan h p q (ear_of tells held) (ear_of tells' held') (why_of turn)
+ran_ended h p q tells tells' held held' result EndEof turn k e is r l same none spent =
+    ran_eof h p q tells tells' held held' result turn k e is r l same none spent
+ran_ended h p q tells tells' held held' result EndReadFault turn k e is r l same none spent =
+    ran_fault h p q tells tells' held held' result turn k e is r l same none
+ran_ended h p q tells tells' held held' result EndBad turn k e is r l same none spent =
+    ran_memory h p q tells tells' held held' result turn (k held') e r l (not_fault result EndBad is (λ (bad : EndBad ≡ EndReadFault). absurd cc))
+ran_ended h p q tells tells' held held' result EndWriteFault turn k e is r l same none spent =
+    ran_memory h p q tells tells' held held' result turn (k held') e r l (not_fault result EndWriteFault is (λ (bad : EndWriteFault ≡ EndReadFault). absurd cc))
+ran_ended h p q tells tells' held held' result EndMemory turn k e is r l same none spent =
+    ran_memory h p q tells tells' held held' result turn (k held') e r l (not_fault result EndMemory is (λ (bad : EndMemory ≡ EndReadFault). absurd cc))
 
 -- a rest changes nothing
 pub ran_rested : (h : KitHall) (p q r : KitPass) (e f : EarValue) → ReaderRan h p q e f None → r ≡ q → ReaderRan h p r e f None

@@ -1,6 +1,5 @@
 -- What a pass of a kit's hall is to the role that holds it.
-use Rattle.std.specs.Prelude.{ℕ, ◌≡◌, Bool, Option, Some, None}
-use Rattle.kit_serve.specs.Turns.{Half}
+use Rattle.std.specs.Prelude.{ℕ, ◌≡◌, Option, None}
 use Rattle.hall.specs.Passes.{IsPassOf, HasEntered, seen_of}
 use Rattle.kit_async_model.specs.declared.event.Event.{Event}
 use Rattle.kit_async_model.specs.declared.event.Reply.{Reply}
@@ -28,7 +27,3 @@ abbrev pub why_of : Turn → Option Why
 why_of Went = None
 why_of Rests = None
 why_of (Over why) = why
-
--- what is seen of a source or a sink beside its bytes
-abbrev pub half_of : ℕ → Bool → Option ℕ → Half
-half_of faults is_open number = record { faults = faults; is_open = is_open; number = number }

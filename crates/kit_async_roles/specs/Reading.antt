@@ -3,13 +3,14 @@ use Rattle.std.specs.Prelude.{ℕ, ◌≡◌, ◌<◌, ◌⊎◌, Bool, true, fa
 use Rattle.std.specs.List.{list_all}
 use Rattle.std.specs.Io.KnownBytes.{Appends}
 use Rattle.ann_outside.specs.Causes.{StaysUntold}
+use Rattle.ann_outside.specs.Told.{SourceTold}
 use Rattle.annex_model.specs.Lines.{has_newline, Cut}
 use Rattle.hall.specs.Passes.{seen_of}
 use Rattle.wire_line.specs.HeldBytes.{first_line, has_line}
 use Rattle.kit_serve.specs.Limits.{longest_line, is_short, next_line}
 use Rattle.kit_serve.specs.declared.end.End.{End}
 use Rattle.kit_serve.specs.declared.end.End.TheVariants.{Eof as EndEof, ReadFault as EndReadFault}
-use Rattle.kit_serve.specs.Turns.{Half, Leaves}
+use Rattle.kit_serve.specs.Turns.{Half, Leaves, source_half}
 use Rattle.kit_async_model.specs.declared.entry.Entry.{Entry}
 use Rattle.kit_async_model.specs.declared.event.Reply.{Reply}
 use Rattle.kit_async_model.specs.declared.event.Reply.TheVariants.{Done, Last}
@@ -29,8 +30,8 @@ pub record EarValue : Type 0 where
   pub half : Half
   pub held : List ℕ
 
-abbrev pub ear_of : Option (List ℕ) → Option (List ℕ) → Half → List ℕ → EarValue
-ear_of given left half held = record { given = given; left = left; half = half; held = held }
+abbrev pub ear_of : SourceTold → List ℕ → EarValue
+ear_of source held = record { given = source.given; left = source.left; half = source_half source; held = held }
 
 -- ---- one line
 

@@ -2,9 +2,10 @@
 use Rattle.std.specs.Prelude.{ℕ, ◌≡◌, List, [], ◌∷◌, ◌++◌, take, slice_get, Option, Some, None}
 use Rattle.std.specs.Io.KnownBytes.{Appends}
 use Rattle.ann_outside.specs.Causes.{StaysUntold}
+use Rattle.ann_outside.specs.Told.{SinkTold}
 use Rattle.annex_model.specs.Lines.{text}
 use Rattle.hall.specs.Passes.{seen_of}
-use Rattle.kit_serve.specs.Turns.{Half, Leaves}
+use Rattle.kit_serve.specs.Turns.{Half, Leaves, sink_half}
 use Rattle.kit_async_model.specs.declared.entry.Entry.{Entry}
 use Rattle.kit_async_model.specs.Lines.{count_wrotes, said_lines}
 use Rattle.kit_async_core.specs.Halls.{KitHall, KitPass}
@@ -17,8 +18,8 @@ pub record MouthValue : Type 0 where
   pub taken : Option (List ℕ)
   pub half : Half
 
-abbrev pub mouth_of : Option (List ℕ) → Half → MouthValue
-mouth_of taken half = record { taken = taken; half = half }
+abbrev pub mouth_of : SinkTold → MouthValue
+mouth_of sink = record { taken = sink.taken; half = sink_half sink }
 
 -- the lines that were said and are written
 abbrev pub written_lines : List Entry → List (List ℕ)

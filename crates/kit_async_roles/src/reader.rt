@@ -3,7 +3,7 @@ ghost use Rattle.std.specs.Prelude.{◌≡◌, ℕ, List, true, false, Some, Non
 ghost use Rattle.annex_model.specs.Lines.{has_newline};
 ghost use Rattle.wire_line.specs.HeldBytes.{first_line, has_line, TakesLine};
 ghost use Rattle.kit_serve.specs.Limits.{longest_line};
-ghost use Rattle.kit_async_roles.specs.Passes.{Stands, half_of, why_of};
+ghost use Rattle.kit_async_roles.specs.Passes.{Stands, why_of};
 ghost use Rattle.kit_async_roles.specs.declared.turn.Turn.TheVariants.{Over};
 ghost use Rattle.kit_async_roles.specs.Reading.{Hears, IsFirst, IsQuiet, ReaderRan, ear_of, is_taken, why_ended};
 
@@ -141,10 +141,7 @@ fn read<S: Source, R: Wait>(
     requires open { (S.told source.old).is_open ≡ true }
     requires limit { splitter.old.limit ≡ longest_line }
     requires none { has_newline splitter.old.bytes ≡ false }
-    ensures ran { ReaderRan hall.now pass.old pass.new
-        (ear_of (S.told source.old).given (S.told source.old).left (half_of (S.told source.old).faults (S.told source.old).is_open (S.told source.old).number) splitter.old.bytes)
-        (ear_of (S.told source.new).given (S.told source.new).left (half_of (S.told source.new).faults (S.told source.new).is_open (S.told source.new).number) splitter.new.bytes)
-        (why_of result) }
+    ensures ran { ReaderRan hall.now pass.old pass.new (ear_of (S.told source.old) splitter.old.bytes) (ear_of (S.told source.new) splitter.new.bytes) (why_of result) }
     ensures limit { splitter.new.limit ≡ longest_line }
 {
     match fill(splitter, source) {
@@ -165,10 +162,7 @@ pub fn read_turn<S: Source, R: Wait>(
     requires stands { Stands hall.now 1 pass.old }
     requires open { (S.told source.old).is_open ≡ true }
     requires limit { splitter.old.limit ≡ longest_line }
-    ensures ran { ReaderRan hall.now pass.old pass.new
-        (ear_of (S.told source.old).given (S.told source.old).left (half_of (S.told source.old).faults (S.told source.old).is_open (S.told source.old).number) splitter.old.bytes)
-        (ear_of (S.told source.new).given (S.told source.new).left (half_of (S.told source.new).faults (S.told source.new).is_open (S.told source.new).number) splitter.new.bytes)
-        (why_of result) }
+    ensures ran { ReaderRan hall.now pass.old pass.new (ear_of (S.told source.old) splitter.old.bytes) (ear_of (S.told source.new) splitter.new.bytes) (why_of result) }
     ensures limit { splitter.new.limit ≡ longest_line }
 {
     match first_of(alloc, splitter) {
@@ -191,10 +185,7 @@ pub fn listen<S: Source, R: Wait>(
     requires stands { Stands hall.now 1 pass.old }
     requires open { (S.told source.old).is_open ≡ true }
     requires limit { splitter.old.limit ≡ longest_line }
-    ensures ran { ReaderRan hall.now pass.old pass.new
-        (ear_of (S.told source.old).given (S.told source.old).left (half_of (S.told source.old).faults (S.told source.old).is_open (S.told source.old).number) splitter.old.bytes)
-        (ear_of (S.told source.new).given (S.told source.new).left (half_of (S.told source.new).faults (S.told source.new).is_open (S.told source.new).number) splitter.new.bytes)
-        result }
+    ensures ran { ReaderRan hall.now pass.old pass.new (ear_of (S.told source.old) splitter.old.bytes) (ear_of (S.told source.new) splitter.new.bytes) result }
     ensures limit { splitter.new.limit ≡ longest_line }
 {
     for _ in rt.forever() {

@@ -2,9 +2,9 @@
 ghost use Rattle.std.specs.Prelude.{◌≡◌, ◌++◌, ◌∷◌, [], ℕ, take, true, OnOk, IsErr};
 ghost use Rattle.std.specs.Io.KnownBytes.{Appends};
 ghost use Rattle.ann_outside.specs.Causes.{StaysUntold};
-ghost use Rattle.kit_serve.specs.Turns.{Leaves};
+ghost use Rattle.kit_serve.specs.Turns.{Leaves, sink_half};
 ghost use Rattle.hall.specs.Passes.{seen_of};
-ghost use Rattle.kit_async_roles.specs.Passes.{Stands, half_of, why_of};
+ghost use Rattle.kit_async_roles.specs.Passes.{Stands, why_of};
 ghost use Rattle.kit_async_roles.specs.Writing.{IsNextLine, WriterRan, mouth_of};
 
 use crate::turn::{Turn, enter, stop_for};
@@ -23,8 +23,7 @@ fn put<W: Sink>(sink: &mut W, line: &[u8]) -> Result<(), Failed>
     ensures ok { OnOk result (Appends (W.told sink.old).taken (W.told sink.new).taken (line.now ++ 10 ∷ [])) }
     ensures prefix { (n : ℕ) × Appends (W.told sink.old).taken (W.told sink.new).taken (take n (line.now ++ 10 ∷ [])) }
     ensures silent { StaysUntold (W.told sink.old).taken (W.told sink.new).taken }
-    ensures sink { Leaves (half_of (W.told sink.old).faults (W.told sink.old).is_open (W.told sink.old).number)
-        (half_of (W.told sink.new).faults (W.told sink.new).is_open (W.told sink.new).number) (IsErr result) }
+    ensures sink { Leaves (sink_half (W.told sink.old)) (sink_half (W.told sink.new)) (IsErr result) }
 {
     write_line(sink, line)?;
     sink.flush()
@@ -41,10 +40,7 @@ fn write<W: Sink, R: Wait>(
     requires stands { Stands hall.now 2 pass.old }
     requires open { (W.told sink.old).is_open ≡ true }
     requires line { IsNextLine (seen_of pass.old) line.now }
-    ensures ran { WriterRan hall.now pass.old pass.new
-        (mouth_of (W.told sink.old).taken (half_of (W.told sink.old).faults (W.told sink.old).is_open (W.told sink.old).number))
-        (mouth_of (W.told sink.new).taken (half_of (W.told sink.new).faults (W.told sink.new).is_open (W.told sink.new).number))
-        (why_of result) }
+    ensures ran { WriterRan hall.now pass.old pass.new (mouth_of (W.told sink.old)) (mouth_of (W.told sink.new)) (why_of result) }
 {
     match put(sink, line.view()) {
         Ok(()) => {
@@ -65,10 +61,7 @@ pub fn write_turn<W: Sink, R: Wait>(
 ) -> Turn
     requires stands { Stands hall.now 2 pass.old }
     requires open { (W.told sink.old).is_open ≡ true }
-    ensures ran { WriterRan hall.now pass.old pass.new
-        (mouth_of (W.told sink.old).taken (half_of (W.told sink.old).faults (W.told sink.old).is_open (W.told sink.old).number))
-        (mouth_of (W.told sink.new).taken (half_of (W.told sink.new).faults (W.told sink.new).is_open (W.told sink.new).number))
-        (why_of result) }
+    ensures ran { WriterRan hall.now pass.old pass.new (mouth_of (W.told sink.old)) (mouth_of (W.told sink.new)) (why_of result) }
 {
     match enter(rt, hall, pass, Event::Next) {
         Some(Reply::Line(line)) => write(rt, hall, pass, sink, &line),
@@ -87,10 +80,7 @@ pub fn speak<W: Sink, R: Wait>(
 ) -> Option<Why>
     requires stands { Stands hall.now 2 pass.old }
     requires open { (W.told sink.old).is_open ≡ true }
-    ensures ran { WriterRan hall.now pass.old pass.new
-        (mouth_of (W.told sink.old).taken (half_of (W.told sink.old).faults (W.told sink.old).is_open (W.told sink.old).number))
-        (mouth_of (W.told sink.new).taken (half_of (W.told sink.new).faults (W.told sink.new).is_open (W.told sink.new).number))
-        result }
+    ensures ran { WriterRan hall.now pass.old pass.new (mouth_of (W.told sink.old)) (mouth_of (W.told sink.new)) result }
 {
     for _ in rt.forever() {
         match write_turn(rt, hall, pass, sink) {

@@ -61,19 +61,19 @@ pub fn turn_over<V: Voice, S: Feed, W: Mouth>(
     source: &mut S,
     sink: &mut W,
 ) -> Result<(), End>
-    requires sink { (W.is_open sink.old ≡ true) × (W.is_flushed sink.old ≡ true) }
+    requires sink { ((W.told sink.old).is_open ≡ true) × (W.is_flushed sink.old ≡ true) }
     requires limit { splitter.old.limit ≡ longest_line }
     requires live { V.is_over voice.old ≡ false }
     ensures goes { OnOk result ((begun : V) (old : Bytes) (turns : ℕ)
-        → Talking V.spoke begun old (record { given = Some (S.heard source.old); taken = W.taken sink.old }) voice.old splitter.old.bytes turns
-        → Talking V.spoke begun old (record { given = Some (S.heard source.new); taken = W.taken sink.new }) voice.new splitter.new.bytes (turns + 1)) }
+        → Talking V.spoke begun old (record { given = Some (S.heard source.old); taken = (W.told sink.old).taken }) voice.old splitter.old.bytes turns
+        → Talking V.spoke begun old (record { given = Some (S.heard source.new); taken = (W.told sink.new).taken }) voice.new splitter.new.bytes (turns + 1)) }
     ensures ended { IfErr result (λ end. (begun : V) (old : Bytes) (turns : ℕ)
-        → Talking V.spoke begun old (record { given = Some (S.heard source.old); taken = W.taken sink.old }) voice.old splitter.old.bytes turns
-        → Talked V.spoke V.is_over V.is_foul V.lacks begun old (record { given = Some (S.heard source.new); taken = W.taken sink.new }) voice.new end) }
+        → Talking V.spoke begun old (record { given = Some (S.heard source.old); taken = (W.told sink.old).taken }) voice.old splitter.old.bytes turns
+        → Talked V.spoke V.is_over V.is_foul V.lacks begun old (record { given = Some (S.heard source.new); taken = (W.told sink.new).taken }) voice.new end) }
     ensures end { end_of result ≡ Some Eof → S.is_at_end source.new ≡ true }
     ensures next { OnOk result (V.is_over voice.new ≡ false) × (splitter.new.limit ≡ longest_line) }
     ensures stays { Steps S.stays source.old source.new }
-    ensures sink { Grows (W.taken sink.old) (W.taken sink.new) × (W.is_open sink.new ≡ true) }
+    ensures sink { Grows (W.told sink.old).taken (W.told sink.new).taken × ((W.told sink.new).is_open ≡ true) }
 {
     match splitter.first() {
         Next::Line(line) => {

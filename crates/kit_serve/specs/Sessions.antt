@@ -3,6 +3,7 @@ use Rattle.std.specs.Prelude.{ℕ, ◌≡◌, ◌<◌, ◌⊎◌, true, false, L
 use Rattle.std.specs.List.{list_all}
 use Rattle.std.specs.Io.KnownBytes.{Appends}
 use Rattle.ann_outside.specs.Causes.{StaysUntold}
+use Rattle.ann_outside.specs.Told.{SinkTold, SourceTold}
 use Rattle.annex_model.specs.Lines.{text, has_newline, Cut}
 use Rattle.annex_model.specs.Messages.{HostMessage, host_reading}
 use Rattle.kit_core.specs.declared.call.Call.{Call}
@@ -89,8 +90,8 @@ pub record Told : Type 0 where
   pub taken : Option (List ℕ)
   pub calls : Option (List Call)
 
-abbrev pub told : Option (List ℕ) → Option (List ℕ) → Option (List Call) → Told
-told given taken calls = record { given = given; taken = taken; calls = calls }
+abbrev pub told : SourceTold → SinkTold → Option (List Call) → Told
+told source sink calls = record { given = source.given; taken = sink.taken; calls = calls }
 
 pub record Gains (old new : Told) (bytes out : List ℕ) (made : List Call) : Type 0 where
   pub gave : Appends old.given new.given bytes

@@ -2,6 +2,7 @@
 use Rattle.std.specs.Prelude.{ℕ, ◌≡◌, ◌<◌, ◌≤◌, ◌⊎◌, length, OnOk, Bool, true, false, List, [], ◌∷◌, ◌++◌, Option, Some, None, option_map, Result, Ok, Err, IfSome}
 use Rattle.std.specs.Io.KnownBytes.{Appends}
 use Rattle.ann_outside.specs.Causes.{Rose, StaysUntold}
+use Rattle.ann_outside.specs.Told.{SinkTold, SourceTold}
 use Rattle.wire_line.specs.HeldBytes.{has_line, TakesPiece}
 use Rattle.kit_serve.specs.Limits.{longest_line, read_size}
 use Rattle.kit_serve.specs.declared.end.End.{End}
@@ -26,6 +27,9 @@ pub record Streams : Type 0 where
   pub taken : Option (List ℕ)
   pub flushed : Bool
 
+abbrev pub streams_of : Option (List ℕ) → SourceTold → SinkTold → Bool → Streams
+streams_of rooms source sink flushed = record { rooms = rooms; given = source.given; taken = sink.taken; flushed = flushed }
+
 -- Where a whole line is held nothing is read. Where none is, nothing is written, and at most one read is made.
 pub record Turned (old new : Streams) (held : List ℕ) : Type 0 where
   pub at_line : has_line longest_line held ≡ true → (new.rooms ≡ old.rooms) × (new.given ≡ old.given)
@@ -43,6 +47,12 @@ pub record Half : Type 0 where
   pub faults : ℕ
   pub is_open : Bool
   pub number : Option ℕ
+
+abbrev pub source_half : SourceTold → Half
+source_half told = record { faults = told.faults; is_open = told.is_open; number = told.number }
+
+abbrev pub sink_half : SinkTold → Half
+sink_half told = record { faults = told.faults; is_open = told.is_open; number = told.number }
 
 -- still open, with its number; its count rose if this end came, and else stays
 pub record Leaves (old new : Half) (fault : Type 0) : Type 0 where

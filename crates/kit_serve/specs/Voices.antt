@@ -3,6 +3,7 @@ use Rattle.std.specs.Prelude.{ℕ, ◌≡◌, ◌<◌, ◌≤◌, ◌+◌, ◌-�
 use Rattle.std.specs.List.{list_all}
 use Rattle.std.specs.Io.KnownBytes.{Appends}
 use Rattle.ann_outside.specs.Causes.{StaysUntold}
+use Rattle.ann_outside.specs.Told.{SinkTold, SourceTold}
 use Rattle.annex_model.specs.Lines.{text, has_newline, Cut}
 use Rattle.kit_core.specs.declared.kit.Step.{Step}
 use Rattle.kit_serve.specs.Limits.{longest_line, is_short, next_line}
@@ -58,6 +59,9 @@ opening_text said = text (codes "VERSION 1" ∷ said)
 pub record Bytes : Type 0 where
   pub given : Option (List ℕ)
   pub taken : Option (List ℕ)
+
+abbrev pub bytes_of : SourceTold → SinkTold → Bytes
+bytes_of source sink = record { given = source.given; taken = sink.taken }
 
 pub record Passes (old new : Bytes) (bytes out : List ℕ) : Type 0 where
   pub gave : Appends old.given new.given bytes

@@ -6,8 +6,8 @@ ghost use Rattle.wire_msg.specs.Shown.{host_shown};
 ghost use Rattle.kit_core.specs.Described.{is_about};
 ghost use Rattle.kit_core.specs.Stages.{Follows, is_free, is_last};
 ghost use Rattle.kit_serve.specs.Describing.{DescribedLacks, Describes, IsFoul, SaysAside, ServesDescribed};
-ghost use Rattle.kit_serve.specs.Turns.{Half, Leaves};
-ghost use Rattle.kit_serve.specs.Voices.{Bytes, Replies};
+ghost use Rattle.kit_serve.specs.Turns.{Leaves, sink_half, source_half};
+ghost use Rattle.kit_serve.specs.Voices.{Replies, bytes_of};
 
 use crate::serving::{Served, talk};
 use crate::voice::Voice;
@@ -119,13 +119,11 @@ pub fn serve_described<R: Remote + Describe, S: Source, W: Sink>(
 ) -> Served<R>
     requires source { (S.told source.old).is_open ≡ true }
     requires sink { (W.told sink.old).is_open ≡ true }
-    ensures serves { ServesDescribed R.settings R.calls R.description remote result.remote (record { given = (S.told source.old).given; taken = (W.told sink.old).taken })
-        (record { given = (S.told source.new).given; taken = (W.told sink.new).taken }) result.status }
+    ensures serves { ServesDescribed R.settings R.calls R.description remote result.remote (bytes_of (S.told source.old) (W.told sink.old))
+        (bytes_of (S.told source.new) (W.told sink.new)) result.status }
     ensures end { result.status ≡ 0 → IfSome (S.told source.new).left (λ bytes. bytes ≡ []) }
-    ensures source { Leaves (record { faults = (S.told source.old).faults; is_open = (S.told source.old).is_open; number = (S.told source.old).number })
-        (record { faults = (S.told source.new).faults; is_open = (S.told source.new).is_open; number = (S.told source.new).number }) (result.status ≡ 4) }
-    ensures sink { Leaves (record { faults = (W.told sink.old).faults; is_open = (W.told sink.old).is_open; number = (W.told sink.old).number })
-        (record { faults = (W.told sink.new).faults; is_open = (W.told sink.new).is_open; number = (W.told sink.new).number }) (result.status ≡ 5) }
+    ensures source { Leaves (source_half (S.told source.old)) (source_half (S.told source.new)) (result.status ≡ 4) }
+    ensures sink { Leaves (sink_half (W.told sink.old)) (sink_half (W.told sink.new)) (result.status ≡ 5) }
     ensures settings { R.settings result.remote ≡ R.settings remote }
 {
     let mut described = Described::new(alloc, remote);

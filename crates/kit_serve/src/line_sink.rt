@@ -39,18 +39,18 @@ impl<W: Mouth> Model for LineSink<W> {
 
     ghost view = { λ s. record { sink = s.sink; begun = s.begun.value; is_over = s.is_over } };
 
-    ghost invariant = { λ s. s.is_over ≡ false → (W.is_open s.sink ≡ true) × (W.is_flushed s.sink ≡ true) × TookLines (W.taken s.begun.value) (W.taken s.sink) };
+    ghost invariant = { λ s. s.is_over ≡ false → ((W.told s.sink).is_open ≡ true) × (W.is_flushed s.sink ≡ true) × TookLines (W.told s.begun.value).taken (W.told s.sink).taken };
 }
 
 // Writes the bytes and hands them on. After `Failed` the sink has taken the first of them.
 fn put<W: Mouth>(sink: &mut W, bytes: &[u8]) -> Result<(), Failed>
-    requires { W.is_open sink.old ≡ true }
-    ensures ok { OnOk result (Appends (W.taken sink.old) (W.taken sink.new) bytes.now) }
-    ensures prefix { (n : ℕ) × Appends (W.taken sink.old) (W.taken sink.new) (take n bytes.now) }
+    requires { (W.told sink.old).is_open ≡ true }
+    ensures ok { OnOk result (Appends (W.told sink.old).taken (W.told sink.new).taken bytes.now) }
+    ensures prefix { (n : ℕ) × Appends (W.told sink.old).taken (W.told sink.new).taken (take n bytes.now) }
     ensures flushed { OnOk result (W.is_flushed sink.new ≡ true) }
-    ensures silent { StaysUntold (W.taken sink.old) (W.taken sink.new) }
-    ensures cause { HasCause (W.faults sink.old) (W.faults sink.new) result }
-    ensures stays { (W.is_open sink.new ≡ true) × (W.number sink.new ≡ W.number sink.old) }
+    ensures silent { StaysUntold (W.told sink.old).taken (W.told sink.new).taken }
+    ensures cause { HasCause (W.told sink.old).faults (W.told sink.new).faults result }
+    ensures stays { ((W.told sink.new).is_open ≡ true) × ((W.told sink.new).number ≡ (W.told sink.old).number) }
 {
     write_all(sink, bytes)?;
     sink.hand_on()
@@ -69,7 +69,7 @@ fn told_line(alloc: Global, message: &RemoteMsg<'_>) -> Result<Bytes, NoMemory>
 impl<W: Mouth> LineSink<W> {
     /// That sink, which took no line yet.
     pub fn new(sink: W) -> LineSink<W>
-        requires open { W.is_open sink ≡ true }
+        requires open { (W.told sink).is_open ≡ true }
         requires flushed { W.is_flushed sink ≡ true }
         ensures { result ≡ record { sink = sink; begun = sink; is_over = false } }
     {
@@ -83,7 +83,7 @@ impl<W: Mouth> LineSink<W> {
     /// Writes whole lines and hands them on. After `Failed` the sink took the first bytes of them, and takes nothing more.
     pub fn say(&mut self, lines: &[u8]) -> Result<(), Failed>
         requires { IsTrue (ends_line lines.now) }
-        ensures says { Says W.taken W.faults self.old self.new lines.now result }
+        ensures says { Says W.told self.old self.new lines.now result }
         ensures flushed { OnOk result (W.is_flushed self.new.sink ≡ true) }
         ensures begun { self.new.begun ≡ self.old.begun }
     {
@@ -99,7 +99,7 @@ impl<W: Mouth> LineSink<W> {
     fn tell(&mut self, alloc: Global, message: &RemoteMsg<'_>) -> Result<(), NotTold>
         requires sayable { IsSayable (remote_shown message.now) }
         requires line { has_newline (remote_line (remote_shown message.now)) ≡ false }
-        ensures tells { Tells W.taken W.faults self.old self.new (remote_shown message.now) result }
+        ensures tells { Tells W.told self.old self.new (remote_shown message.now) result }
         ensures begun { self.new.begun ≡ self.old.begun }
     {
         let Ok(line) = told_line(alloc, message) else {
@@ -113,7 +113,7 @@ impl<W: Mouth> LineSink<W> {
 
     /// Says PROGRESS: so many bytes of the content are transferred.
     pub fn progress(&mut self, alloc: Global, bytes: u64) -> Result<(), NotTold>
-        ensures tells { Tells W.taken W.faults self.old self.new (Progress bytes) result }
+        ensures tells { Tells W.told self.old self.new (Progress bytes) result }
         ensures begun { self.new.begun ≡ self.old.begun }
     {
         self.tell(alloc, &RemoteMsg::Progress(bytes))
@@ -121,7 +121,7 @@ impl<W: Mouth> LineSink<W> {
 
     /// Says DEBUG, with the text's first line.
     pub fn debug(&mut self, alloc: Global, text: &[u8]) -> Result<(), NotTold>
-        ensures tells { Tells W.taken W.faults self.old self.new (Debug (before_first (λ b. b == 10) text.now)) result }
+        ensures tells { Tells W.told self.old self.new (Debug (before_first (λ b. b == 10) text.now)) result }
         ensures begun { self.new.begun ≡ self.old.begun }
     {
         self.tell(alloc, &RemoteMsg::Debug(first_line(text)))
@@ -129,7 +129,7 @@ impl<W: Mouth> LineSink<W> {
 
     /// Says INFO, with the text's first line.
     pub fn info(&mut self, alloc: Global, text: &[u8]) -> Result<(), NotTold>
-        ensures tells { Tells W.taken W.faults self.old self.new (Info (before_first (λ b. b == 10) text.now)) result }
+        ensures tells { Tells W.told self.old self.new (Info (before_first (λ b. b == 10) text.now)) result }
         ensures begun { self.new.begun ≡ self.old.begun }
     {
         self.tell(alloc, &RemoteMsg::Info(first_line(text)))
@@ -138,7 +138,7 @@ impl<W: Mouth> LineSink<W> {
     /// Says SETSTATE: the key's state is the value's first line.
     pub fn set_state(&mut self, alloc: Global, key: KeyRef<'_>, value: &[u8]) -> Result<(), NotTold>
         requires { IsTrue (is_sent_key (text_of key)) }
-        ensures tells { Tells W.taken W.faults self.old self.new (Setstate (text_of key.entry) (before_first (λ b. b == 10) value.now)) result }
+        ensures tells { Tells W.told self.old self.new (Setstate (text_of key.entry) (before_first (λ b. b == 10) value.now)) result }
         ensures begun { self.new.begun ≡ self.old.begun }
     {
         self.tell(alloc, &RemoteMsg::Setstate(key, first_line(value)))
@@ -152,7 +152,7 @@ impl<W: Mouth> LineSink<W> {
         url: &[u8],
     ) -> Result<(), NotTold>
         requires { IsTrue (is_sent_key (text_of key)) }
-        ensures tells { Tells W.taken W.faults self.old self.new (Seturlpresent (text_of key.entry) (before_first (λ b. b == 10) url.now)) result }
+        ensures tells { Tells W.told self.old self.new (Seturlpresent (text_of key.entry) (before_first (λ b. b == 10) url.now)) result }
         ensures begun { self.new.begun ≡ self.old.begun }
     {
         self.tell(alloc, &RemoteMsg::Seturlpresent(key, first_line(url)))
@@ -162,7 +162,7 @@ impl<W: Mouth> LineSink<W> {
     pub fn set_config(&mut self, alloc: Global, name: &[u8], value: &[u8]) -> Result<(), NotTold>
         requires word { IsTrue (is_word name.now) }
         requires line { IsTrue (not (has_newline name.now)) }
-        ensures tells { Tells W.taken W.faults self.old self.new (Setconfig name.now (before_first (λ b. b == 10) value.now)) result }
+        ensures tells { Tells W.told self.old self.new (Setconfig name.now (before_first (λ b. b == 10) value.now)) result }
         ensures begun { self.new.begun ≡ self.old.begun }
     {
         self.tell(alloc, &RemoteMsg::Setconfig(name, first_line(value)))

@@ -5,9 +5,9 @@ ghost use Rattle.ann_outside.specs.Causes.{Rose};
 ghost use Rattle.kit_core.specs.Stages.{is_last, Follows};
 ghost use Rattle.kit_serve.specs.Limits.{longest_line, read_size};
 ghost use Rattle.kit_serve.specs.declared.end.End.TheVariants.{Eof, Bad, ReadFault, WriteFault, Memory};
-ghost use Rattle.kit_serve.specs.Sessions.{Told, Ended, Serves, told};
-ghost use Rattle.kit_serve.specs.Turns.{end_of, Half, IsSpent, Leaves, ReadsOn, ReadsOnce, Streams, Turned};
-ghost use Rattle.kit_serve.specs.Voices.{Bytes, Hears, Talking, Talked};
+ghost use Rattle.kit_serve.specs.Sessions.{Serves, told};
+ghost use Rattle.kit_serve.specs.Turns.{end_of, sink_half, source_half, IsSpent, Leaves, ReadsOn, ReadsOnce, Turned, streams_of};
+ghost use Rattle.kit_serve.specs.Voices.{bytes_of, Bytes, Hears, Talking, Talked};
 
 use crate::end::End;
 use crate::streams::{Ear, Mouth};
@@ -43,8 +43,7 @@ pub fn hear<V: Voice, W: Mouth>(voice: &mut V, sink: &mut W, line: &[u8]) -> Res
     requires flushed { W.is_flushed sink.old ≡ true }
     ensures heard { Hears V.spoke V.is_over V.is_foul V.lacks voice.old voice.new (W.told sink.old).taken (W.told sink.new).taken line.now result }
     ensures flushed { (end_of result ≡ Some WriteFault → ⊥) → W.is_flushed sink.new ≡ true }
-    ensures sink { Leaves (record { faults = (W.told sink.old).faults; is_open = (W.told sink.old).is_open; number = (W.told sink.old).number })
-        (record { faults = (W.told sink.new).faults; is_open = (W.told sink.new).is_open; number = (W.told sink.new).number }) (end_of result ≡ Some WriteFault) }
+    ensures sink { Leaves (sink_half (W.told sink.old)) (sink_half (W.told sink.new)) (end_of result ≡ Some WriteFault) }
 {
     match voice.answer(line) {
         Ok(Some(step)) => {
@@ -69,8 +68,7 @@ pub fn fill<S: Ear>(splitter: &mut Splitter, source: &mut S) -> Result<(), End>
     ensures kept { IfErr result (λ _. splitter.new.bytes ≡ splitter.old.bytes) }
     ensures spent { IsSpent (end_of result) (S.told source.new).left }
     ensures others { (result ≡ Err Bad → ⊥) × (result ≡ Err WriteFault → ⊥) }
-    ensures source { Leaves (record { faults = (S.told source.old).faults; is_open = (S.told source.old).is_open; number = (S.told source.old).number })
-        (record { faults = (S.told source.new).faults; is_open = (S.told source.new).is_open; number = (S.told source.new).number }) (end_of result ≡ Some ReadFault) }
+    ensures source { Leaves (source_half (S.told source.old)) (source_half (S.told source.new)) (end_of result ≡ Some ReadFault) }
     ensures limit { splitter.new.limit ≡ splitter.old.limit }
 {
     if splitter.reserve(READ_SIZE).is_err() {
@@ -99,19 +97,17 @@ pub fn turn<V: Voice, S: Ear, W: Mouth>(
     requires limit { splitter.old.limit ≡ longest_line }
     requires live { V.is_over voice.old ≡ false }
     requires flushed { W.is_flushed sink.old ≡ true }
-    ensures goes { OnOk result ((begun : V) (old : Bytes) (turns : ℕ) → Talking V.spoke begun old (record { given = (S.told source.old).given; taken = (W.told sink.old).taken }) voice.old splitter.old.bytes turns
-        → Talking V.spoke begun old (record { given = (S.told source.new).given; taken = (W.told sink.new).taken }) voice.new splitter.new.bytes (turns + 1)) }
+    ensures goes { OnOk result ((begun : V) (old : Bytes) (turns : ℕ) → Talking V.spoke begun old (bytes_of (S.told source.old) (W.told sink.old)) voice.old splitter.old.bytes turns
+        → Talking V.spoke begun old (bytes_of (S.told source.new) (W.told sink.new)) voice.new splitter.new.bytes (turns + 1)) }
     ensures ended { IfErr result (λ end. (begun : V) (old : Bytes) (turns : ℕ)
-        → Talking V.spoke begun old (record { given = (S.told source.old).given; taken = (W.told sink.old).taken }) voice.old splitter.old.bytes turns
-        → Talked V.spoke V.is_over V.is_foul V.lacks begun old (record { given = (S.told source.new).given; taken = (W.told sink.new).taken }) voice.new end) }
-    ensures turned { Turned (record { rooms = S.rooms source.old; given = (S.told source.old).given; taken = (W.told sink.old).taken; flushed = W.is_flushed sink.old })
-        (record { rooms = S.rooms source.new; given = (S.told source.new).given; taken = (W.told sink.new).taken; flushed = W.is_flushed sink.new }) splitter.old.bytes }
+        → Talking V.spoke begun old (bytes_of (S.told source.old) (W.told sink.old)) voice.old splitter.old.bytes turns
+        → Talked V.spoke V.is_over V.is_foul V.lacks begun old (bytes_of (S.told source.new) (W.told sink.new)) voice.new end) }
+    ensures turned { Turned (streams_of (S.rooms source.old) (S.told source.old) (W.told sink.old) (W.is_flushed sink.old))
+        (streams_of (S.rooms source.new) (S.told source.new) (W.told sink.new) (W.is_flushed sink.new)) splitter.old.bytes }
     ensures next { ((end_of result ≡ Some WriteFault → ⊥) → W.is_flushed sink.new ≡ true) × OnOk result (V.is_over voice.new ≡ false) × (splitter.new.limit ≡ longest_line) }
     ensures spent { IsSpent (end_of result) (S.told source.new).left }
-    ensures source { Leaves (record { faults = (S.told source.old).faults; is_open = (S.told source.old).is_open; number = (S.told source.old).number })
-        (record { faults = (S.told source.new).faults; is_open = (S.told source.new).is_open; number = (S.told source.new).number }) (end_of result ≡ Some ReadFault) }
-    ensures sink { Leaves (record { faults = (W.told sink.old).faults; is_open = (W.told sink.old).is_open; number = (W.told sink.old).number })
-        (record { faults = (W.told sink.new).faults; is_open = (W.told sink.new).is_open; number = (W.told sink.new).number }) (end_of result ≡ Some WriteFault) }
+    ensures source { Leaves (source_half (S.told source.old)) (source_half (S.told source.new)) (end_of result ≡ Some ReadFault) }
+    ensures sink { Leaves (sink_half (W.told sink.old)) (sink_half (W.told sink.new)) (end_of result ≡ Some WriteFault) }
 {
     match splitter.first() {
         Next::Line(line) => {
@@ -135,14 +131,12 @@ fn converse<V: Voice, S: Ear, W: Mouth>(
     requires limit { splitter.old.limit ≡ longest_line }
     requires live { V.is_over voice.old ≡ false }
     requires flushed { W.is_flushed sink.old ≡ true }
-    ensures ended { (begun : V) (old : Bytes) → Talking V.spoke begun old (record { given = (S.told source.old).given; taken = (W.told sink.old).taken }) voice.old splitter.old.bytes 0
-        → Talked V.spoke V.is_over V.is_foul V.lacks begun old (record { given = (S.told source.new).given; taken = (W.told sink.new).taken }) voice.new result }
+    ensures ended { (begun : V) (old : Bytes) → Talking V.spoke begun old (bytes_of (S.told source.old) (W.told sink.old)) voice.old splitter.old.bytes 0
+        → Talked V.spoke V.is_over V.is_foul V.lacks begun old (bytes_of (S.told source.new) (W.told sink.new)) voice.new result }
     ensures flushed { (result ≡ WriteFault → ⊥) → W.is_flushed sink.new ≡ true }
     ensures spent { IsSpent (Some result) (S.told source.new).left }
-    ensures source { Leaves (record { faults = (S.told source.old).faults; is_open = (S.told source.old).is_open; number = (S.told source.old).number })
-        (record { faults = (S.told source.new).faults; is_open = (S.told source.new).is_open; number = (S.told source.new).number }) (result ≡ ReadFault) }
-    ensures sink { Leaves (record { faults = (W.told sink.old).faults; is_open = (W.told sink.old).is_open; number = (W.told sink.old).number })
-        (record { faults = (W.told sink.new).faults; is_open = (W.told sink.new).is_open; number = (W.told sink.new).number }) (result ≡ WriteFault) }
+    ensures source { Leaves (source_half (S.told source.old)) (source_half (S.told source.new)) (result ≡ ReadFault) }
+    ensures sink { Leaves (sink_half (W.told sink.old)) (sink_half (W.told sink.new)) (result ≡ WriteFault) }
 {
     for _ in 0..u64::MAX {
         match turn(voice, splitter, source, sink) {
@@ -163,14 +157,11 @@ pub fn talk<V: Voice, S: Ear, W: Mouth>(
     requires open { ((S.told source.old).is_open ≡ true) × ((W.told sink.old).is_open ≡ true) }
     requires live { V.is_over voice.old ≡ false }
     requires begins { V.spoke voice.old voice.old [] [] }
-    ensures ended { Talked V.spoke V.is_over V.is_foul V.lacks voice.old (record { given = (S.told source.old).given; taken = (W.told sink.old).taken })
-        (record { given = (S.told source.new).given; taken = (W.told sink.new).taken }) voice.new result }
+    ensures ended { Talked V.spoke V.is_over V.is_foul V.lacks voice.old (bytes_of (S.told source.old) (W.told sink.old)) (bytes_of (S.told source.new) (W.told sink.new)) voice.new result }
     ensures flushed { (result ≡ WriteFault → ⊥) → W.is_flushed sink.new ≡ true }
     ensures spent { IsSpent (Some result) (S.told source.new).left }
-    ensures source { Leaves (record { faults = (S.told source.old).faults; is_open = (S.told source.old).is_open; number = (S.told source.old).number })
-        (record { faults = (S.told source.new).faults; is_open = (S.told source.new).is_open; number = (S.told source.new).number }) (result ≡ ReadFault) }
-    ensures sink { Leaves (record { faults = (W.told sink.old).faults; is_open = (W.told sink.old).is_open; number = (W.told sink.old).number })
-        (record { faults = (W.told sink.new).faults; is_open = (W.told sink.new).is_open; number = (W.told sink.new).number }) (result ≡ WriteFault) }
+    ensures source { Leaves (source_half (S.told source.old)) (source_half (S.told source.new)) (result ≡ ReadFault) }
+    ensures sink { Leaves (sink_half (W.told sink.old)) (sink_half (W.told sink.new)) (result ≡ WriteFault) }
 {
     match write_version(sink) {
         Ok(()) => {
@@ -192,15 +183,10 @@ pub fn serve<R: Remote, S: Source, W: Sink>(
 ) -> Served<R>
     requires source { (S.told source.old).is_open ≡ true }
     requires sink { (W.told sink.old).is_open ≡ true }
-    ensures serves { Serves (R.settings remote) (told (S.told source.old).given (W.told sink.old).taken (R.calls remote)) (told (S.told source.new).given (W.told sink.new).taken (R.calls result.remote)) result.status }
+    ensures serves { Serves (R.settings remote) (told (S.told source.old) (W.told sink.old) (R.calls remote)) (told (S.told source.new) (W.told sink.new) (R.calls result.remote)) result.status }
     ensures end { result.status ≡ 0 → IfSome (S.told source.new).left (λ bytes. bytes ≡ []) }
-    ensures read_fault { result.status ≡ 4 → Rose (S.told source.old).faults (S.told source.new).faults }
-    ensures write_fault { result.status ≡ 5 → Rose (W.told sink.old).faults (W.told sink.new).faults }
-    ensures read_quiet { (result.status ≡ 4 → ⊥) → (S.told source.new).faults ≡ (S.told source.old).faults }
-    ensures write_quiet { (result.status ≡ 5 → ⊥) → (W.told sink.new).faults ≡ (W.told sink.old).faults }
-    ensures later { ((S.told source.old).faults ≤ (S.told source.new).faults) × ((W.told sink.old).faults ≤ (W.told sink.new).faults) }
-    ensures open { ((S.told source.new).is_open ≡ true) × ((W.told sink.new).is_open ≡ true) }
-    ensures numbers { ((S.told source.new).number ≡ (S.told source.old).number) × ((W.told sink.new).number ≡ (W.told sink.old).number) }
+    ensures source { Leaves (source_half (S.told source.old)) (source_half (S.told source.new)) (result.status ≡ 4) }
+    ensures sink { Leaves (sink_half (W.told sink.old)) (sink_half (W.told sink.new)) (result.status ≡ 5) }
     ensures settings { R.settings result.remote ≡ R.settings remote }
 {
     let mut kit = Kit::new(alloc, remote);

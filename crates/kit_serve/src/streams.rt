@@ -15,13 +15,13 @@ pub trait Ear: Source {
 
     /// Reads once.
     fn listen(&mut self, buf: &mut [u8]) -> Result<usize, Failed>
-        requires { Self.is_open self.old ≡ true }
+        requires { (Self.told self.old).is_open ≡ true }
         ensures bound { ReadsAtMost result buf.new }
-        ensures bytes { ReadConsumes (Self.left self.old) (Self.left self.new) result buf.new }
-        ensures given { WriteAppends (Self.given self.old) (Self.given self.new) result buf.new }
-        ensures silent { StaysUntold (Self.given self.old) (Self.given self.new) }
-        ensures cause { HasCause (Self.faults self.old) (Self.faults self.new) result }
-        ensures stays { (Self.is_open self.new ≡ true) × (Self.number self.new ≡ Self.number self.old) }
+        ensures bytes { ReadConsumes (Self.told self.old).left (Self.told self.new).left result buf.new }
+        ensures given { WriteAppends (Self.told self.old).given (Self.told self.new).given result buf.new }
+        ensures silent { StaysUntold (Self.told self.old).given (Self.told self.new).given }
+        ensures cause { HasCause (Self.told self.old).faults (Self.told self.new).faults result }
+        ensures stays { ((Self.told self.new).is_open ≡ true) × ((Self.told self.new).number ≡ (Self.told self.old).number) }
         ensures rooms { rooms self.new ≡ option_map (λ told. told ++ length buf.new ∷ []) (rooms self.old) };
 }
 
@@ -40,10 +40,10 @@ pub trait Mouth: Sink {
 
     /// Hands on all that was taken.
     fn hand_on(&mut self) -> Result<(), Failed>
-        requires { Self.is_open self.old ≡ true }
-        ensures bytes { Self.taken self.new ≡ Self.taken self.old }
-        ensures cause { HasCause (Self.faults self.old) (Self.faults self.new) result }
-        ensures stays { (Self.is_open self.new ≡ true) × (Self.number self.new ≡ Self.number self.old) }
+        requires { (Self.told self.old).is_open ≡ true }
+        ensures bytes { (Self.told self.new).taken ≡ (Self.told self.old).taken }
+        ensures cause { HasCause (Self.told self.old).faults (Self.told self.new).faults result }
+        ensures stays { ((Self.told self.new).is_open ≡ true) × ((Self.told self.new).number ≡ (Self.told self.old).number) }
         ensures flushed { OnOk result (is_flushed self.new ≡ true) };
 }
 

@@ -13,7 +13,7 @@ use Rattle.dir_remote.proofs.works.check.Goals as goal
 
 pub returns-in-Err-clause-works : goal.returns-in-Err-clause-works
 returns-in-Err-clause-works g c =
-    check_idle c.args.directory.now (text_of c.args.key) (g.D.Desk.told c.args.desk.now).counts (g.D.Desk.told c.args.desk.now).files c.in-Err.outcome c.in-Err.ensures
+    check_idle c.args.directory.now (text_of c.args.key) (g.D.Desk.told c.args.desk.now) c.in-Err.outcome c.in-Err.ensures
 
 pub returns-in-Ok-size-clause-works : goal.returns-in-Ok-size-clause-works
 returns-in-Ok-size-clause-works g c =

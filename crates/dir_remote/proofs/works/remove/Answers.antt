@@ -13,7 +13,7 @@ use Rattle.dir_remote.proofs.works.remove.Goals as goal
 
 pub returns-in-Err-clause-works : goal.returns-in-Err-clause-works
 returns-in-Err-clause-works g c =
-    remove_idle c.args.directory.now (text_of c.args.key) (g.D.Desk.told c.args.desk.now).counts (g.D.Desk.told c.args.desk.now).files c.in-Err.outcome c.in-Err.ensures
+    remove_idle c.args.directory.now (text_of c.args.key) (g.D.Desk.told c.args.desk.now) c.in-Err.outcome c.in-Err.ensures
 
 pub returns-in-Ok-remove-clause-works : goal.returns-in-Ok-remove-clause-works
 returns-in-Ok-remove-clause-works g c =

@@ -13,16 +13,16 @@ use Rattle.dir_remote.proofs.works.retrieve.Goals as goal
 
 pub returns-in-Err-clause-works : goal.returns-in-Err-clause-works
 returns-in-Err-clause-works g c =
-    retrieve_idle c.args.directory.now (text_of c.args.key) c.args.file.now (g.D.Desk.told c.args.desk.now).counts (g.D.Desk.told c.args.desk.now).files c.in-Err.outcome c.in-Err.ensures
+    retrieve_idle c.args.directory.now (text_of c.args.key) c.args.file.now (g.D.Desk.told c.args.desk.now) c.in-Err.outcome c.in-Err.ensures
 
 pub returns-in-Err-size-clause-works : goal.returns-in-Err-size-clause-works
 returns-in-Err-size-clause-works g c =
     let P : List ℕ → Type 0 = λ l. IsContentName c.args.directory.now (text_of c.args.key) l in
     let W : Outcome → Type 0 = λ o. Works is_of_transfer (RetrieveDoes c.args.directory.now (text_of c.args.key) c.args.file.now) (text_of c.args.key)
-    (g.D.Desk.told c.args.desk.now).counts (g.D.Desk.told c.size.new.self).counts (g.D.Desk.told c.args.desk.now).files (g.D.Desk.told c.size.new.self).files o in
+    (g.D.Desk.told c.args.desk.now) (g.D.Desk.told c.size.new.self) o in
     subst W (sym c.refusal.ensures)
     (transfer_refused (RetrieveDoes c.args.directory.now (text_of c.args.key) c.args.file.now) (text_of c.args.key)
-    (g.D.Desk.told c.args.desk.now).counts (g.D.Desk.told c.size.new.self).counts (g.D.Desk.told c.args.desk.now).files (g.D.Desk.told c.size.new.self).files c.in-Err-size.error
+    (g.D.Desk.told c.args.desk.now) (g.D.Desk.told c.size.new.self) c.in-Err-size.error
     c.in-Ok.ensures.1
     (causes_refused {T = ℕ} (g.D.Desk.told c.args.desk.now).counts (g.D.Desk.told c.size.new.self).counts c.in-Err-size.error c.in-Err-size.ensures.causes)
     (retrieve_unfound c.args.directory.now (text_of c.args.key) c.args.file.now c.view-place.result.now c.in-Err-size.error (g.D.Desk.told c.args.desk.now).files (g.D.Desk.told c.size.new.self).files
@@ -44,10 +44,10 @@ pub returns-clause-works : goal.returns-clause-works
 returns-clause-works g c =
     let P : List ℕ → Type 0 = λ l. IsContentName c.args.directory.now (text_of c.args.key) l in
     let W : Outcome → Type 0 = λ o. Works is_of_transfer (RetrieveDoes c.args.directory.now (text_of c.args.key) c.args.file.now) (text_of c.args.key)
-    (g.D.Desk.told c.args.desk.now).counts (g.D.Desk.told c.copy.new.desk).counts (g.D.Desk.told c.args.desk.now).files (g.D.Desk.told c.copy.new.desk).files o in
+    (g.D.Desk.told c.args.desk.now) (g.D.Desk.told c.copy.new.desk) o in
     subst W (sym c.refusal-in-Err-copy.ensures)
     (transfer_refused (RetrieveDoes c.args.directory.now (text_of c.args.key) c.args.file.now) (text_of c.args.key)
-    (g.D.Desk.told c.args.desk.now).counts (g.D.Desk.told c.copy.new.desk).counts (g.D.Desk.told c.args.desk.now).files (g.D.Desk.told c.copy.new.desk).files c.in-Err-copy.error
+    (g.D.Desk.told c.args.desk.now) (g.D.Desk.told c.copy.new.desk) c.in-Err-copy.error
     c.in-Ok.ensures.1
     (refused_copy false (g.D.Desk.told c.args.desk.now).counts (g.D.Desk.told c.copy.new.desk).counts c.in-Err-copy.error (behind false (g.D.Desk.told c.args.desk.now).counts (g.D.Desk.told c.size.new.self).counts (g.D.Desk.told c.copy.new.desk).counts (Err c.in-Err-copy.error) c.in_default.ensures.causes.done c.in-Err-copy.ensures.causes))
     (retrieve_uncopied c.args.directory.now (text_of c.args.key) c.args.file.now c.view-place.result.now c.in_default.field-0 c.in-Err-copy.error (g.D.Desk.told c.args.desk.now).files (g.D.Desk.told c.size.new.self).files (g.D.Desk.told c.copy.new.desk).files

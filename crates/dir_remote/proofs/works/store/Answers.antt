@@ -13,19 +13,19 @@ use Rattle.dir_remote.proofs.works.store.Goals as goal
 
 pub returns-in-Err-clause-works : goal.returns-in-Err-clause-works
 returns-in-Err-clause-works g c =
-    store_idle c.args.directory.now (text_of c.args.key) c.args.file.now (g.D.Desk.told c.args.desk.now).counts (g.D.Desk.told c.args.desk.now).files c.in-Err.outcome c.in-Err.ensures
+    store_idle c.args.directory.now (text_of c.args.key) c.args.file.now (g.D.Desk.told c.args.desk.now) c.in-Err.outcome c.in-Err.ensures
 
 pub returns-in-Err-temporary_place-clause-works : goal.returns-in-Err-temporary_place-clause-works
 returns-in-Err-temporary_place-clause-works g c =
-    store_idle c.args.directory.now (text_of c.args.key) c.args.file.now (g.D.Desk.told c.args.desk.now).counts (g.D.Desk.told c.args.desk.now).files c.in-Err-temporary_place.outcome c.in-Err-temporary_place.ensures
+    store_idle c.args.directory.now (text_of c.args.key) c.args.file.now (g.D.Desk.told c.args.desk.now) c.in-Err-temporary_place.outcome c.in-Err-temporary_place.ensures
 
 pub returns-in-Err-copy-clause-works : goal.returns-in-Err-copy-clause-works
 returns-in-Err-copy-clause-works g c =
     let W : Outcome → Type 0 = λ o. Works is_of_transfer (StoreDoes c.args.directory.now (text_of c.args.key) c.args.file.now) (text_of c.args.key)
-    (g.D.Desk.told c.args.desk.now).counts (g.D.Desk.told c.copy.new.desk).counts (g.D.Desk.told c.args.desk.now).files (g.D.Desk.told c.copy.new.desk).files o in
+    (g.D.Desk.told c.args.desk.now) (g.D.Desk.told c.copy.new.desk) o in
     subst W (sym c.refusal.ensures)
     (transfer_refused (StoreDoes c.args.directory.now (text_of c.args.key) c.args.file.now) (text_of c.args.key)
-    (g.D.Desk.told c.args.desk.now).counts (g.D.Desk.told c.copy.new.desk).counts (g.D.Desk.told c.args.desk.now).files (g.D.Desk.told c.copy.new.desk).files c.in-Err-copy.error
+    (g.D.Desk.told c.args.desk.now) (g.D.Desk.told c.copy.new.desk) c.in-Err-copy.error
     c.in-Ok.ensures.1
     (refused_copy c.is_some-alone.result (g.D.Desk.told c.args.desk.now).counts (g.D.Desk.told c.copy.new.desk).counts c.in-Err-copy.error c.in-Err-copy.ensures.causes)
     (store_uncopied c.args.mark.now c.requires c.args.directory.now (text_of c.args.key) c.args.file.now c.view-beside.result.now c.in-Err-copy.error (g.D.Desk.told c.args.desk.now).files (g.D.Desk.told c.copy.new.desk).files
@@ -47,10 +47,10 @@ pub returns-clause-works : goal.returns-clause-works
 returns-clause-works g c =
     let P : List ℕ → Type 0 = λ l. IsContentName c.args.directory.now (text_of c.args.key) l in
     let W : Outcome → Type 0 = λ o. Works is_of_transfer (StoreDoes c.args.directory.now (text_of c.args.key) c.args.file.now) (text_of c.args.key)
-    (g.D.Desk.told c.args.desk.now).counts (g.D.Desk.told c.give_up.new.desk).counts (g.D.Desk.told c.args.desk.now).files (g.D.Desk.told c.give_up.new.desk).files o in
+    (g.D.Desk.told c.args.desk.now) (g.D.Desk.told c.give_up.new.desk) o in
     subst W (sym c.refusal-in-Err-rename.ensures)
     (transfer_refused (StoreDoes c.args.directory.now (text_of c.args.key) c.args.file.now) (text_of c.args.key)
-    (g.D.Desk.told c.args.desk.now).counts (g.D.Desk.told c.give_up.new.desk).counts (g.D.Desk.told c.args.desk.now).files (g.D.Desk.told c.give_up.new.desk).files c.in-Err-rename.error
+    (g.D.Desk.told c.args.desk.now) (g.D.Desk.told c.give_up.new.desk) c.in-Err-rename.error
     c.in-Ok.ensures.1
     (causes_cleared (g.D.Desk.told c.args.desk.now).counts (g.D.Desk.told c.rename.new.self).counts (g.D.Desk.told c.give_up.new.desk).counts (refusal_of c.in-Err-rename.error)
     (causes_behind {T = Unit {0}} (g.D.Desk.told c.args.desk.now).counts (g.D.Desk.told c.copy.new.desk).counts (g.D.Desk.told c.rename.new.self).counts c.in-Err-rename.error c.in_default.ensures.causes.done c.in-Err-rename.ensures.causes)

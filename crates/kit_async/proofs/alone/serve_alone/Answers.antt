@@ -1,6 +1,5 @@
 use Rattle.std.proofs.Common.{◌∙◌, refl}
 use Rattle.kit_async_roles.specs.Calling.{hand_of}
-use Rattle.kit_async_roles.specs.Passes.{half_of}
 use Rattle.kit_async_roles.specs.Reading.{ear_of}
 use Rattle.kit_async_roles.specs.Writing.{mouth_of}
 use Rattle.kit_async.proofs.Turning.{all_both, all_can, all_none, reader_on, writer_on}
@@ -35,12 +34,12 @@ loop-preserved g c =
       can = tt;
       finite = tt;
       read =
-          reader_on c.args.reader.now.hall.now c.loop.reader.hall.now c.args.reader.now.pass c.loop.reader.pass c.turn.new.self.pass (ear_of (g.S.Source.told c.args.reader.now.source).given (g.S.Source.told c.args.reader.now.source).left (half_of (g.S.Source.told c.args.reader.now.source).faults (g.S.Source.told c.args.reader.now.source).is_open (g.S.Source.told c.args.reader.now.source).number) c.args.reader.now.splitter.bytes) (ear_of (g.S.Source.told c.loop.reader.source).given (g.S.Source.told c.loop.reader.source).left (half_of (g.S.Source.told c.loop.reader.source).faults (g.S.Source.told c.loop.reader.source).is_open (g.S.Source.told c.loop.reader.source).number) c.loop.reader.splitter.bytes) (ear_of (g.S.Source.told c.turn.new.self.source).given (g.S.Source.told c.turn.new.self.source).left (half_of (g.S.Source.told c.turn.new.self.source).faults (g.S.Source.told c.turn.new.self.source).is_open (g.S.Source.told c.turn.new.self.source).number) c.turn.new.self.splitter.bytes)
+          reader_on c.args.reader.now.hall.now c.loop.reader.hall.now c.args.reader.now.pass c.loop.reader.pass c.turn.new.self.pass (ear_of (g.S.Source.told c.args.reader.now.source) c.args.reader.now.splitter.bytes) (ear_of (g.S.Source.told c.loop.reader.source) c.loop.reader.splitter.bytes) (ear_of (g.S.Source.told c.turn.new.self.source) c.turn.new.self.splitter.bytes)
           c.args.reader.now.why c.loop.reader.why c.turn.new.self.why i.ears i.read c.turn.ensures.went;
       reader = c.turn.ensures.can;
       ears = c.turn.ensures.hall ∙ i.ears;
       wrote =
-          writer_on c.args.writer.now.hall.now c.loop.writer.hall.now c.args.writer.now.pass c.loop.writer.pass c.settle.new.writer.pass (mouth_of (g.W.Sink.told c.args.writer.now.sink).taken (half_of (g.W.Sink.told c.args.writer.now.sink).faults (g.W.Sink.told c.args.writer.now.sink).is_open (g.W.Sink.told c.args.writer.now.sink).number)) (mouth_of (g.W.Sink.told c.loop.writer.sink).taken (half_of (g.W.Sink.told c.loop.writer.sink).faults (g.W.Sink.told c.loop.writer.sink).is_open (g.W.Sink.told c.loop.writer.sink).number)) (mouth_of (g.W.Sink.told c.settle.new.writer.sink).taken (half_of (g.W.Sink.told c.settle.new.writer.sink).faults (g.W.Sink.told c.settle.new.writer.sink).is_open (g.W.Sink.told c.settle.new.writer.sink).number))
+          writer_on c.args.writer.now.hall.now c.loop.writer.hall.now c.args.writer.now.pass c.loop.writer.pass c.settle.new.writer.pass (mouth_of (g.W.Sink.told c.args.writer.now.sink)) (mouth_of (g.W.Sink.told c.loop.writer.sink)) (mouth_of (g.W.Sink.told c.settle.new.writer.sink))
           c.args.writer.now.why c.loop.writer.why c.settle.new.writer.why i.mouths i.wrote c.settle.ensures.wrote;
       writer = (c.settle.ensures.writer.0, c.settle.ensures.writer.1);
       mouths = c.settle.ensures.writer.2 ∙ i.mouths;
@@ -55,16 +54,16 @@ settle-requires-then-not-turn-clause-workers g c =
 pub returns-then-not-turn-clause-read : goal.returns-then-not-turn-clause-read
 returns-then-not-turn-clause-read g c =
     let i = c.loop.invariant in
-    reader_on c.args.reader.now.hall.now c.loop.reader.hall.now c.args.reader.now.pass c.loop.reader.pass c.turn.new.self.pass (ear_of (g.S.Source.told c.args.reader.now.source).given (g.S.Source.told c.args.reader.now.source).left (half_of (g.S.Source.told c.args.reader.now.source).faults (g.S.Source.told c.args.reader.now.source).is_open (g.S.Source.told c.args.reader.now.source).number) c.args.reader.now.splitter.bytes) (ear_of (g.S.Source.told c.loop.reader.source).given (g.S.Source.told c.loop.reader.source).left (half_of (g.S.Source.told c.loop.reader.source).faults (g.S.Source.told c.loop.reader.source).is_open (g.S.Source.told c.loop.reader.source).number) c.loop.reader.splitter.bytes) (ear_of (g.S.Source.told c.turn.new.self.source).given (g.S.Source.told c.turn.new.self.source).left (half_of (g.S.Source.told c.turn.new.self.source).faults (g.S.Source.told c.turn.new.self.source).is_open (g.S.Source.told c.turn.new.self.source).number) c.turn.new.self.splitter.bytes)
+    reader_on c.args.reader.now.hall.now c.loop.reader.hall.now c.args.reader.now.pass c.loop.reader.pass c.turn.new.self.pass (ear_of (g.S.Source.told c.args.reader.now.source) c.args.reader.now.splitter.bytes) (ear_of (g.S.Source.told c.loop.reader.source) c.loop.reader.splitter.bytes) (ear_of (g.S.Source.told c.turn.new.self.source) c.turn.new.self.splitter.bytes)
     c.args.reader.now.why c.loop.reader.why c.turn.new.self.why i.ears i.read c.turn.ensures.went
 
 pub returns-then-not-turn-clause-wrote : goal.returns-then-not-turn-clause-wrote
 returns-then-not-turn-clause-wrote g c =
     let i = c.loop.invariant in
-    let m0 = (mouth_of (g.W.Sink.told c.args.writer.now.sink).taken (half_of (g.W.Sink.told c.args.writer.now.sink).faults (g.W.Sink.told c.args.writer.now.sink).is_open (g.W.Sink.told c.args.writer.now.sink).number)) in
-    let m1 = (mouth_of (g.W.Sink.told c.loop.writer.sink).taken (half_of (g.W.Sink.told c.loop.writer.sink).faults (g.W.Sink.told c.loop.writer.sink).is_open (g.W.Sink.told c.loop.writer.sink).number)) in
-    let m2 = (mouth_of (g.W.Sink.told c.settle.new.writer.sink).taken (half_of (g.W.Sink.told c.settle.new.writer.sink).faults (g.W.Sink.told c.settle.new.writer.sink).is_open (g.W.Sink.told c.settle.new.writer.sink).number)) in
-    let m3 = (mouth_of (g.W.Sink.told c.settle-then-not-turn.new.writer.sink).taken (half_of (g.W.Sink.told c.settle-then-not-turn.new.writer.sink).faults (g.W.Sink.told c.settle-then-not-turn.new.writer.sink).is_open (g.W.Sink.told c.settle-then-not-turn.new.writer.sink).number)) in
+    let m0 = (mouth_of (g.W.Sink.told c.args.writer.now.sink)) in
+    let m1 = (mouth_of (g.W.Sink.told c.loop.writer.sink)) in
+    let m2 = (mouth_of (g.W.Sink.told c.settle.new.writer.sink)) in
+    let m3 = (mouth_of (g.W.Sink.told c.settle-then-not-turn.new.writer.sink)) in
     writer_on c.args.writer.now.hall.now c.settle.new.writer.hall.now c.args.writer.now.pass c.settle.new.writer.pass c.settle-then-not-turn.new.writer.pass m0 m2 m3
     c.args.writer.now.why c.settle.new.writer.why c.settle-then-not-turn.new.writer.why (c.settle.ensures.writer.2 ∙ i.mouths)
     (writer_on c.args.writer.now.hall.now c.loop.writer.hall.now c.args.writer.now.pass c.loop.writer.pass c.settle.new.writer.pass m0 m1 m2

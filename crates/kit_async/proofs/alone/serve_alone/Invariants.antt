@@ -2,7 +2,7 @@ use Rattle.std.proofs.Common.{◌≡◌, true}
 use Rattle.gathering.specs.Pairs.{Pairwise}
 use Rattle.kit_serve.specs.Limits.{longest_line}
 use Rattle.kit_async_roles.specs.Calling.{hand_of}
-use Rattle.kit_async_roles.specs.Passes.{Stands, half_of}
+use Rattle.kit_async_roles.specs.Passes.{Stands}
 use Rattle.kit_async_roles.specs.Reading.{ear_of}
 use Rattle.kit_async_roles.specs.Writing.{mouth_of}
 use Rattle.kit_async.specs.Turns.{ReaderWent, WorkerWent, WriterWent}
@@ -12,10 +12,10 @@ abbrev pub invariant-loop : goal.invariant-loop
 invariant-loop g l = record {
   can : (goal.iterator-loop g).can_next l.iterator';
   finite : (goal.iterator-loop g).is_finite l.iterator';
-  read : ReaderWent l.initial.reader.hall.now l.initial.reader.pass l.reader.pass (ear_of (g.S.Source.told l.initial.reader.source).given (g.S.Source.told l.initial.reader.source).left (half_of (g.S.Source.told l.initial.reader.source).faults (g.S.Source.told l.initial.reader.source).is_open (g.S.Source.told l.initial.reader.source).number) l.initial.reader.splitter.bytes) (ear_of (g.S.Source.told l.reader.source).given (g.S.Source.told l.reader.source).left (half_of (g.S.Source.told l.reader.source).faults (g.S.Source.told l.reader.source).is_open (g.S.Source.told l.reader.source).number) l.reader.splitter.bytes) l.initial.reader.why l.reader.why;
+  read : ReaderWent l.initial.reader.hall.now l.initial.reader.pass l.reader.pass (ear_of (g.S.Source.told l.initial.reader.source) l.initial.reader.splitter.bytes) (ear_of (g.S.Source.told l.reader.source) l.reader.splitter.bytes) l.initial.reader.why l.reader.why;
   reader : Stands l.reader.hall.now 1 l.reader.pass × ((g.S.Source.told l.reader.source).is_open ≡ true) × (l.reader.splitter.limit ≡ longest_line);
   ears : l.reader.hall.now ≡ l.initial.reader.hall.now;
-  wrote : WriterWent l.initial.writer.hall.now l.initial.writer.pass l.writer.pass (mouth_of (g.W.Sink.told l.initial.writer.sink).taken (half_of (g.W.Sink.told l.initial.writer.sink).faults (g.W.Sink.told l.initial.writer.sink).is_open (g.W.Sink.told l.initial.writer.sink).number)) (mouth_of (g.W.Sink.told l.writer.sink).taken (half_of (g.W.Sink.told l.writer.sink).faults (g.W.Sink.told l.writer.sink).is_open (g.W.Sink.told l.writer.sink).number)) l.initial.writer.why l.writer.why;
+  wrote : WriterWent l.initial.writer.hall.now l.initial.writer.pass l.writer.pass (mouth_of (g.W.Sink.told l.initial.writer.sink)) (mouth_of (g.W.Sink.told l.writer.sink)) l.initial.writer.why l.writer.why;
   writer : Stands l.writer.hall.now 2 l.writer.pass × ((g.W.Sink.told l.writer.sink).is_open ≡ true);
   mouths : l.writer.hall.now ≡ l.initial.writer.hall.now;
   workers : Pairwise (λ w v. WorkerWent w.hall.now w.number w.pass (hand_of (g.K.Remote.calls w.remote) (g.K.Remote.settings w.remote)) v.hall.now v.number v.pass (hand_of (g.K.Remote.calls v.remote) (g.K.Remote.settings v.remote))) l.initial.workers l.workers;

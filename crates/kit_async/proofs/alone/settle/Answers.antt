@@ -1,6 +1,5 @@
 use Rattle.std.proofs.Common.{◌∙◌, refl}
 use Rattle.kit_async_roles.specs.Calling.{hand_of}
-use Rattle.kit_async_roles.specs.Passes.{half_of}
 use Rattle.kit_async_roles.specs.Writing.{mouth_of}
 use Rattle.kit_async.proofs.Turning.{all_both, all_can, all_none, writer_on}
 use Rattle.kit_async.proofs.alone.settle.Goals as goal
@@ -28,7 +27,7 @@ loop-preserved g c =
       can = tt;
       finite = tt;
       wrote =
-          writer_on c.args.writer.now.hall.now c.loop.writer.hall.now c.args.writer.now.pass c.loop.writer.pass c.turn-wrote.new.self.pass (mouth_of (g.W.Sink.told c.args.writer.now.sink).taken (half_of (g.W.Sink.told c.args.writer.now.sink).faults (g.W.Sink.told c.args.writer.now.sink).is_open (g.W.Sink.told c.args.writer.now.sink).number)) (mouth_of (g.W.Sink.told c.loop.writer.sink).taken (half_of (g.W.Sink.told c.loop.writer.sink).faults (g.W.Sink.told c.loop.writer.sink).is_open (g.W.Sink.told c.loop.writer.sink).number)) (mouth_of (g.W.Sink.told c.turn-wrote.new.self.sink).taken (half_of (g.W.Sink.told c.turn-wrote.new.self.sink).faults (g.W.Sink.told c.turn-wrote.new.self.sink).is_open (g.W.Sink.told c.turn-wrote.new.self.sink).number))
+          writer_on c.args.writer.now.hall.now c.loop.writer.hall.now c.args.writer.now.pass c.loop.writer.pass c.turn-wrote.new.self.pass (mouth_of (g.W.Sink.told c.args.writer.now.sink)) (mouth_of (g.W.Sink.told c.loop.writer.sink)) (mouth_of (g.W.Sink.told c.turn-wrote.new.self.sink))
           c.args.writer.now.why c.loop.writer.why c.turn-wrote.new.self.why i.hall i.wrote c.turn-wrote.ensures.went;
       writer = c.turn-wrote.ensures.can;
       hall = c.turn-wrote.ensures.hall ∙ i.hall;
@@ -38,7 +37,7 @@ loop-preserved g c =
 pub returns-then-not-wrote-clause-wrote : goal.returns-then-not-wrote-clause-wrote
 returns-then-not-wrote-clause-wrote g c =
     let i = c.loop.invariant in
-    writer_on c.args.writer.now.hall.now c.loop.writer.hall.now c.args.writer.now.pass c.loop.writer.pass c.turn-wrote.new.self.pass (mouth_of (g.W.Sink.told c.args.writer.now.sink).taken (half_of (g.W.Sink.told c.args.writer.now.sink).faults (g.W.Sink.told c.args.writer.now.sink).is_open (g.W.Sink.told c.args.writer.now.sink).number)) (mouth_of (g.W.Sink.told c.loop.writer.sink).taken (half_of (g.W.Sink.told c.loop.writer.sink).faults (g.W.Sink.told c.loop.writer.sink).is_open (g.W.Sink.told c.loop.writer.sink).number)) (mouth_of (g.W.Sink.told c.turn-wrote.new.self.sink).taken (half_of (g.W.Sink.told c.turn-wrote.new.self.sink).faults (g.W.Sink.told c.turn-wrote.new.self.sink).is_open (g.W.Sink.told c.turn-wrote.new.self.sink).number))
+    writer_on c.args.writer.now.hall.now c.loop.writer.hall.now c.args.writer.now.pass c.loop.writer.pass c.turn-wrote.new.self.pass (mouth_of (g.W.Sink.told c.args.writer.now.sink)) (mouth_of (g.W.Sink.told c.loop.writer.sink)) (mouth_of (g.W.Sink.told c.turn-wrote.new.self.sink))
     c.args.writer.now.why c.loop.writer.why c.turn-wrote.new.self.why i.hall i.wrote c.turn-wrote.ensures.went
 
 pub returns-then-not-wrote-clause-workers : goal.returns-then-not-wrote-clause-workers

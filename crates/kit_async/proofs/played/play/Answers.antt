@@ -3,7 +3,7 @@ use Rattle.crew_round.proofs.Dealing.{pairwise_length}
 use Rattle.hall.specs.Passes.{IsPassOf}
 use Rattle.kit_async_core.specs.Halls.{KitHall}
 use Rattle.kit_async_roles.specs.Calling.{hand_of}
-use Rattle.kit_async_roles.specs.Passes.{Stands, half_of}
+use Rattle.kit_async_roles.specs.Passes.{Stands}
 use Rattle.kit_async_roles.specs.Reading.{ear_of}
 use Rattle.kit_async_roles.specs.Writing.{mouth_of}
 use Rattle.kit_async.specs.Dealt.{AreFresh}
@@ -15,10 +15,10 @@ pub returns-in_default-clause-own : goal.returns-in_default-clause-own
 returns-in_default-clause-own g c = (fresh_own c.args.site.now.hall.now 1 c.args.kit.passes.items c.requires.fresh, refl)
 
 pub returns-in_default-clause-read : goal.returns-in_default-clause-read
-returns-in_default-clause-read g c = ([], reader_idle c.args.site.now.hall.now c.args.kit.passes.items (length c.args.kit.remotes.items) (ear_of (g.S.Source.told c.args.kit.source).given (g.S.Source.told c.args.kit.source).left (half_of (g.S.Source.told c.args.kit.source).faults (g.S.Source.told c.args.kit.source).is_open (g.S.Source.told c.args.kit.source).number) []) c.requires.fresh (let long = c.requires.remotes.1 in omega (arith, long, c.args.kit.passes.ok.0, c.args.kit.remotes.ok.0)) c.requires.open.0)
+returns-in_default-clause-read g c = ([], reader_idle c.args.site.now.hall.now c.args.kit.passes.items (length c.args.kit.remotes.items) (ear_of (g.S.Source.told c.args.kit.source) []) c.requires.fresh (let long = c.requires.remotes.1 in omega (arith, long, c.args.kit.passes.ok.0, c.args.kit.remotes.ok.0)) c.requires.open.0)
 
 pub returns-in_default-clause-wrote : goal.returns-in_default-clause-wrote
-returns-in_default-clause-wrote g c = writer_idle c.args.site.now.hall.now c.args.kit.passes.items (length c.args.kit.remotes.items) (mouth_of (g.W.Sink.told c.args.kit.sink).taken (half_of (g.W.Sink.told c.args.kit.sink).faults (g.W.Sink.told c.args.kit.sink).is_open (g.W.Sink.told c.args.kit.sink).number)) c.requires.fresh (let long = c.requires.remotes.1 in omega (arith, long, c.args.kit.passes.ok.0, c.args.kit.remotes.ok.0)) c.requires.open.1
+returns-in_default-clause-wrote g c = writer_idle c.args.site.now.hall.now c.args.kit.passes.items (length c.args.kit.remotes.items) (mouth_of (g.W.Sink.told c.args.kit.sink)) c.requires.fresh (let long = c.requires.remotes.1 in omega (arith, long, c.args.kit.passes.ok.0, c.args.kit.remotes.ok.0)) c.requires.open.1
 
 pub returns-in_default-clause-worked : goal.returns-in_default-clause-worked
 returns-in_default-clause-worked g c = workers_idle (λ k. hand_of (g.K.Remote.calls k) (g.K.Remote.settings k)) c.args.site.now.hall.now c.args.kit.passes.items c.args.kit.remotes.items c.requires.fresh (let long = c.requires.remotes.1 in omega (arith, long, c.args.kit.passes.ok.0, c.args.kit.remotes.ok.0))
@@ -80,24 +80,24 @@ returns-clause-read g c =
     let k = c.cast-crew.ensures in
     let r = c.run-crew.ensures in
     let b = c.gather.ensures in
-    reader_back (λ s held. (ear_of (g.S.Source.told s).given (g.S.Source.told s).left (half_of (g.S.Source.told s).faults (g.S.Source.told s).is_open (g.S.Source.told s).number) held)) c.args.site.now.hall.now c.gather.result.0.passes.items c.cast-crew.result.0.ear.source c.args.kit.source c.run-crew.result.ear.source c.gather.result.0.source
+    reader_back (λ s held. ear_of (g.S.Source.told s) held) c.args.site.now.hall.now c.gather.result.0.passes.items c.cast-crew.result.0.ear.source c.args.kit.source c.run-crew.result.ear.source c.gather.result.0.source
     c.cast-crew.result.0.ear.splitter.bytes c.run-crew.result.ear.splitter.bytes c.run-crew.result.ear.why c.gather.result.1.read k.reader.0 k.reader.1 b.ends.0 b.ends.2
     (reader_did (λ w. w.hall.now) (λ w. w.number) (λ w. w.pass) (λ w. w.remote) (λ k. hand_of (g.K.Remote.calls k) (g.K.Remote.settings k)) c.args.site.now.hall.now c.args.kit.passes.items c.gather.result.0.passes.items
     c.cast-crew.result.0.ear.pass c.run-crew.result.ear.pass c.cast-crew.result.0.mouth.pass c.run-crew.result.mouth.pass c.cast-crew.result.0.workers.items c.run-crew.result.workers.items
     k.passes b.passes k.holders.2 k.numbers c.requires.fresh r.worked
-    c.cast-crew.result.0.ear.hall.now (ear_of (g.S.Source.told c.cast-crew.result.0.ear.source).given (g.S.Source.told c.cast-crew.result.0.ear.source).left (half_of (g.S.Source.told c.cast-crew.result.0.ear.source).faults (g.S.Source.told c.cast-crew.result.0.ear.source).is_open (g.S.Source.told c.cast-crew.result.0.ear.source).number) c.cast-crew.result.0.ear.splitter.bytes) (ear_of (g.S.Source.told c.run-crew.result.ear.source).given (g.S.Source.told c.run-crew.result.ear.source).left (half_of (g.S.Source.told c.run-crew.result.ear.source).faults (g.S.Source.told c.run-crew.result.ear.source).is_open (g.S.Source.told c.run-crew.result.ear.source).number) c.run-crew.result.ear.splitter.bytes) c.run-crew.result.ear.why k.holders.0 r.read)
+    c.cast-crew.result.0.ear.hall.now (ear_of (g.S.Source.told c.cast-crew.result.0.ear.source) c.cast-crew.result.0.ear.splitter.bytes) (ear_of (g.S.Source.told c.run-crew.result.ear.source) c.run-crew.result.ear.splitter.bytes) c.run-crew.result.ear.why k.holders.0 r.read)
 
 pub returns-clause-wrote : goal.returns-clause-wrote
 returns-clause-wrote g c =
     let k = c.cast-crew.ensures in
     let r = c.run-crew.ensures in
     let b = c.gather.ensures in
-    writer_back (λ s. (mouth_of (g.W.Sink.told s).taken (half_of (g.W.Sink.told s).faults (g.W.Sink.told s).is_open (g.W.Sink.told s).number))) c.args.site.now.hall.now c.gather.result.0.passes.items c.cast-crew.result.0.mouth.sink c.args.kit.sink c.run-crew.result.mouth.sink c.gather.result.0.sink
+    writer_back (λ s. mouth_of (g.W.Sink.told s)) c.args.site.now.hall.now c.gather.result.0.passes.items c.cast-crew.result.0.mouth.sink c.args.kit.sink c.run-crew.result.mouth.sink c.gather.result.0.sink
     c.run-crew.result.mouth.why c.gather.result.1.wrote k.writer.0 b.ends.1 b.ends.3
     (writer_did (λ w. w.hall.now) (λ w. w.number) (λ w. w.pass) (λ w. w.remote) (λ k. hand_of (g.K.Remote.calls k) (g.K.Remote.settings k)) c.args.site.now.hall.now c.args.kit.passes.items c.gather.result.0.passes.items
     c.cast-crew.result.0.ear.pass c.run-crew.result.ear.pass c.cast-crew.result.0.mouth.pass c.run-crew.result.mouth.pass c.cast-crew.result.0.workers.items c.run-crew.result.workers.items
     k.passes b.passes k.holders.2 k.numbers c.requires.fresh r.worked
-    c.cast-crew.result.0.mouth.hall.now (mouth_of (g.W.Sink.told c.cast-crew.result.0.mouth.sink).taken (half_of (g.W.Sink.told c.cast-crew.result.0.mouth.sink).faults (g.W.Sink.told c.cast-crew.result.0.mouth.sink).is_open (g.W.Sink.told c.cast-crew.result.0.mouth.sink).number)) (mouth_of (g.W.Sink.told c.run-crew.result.mouth.sink).taken (half_of (g.W.Sink.told c.run-crew.result.mouth.sink).faults (g.W.Sink.told c.run-crew.result.mouth.sink).is_open (g.W.Sink.told c.run-crew.result.mouth.sink).number)) c.run-crew.result.mouth.why k.holders.1 r.wrote)
+    c.cast-crew.result.0.mouth.hall.now (mouth_of (g.W.Sink.told c.cast-crew.result.0.mouth.sink)) (mouth_of (g.W.Sink.told c.run-crew.result.mouth.sink)) c.run-crew.result.mouth.why k.holders.1 r.wrote)
 
 pub returns-clause-worked : goal.returns-clause-worked
 returns-clause-worked g c =

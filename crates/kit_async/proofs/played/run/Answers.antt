@@ -7,7 +7,7 @@ use Rattle.kit_serve.specs.Limits.{longest_line}
 use Rattle.kit_async_core.specs.Halls.{KitHall}
 use Rattle.kit_async_roles.specs.declared.why.Why.{Why}
 use Rattle.kit_async_roles.specs.Calling.{hand_of}
-use Rattle.kit_async_roles.specs.Passes.{Stands, half_of}
+use Rattle.kit_async_roles.specs.Passes.{Stands}
 use Rattle.kit_async_roles.specs.Reading.{ReaderRan, ear_of}
 use Rattle.kit_async_roles.specs.Writing.{WriterRan, mouth_of}
 use Rattle.kit_async_roles.proofs.Readers.{ran_none}
@@ -24,14 +24,14 @@ pub serve_unless-requires-clause-reader : goal.serve_unless-requires-clause-read
 serve_unless-requires-clause-reader g c =
     let can = c.requires.reader in
     subst (λ e. Stands e.hall.now 1 e.pass × ((g.S.Source.told e.source).is_open ≡ true) × (e.splitter.limit ≡ longest_line)) (sym c.role-ear.ensures)
-    (came_as (λ y z. ReaderRan y.hall.now y.pass z.pass (ear_of (g.S.Source.told y.source).given (g.S.Source.told y.source).left (half_of (g.S.Source.told y.source).faults (g.S.Source.told y.source).is_open (g.S.Source.told y.source).number) y.splitter.bytes) (ear_of (g.S.Source.told z.source).given (g.S.Source.told z.source).left (half_of (g.S.Source.told z.source).faults (g.S.Source.told z.source).is_open (g.S.Source.told z.source).number) z.splitter.bytes) z.why × (z.hall.now ≡ y.hall.now) × (z.splitter.limit ≡ longest_line)) (λ e. Stands e.hall.now 1 e.pass × ((g.S.Source.told e.source).is_open ≡ true) × (e.splitter.limit ≡ longest_line)) c.args.crew.ear c.run_whole_crew-ear.result.ear c.run_whole_crew-ear.ensures.ear (can.0, can.1, can.2)
+    (came_as (λ y z. ReaderRan y.hall.now y.pass z.pass (ear_of (g.S.Source.told y.source) y.splitter.bytes) (ear_of (g.S.Source.told z.source) z.splitter.bytes) z.why × (z.hall.now ≡ y.hall.now) × (z.splitter.limit ≡ longest_line)) (λ e. Stands e.hall.now 1 e.pass × ((g.S.Source.told e.source).is_open ≡ true) × (e.splitter.limit ≡ longest_line)) c.args.crew.ear c.run_whole_crew-ear.result.ear c.run_whole_crew-ear.ensures.ear (can.0, can.1, can.2)
     (λ x r. (subst (λ (h : KitHall). Stands h 1 x.pass) (sym r.1) r.0.stands, r.0.source.opened, r.2)))
 
 pub serve_unless-requires-clause-writer : goal.serve_unless-requires-clause-writer
 serve_unless-requires-clause-writer g c =
     let can = c.requires.writer in
     subst (λ e. Stands e.hall.now 2 e.pass × ((g.W.Sink.told e.sink).is_open ≡ true)) (sym c.role-mouth.ensures)
-    (came_as (λ y z. WriterRan y.hall.now y.pass z.pass (mouth_of (g.W.Sink.told y.sink).taken (half_of (g.W.Sink.told y.sink).faults (g.W.Sink.told y.sink).is_open (g.W.Sink.told y.sink).number)) (mouth_of (g.W.Sink.told z.sink).taken (half_of (g.W.Sink.told z.sink).faults (g.W.Sink.told z.sink).is_open (g.W.Sink.told z.sink).number)) z.why × (z.hall.now ≡ y.hall.now)) (λ e. Stands e.hall.now 2 e.pass × ((g.W.Sink.told e.sink).is_open ≡ true)) c.args.crew.mouth c.run_whole_crew-ear.result.mouth c.run_whole_crew-ear.ensures.mouth (can.0, can.1)
+    (came_as (λ y z. WriterRan y.hall.now y.pass z.pass (mouth_of (g.W.Sink.told y.sink)) (mouth_of (g.W.Sink.told z.sink)) z.why × (z.hall.now ≡ y.hall.now)) (λ e. Stands e.hall.now 2 e.pass × ((g.W.Sink.told e.sink).is_open ≡ true)) c.args.crew.mouth c.run_whole_crew-ear.result.mouth c.run_whole_crew-ear.ensures.mouth (can.0, can.1)
     (λ x r. (subst (λ (h : KitHall). Stands h 2 x.pass) (sym r.1) r.0.stands, r.0.sink.opened)))
 
 pub serve_unless-requires-clause-workers : goal.serve_unless-requires-clause-workers
@@ -47,11 +47,11 @@ returns-clause-read g c =
     let role = c.role-ear.result in
     let can = c.requires.reader in
     let base =
-    subst (λ x. ReaderRan a.hall.now a.pass x.pass (ear_of (g.S.Source.told a.source).given (g.S.Source.told a.source).left (half_of (g.S.Source.told a.source).faults (g.S.Source.told a.source).is_open (g.S.Source.told a.source).number) a.splitter.bytes) (ear_of (g.S.Source.told x.source).given (g.S.Source.told x.source).left (half_of (g.S.Source.told x.source).faults (g.S.Source.told x.source).is_open (g.S.Source.told x.source).number) x.splitter.bytes) x.why × (x.hall.now ≡ a.hall.now)) (sym c.role-ear.ensures)
-    (came_as (λ y z. ReaderRan y.hall.now y.pass z.pass (ear_of (g.S.Source.told y.source).given (g.S.Source.told y.source).left (half_of (g.S.Source.told y.source).faults (g.S.Source.told y.source).is_open (g.S.Source.told y.source).number) y.splitter.bytes) (ear_of (g.S.Source.told z.source).given (g.S.Source.told z.source).left (half_of (g.S.Source.told z.source).faults (g.S.Source.told z.source).is_open (g.S.Source.told z.source).number) z.splitter.bytes) z.why × (z.hall.now ≡ y.hall.now) × (z.splitter.limit ≡ longest_line)) (λ x. ReaderRan a.hall.now a.pass x.pass (ear_of (g.S.Source.told a.source).given (g.S.Source.told a.source).left (half_of (g.S.Source.told a.source).faults (g.S.Source.told a.source).is_open (g.S.Source.told a.source).number) a.splitter.bytes) (ear_of (g.S.Source.told x.source).given (g.S.Source.told x.source).left (half_of (g.S.Source.told x.source).faults (g.S.Source.told x.source).is_open (g.S.Source.told x.source).number) x.splitter.bytes) x.why × (x.hall.now ≡ a.hall.now)) a c.run_whole_crew-ear.result.ear c.run_whole_crew-ear.ensures.ear
-    (subst (λ (w : Option Why). ReaderRan a.hall.now a.pass a.pass (ear_of (g.S.Source.told a.source).given (g.S.Source.told a.source).left (half_of (g.S.Source.told a.source).faults (g.S.Source.told a.source).is_open (g.S.Source.told a.source).number) a.splitter.bytes) (ear_of (g.S.Source.told a.source).given (g.S.Source.told a.source).left (half_of (g.S.Source.told a.source).faults (g.S.Source.told a.source).is_open (g.S.Source.told a.source).number) a.splitter.bytes) w) (sym can.3) (ran_none a.hall.now a.pass (ear_of (g.S.Source.told a.source).given (g.S.Source.told a.source).left (half_of (g.S.Source.told a.source).faults (g.S.Source.told a.source).is_open (g.S.Source.told a.source).number) a.splitter.bytes) can.0 can.1), refl)
+    subst (λ x. ReaderRan a.hall.now a.pass x.pass (ear_of (g.S.Source.told a.source) a.splitter.bytes) (ear_of (g.S.Source.told x.source) x.splitter.bytes) x.why × (x.hall.now ≡ a.hall.now)) (sym c.role-ear.ensures)
+    (came_as (λ y z. ReaderRan y.hall.now y.pass z.pass (ear_of (g.S.Source.told y.source) y.splitter.bytes) (ear_of (g.S.Source.told z.source) z.splitter.bytes) z.why × (z.hall.now ≡ y.hall.now) × (z.splitter.limit ≡ longest_line)) (λ x. ReaderRan a.hall.now a.pass x.pass (ear_of (g.S.Source.told a.source) a.splitter.bytes) (ear_of (g.S.Source.told x.source) x.splitter.bytes) x.why × (x.hall.now ≡ a.hall.now)) a c.run_whole_crew-ear.result.ear c.run_whole_crew-ear.ensures.ear
+    (subst (λ (w : Option Why). ReaderRan a.hall.now a.pass a.pass (ear_of (g.S.Source.told a.source) a.splitter.bytes) (ear_of (g.S.Source.told a.source) a.splitter.bytes) w) (sym can.3) (ran_none a.hall.now a.pass (ear_of (g.S.Source.told a.source) a.splitter.bytes) can.0 can.1), refl)
     (λ x r. (r.0, r.1))) in
-    reader_then a.hall.now role.hall.now a.pass role.pass c.serve_unless.new.reader.pass (ear_of (g.S.Source.told a.source).given (g.S.Source.told a.source).left (half_of (g.S.Source.told a.source).faults (g.S.Source.told a.source).is_open (g.S.Source.told a.source).number) a.splitter.bytes) (ear_of (g.S.Source.told role.source).given (g.S.Source.told role.source).left (half_of (g.S.Source.told role.source).faults (g.S.Source.told role.source).is_open (g.S.Source.told role.source).number) role.splitter.bytes) (ear_of (g.S.Source.told c.serve_unless.new.reader.source).given (g.S.Source.told c.serve_unless.new.reader.source).left (half_of (g.S.Source.told c.serve_unless.new.reader.source).faults (g.S.Source.told c.serve_unless.new.reader.source).is_open (g.S.Source.told c.serve_unless.new.reader.source).number) c.serve_unless.new.reader.splitter.bytes) role.why c.serve_unless.new.reader.why base.1 base.0 c.serve_unless.ensures.read
+    reader_then a.hall.now role.hall.now a.pass role.pass c.serve_unless.new.reader.pass (ear_of (g.S.Source.told a.source) a.splitter.bytes) (ear_of (g.S.Source.told role.source) role.splitter.bytes) (ear_of (g.S.Source.told c.serve_unless.new.reader.source) c.serve_unless.new.reader.splitter.bytes) role.why c.serve_unless.new.reader.why base.1 base.0 c.serve_unless.ensures.read
 
 pub returns-clause-wrote : goal.returns-clause-wrote
 returns-clause-wrote g c =
@@ -59,11 +59,11 @@ returns-clause-wrote g c =
     let role = c.role-mouth.result in
     let can = c.requires.writer in
     let base =
-    subst (λ x. WriterRan a.hall.now a.pass x.pass (mouth_of (g.W.Sink.told a.sink).taken (half_of (g.W.Sink.told a.sink).faults (g.W.Sink.told a.sink).is_open (g.W.Sink.told a.sink).number)) (mouth_of (g.W.Sink.told x.sink).taken (half_of (g.W.Sink.told x.sink).faults (g.W.Sink.told x.sink).is_open (g.W.Sink.told x.sink).number)) x.why × (x.hall.now ≡ a.hall.now)) (sym c.role-mouth.ensures)
-    (came_as (λ y z. WriterRan y.hall.now y.pass z.pass (mouth_of (g.W.Sink.told y.sink).taken (half_of (g.W.Sink.told y.sink).faults (g.W.Sink.told y.sink).is_open (g.W.Sink.told y.sink).number)) (mouth_of (g.W.Sink.told z.sink).taken (half_of (g.W.Sink.told z.sink).faults (g.W.Sink.told z.sink).is_open (g.W.Sink.told z.sink).number)) z.why × (z.hall.now ≡ y.hall.now)) (λ x. WriterRan a.hall.now a.pass x.pass (mouth_of (g.W.Sink.told a.sink).taken (half_of (g.W.Sink.told a.sink).faults (g.W.Sink.told a.sink).is_open (g.W.Sink.told a.sink).number)) (mouth_of (g.W.Sink.told x.sink).taken (half_of (g.W.Sink.told x.sink).faults (g.W.Sink.told x.sink).is_open (g.W.Sink.told x.sink).number)) x.why × (x.hall.now ≡ a.hall.now)) a c.run_whole_crew-ear.result.mouth c.run_whole_crew-ear.ensures.mouth
-    (subst (λ (w : Option Why). WriterRan a.hall.now a.pass a.pass (mouth_of (g.W.Sink.told a.sink).taken (half_of (g.W.Sink.told a.sink).faults (g.W.Sink.told a.sink).is_open (g.W.Sink.told a.sink).number)) (mouth_of (g.W.Sink.told a.sink).taken (half_of (g.W.Sink.told a.sink).faults (g.W.Sink.told a.sink).is_open (g.W.Sink.told a.sink).number)) w) (sym can.2) (wrote_none a.hall.now a.pass (mouth_of (g.W.Sink.told a.sink).taken (half_of (g.W.Sink.told a.sink).faults (g.W.Sink.told a.sink).is_open (g.W.Sink.told a.sink).number)) can.0 can.1), refl)
+    subst (λ x. WriterRan a.hall.now a.pass x.pass (mouth_of (g.W.Sink.told a.sink)) (mouth_of (g.W.Sink.told x.sink)) x.why × (x.hall.now ≡ a.hall.now)) (sym c.role-mouth.ensures)
+    (came_as (λ y z. WriterRan y.hall.now y.pass z.pass (mouth_of (g.W.Sink.told y.sink)) (mouth_of (g.W.Sink.told z.sink)) z.why × (z.hall.now ≡ y.hall.now)) (λ x. WriterRan a.hall.now a.pass x.pass (mouth_of (g.W.Sink.told a.sink)) (mouth_of (g.W.Sink.told x.sink)) x.why × (x.hall.now ≡ a.hall.now)) a c.run_whole_crew-ear.result.mouth c.run_whole_crew-ear.ensures.mouth
+    (subst (λ (w : Option Why). WriterRan a.hall.now a.pass a.pass (mouth_of (g.W.Sink.told a.sink)) (mouth_of (g.W.Sink.told a.sink)) w) (sym can.2) (wrote_none a.hall.now a.pass (mouth_of (g.W.Sink.told a.sink)) can.0 can.1), refl)
     (λ x r. (r.0, r.1))) in
-    writer_then a.hall.now role.hall.now a.pass role.pass c.serve_unless.new.writer.pass (mouth_of (g.W.Sink.told a.sink).taken (half_of (g.W.Sink.told a.sink).faults (g.W.Sink.told a.sink).is_open (g.W.Sink.told a.sink).number)) (mouth_of (g.W.Sink.told role.sink).taken (half_of (g.W.Sink.told role.sink).faults (g.W.Sink.told role.sink).is_open (g.W.Sink.told role.sink).number)) (mouth_of (g.W.Sink.told c.serve_unless.new.writer.sink).taken (half_of (g.W.Sink.told c.serve_unless.new.writer.sink).faults (g.W.Sink.told c.serve_unless.new.writer.sink).is_open (g.W.Sink.told c.serve_unless.new.writer.sink).number)) role.why c.serve_unless.new.writer.why base.1 base.0 c.serve_unless.ensures.wrote
+    writer_then a.hall.now role.hall.now a.pass role.pass c.serve_unless.new.writer.pass (mouth_of (g.W.Sink.told a.sink)) (mouth_of (g.W.Sink.told role.sink)) (mouth_of (g.W.Sink.told c.serve_unless.new.writer.sink)) role.why c.serve_unless.new.writer.why base.1 base.0 c.serve_unless.ensures.wrote
 
 pub returns-clause-worked : goal.returns-clause-worked
 returns-clause-worked g c =

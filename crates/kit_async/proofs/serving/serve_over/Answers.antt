@@ -1,6 +1,5 @@
 use Rattle.std.proofs.Common.{[], map, sym, subst}
 use Rattle.kit_async_roles.specs.Calling.{hand_of}
-use Rattle.kit_async_roles.specs.Passes.{half_of}
 use Rattle.kit_async_roles.specs.Reading.{ear_of}
 use Rattle.kit_async_roles.specs.Writing.{mouth_of}
 use Rattle.kit_async.specs.Endings.{AllWorked, ReaderDid, WriterDid}
@@ -12,10 +11,10 @@ returns-clause-serves g c =
     let p = c.play-kit.ensures in
     let e = c.end.ensures in
     let b = c.in-Ok.ensures.hall in
-    served g.K.Remote.settings g.K.Remote.calls g.S.Source.given (g.S.Source.told (λ s. (half_of (g.S.Source.told s).faults (g.S.Source.told s).is_open (g.S.Source.told s).number))).left (g.W.Sink.told (λ w. (half_of (g.W.Sink.told w).faults (g.W.Sink.told w).is_open (g.W.Sink.told w).number))).taken
+    served g.K.Remote.settings g.K.Remote.calls g.S.Source.told g.W.Sink.told
     c.in-Ok.hall c.play-kit.result.0.passes.items c.args.source c.end.result.source c.args.sink c.end.result.sink c.args.remotes.items c.end.result.remotes.items p.read.0 c.play-kit.result.1.read c.play-kit.result.1.wrote c.end.result.journal
-    (subst (λ x. ReaderDid c.in-Ok.hall c.play-kit.result.0.passes.items (ear_of (g.S.Source.told c.args.source).given (g.S.Source.told c.args.source).left (half_of (g.S.Source.told c.args.source).faults (g.S.Source.told c.args.source).is_open (g.S.Source.told c.args.source).number) []) (ear_of (g.S.Source.told x).given (g.S.Source.told x).left (half_of (g.S.Source.told x).faults (g.S.Source.told x).is_open (g.S.Source.told x).number) p.read.0) c.play-kit.result.1.read) (sym e.kept.1) p.read.1)
-    (subst (λ x. WriterDid c.in-Ok.hall c.play-kit.result.0.passes.items (mouth_of (g.W.Sink.told c.args.sink).taken (half_of (g.W.Sink.told c.args.sink).faults (g.W.Sink.told c.args.sink).is_open (g.W.Sink.told c.args.sink).number)) (mouth_of (g.W.Sink.told x).taken (half_of (g.W.Sink.told x).faults (g.W.Sink.told x).is_open (g.W.Sink.told x).number)) c.play-kit.result.1.wrote) (sym e.kept.2) p.wrote)
+    (subst (λ x. ReaderDid c.in-Ok.hall c.play-kit.result.0.passes.items (ear_of (g.S.Source.told c.args.source) []) (ear_of (g.S.Source.told x) p.read.0) c.play-kit.result.1.read) (sym e.kept.1) p.read.1)
+    (subst (λ x. WriterDid c.in-Ok.hall c.play-kit.result.0.passes.items (mouth_of (g.W.Sink.told c.args.sink)) (mouth_of (g.W.Sink.told x)) c.play-kit.result.1.wrote) (sym e.kept.2) p.wrote)
     (subst (λ x. AllWorked c.in-Ok.hall c.play-kit.result.0.passes.items 0 (map (λ k. hand_of (g.K.Remote.calls k) (g.K.Remote.settings k)) c.args.remotes.items) (map (λ k. hand_of (g.K.Remote.calls k) (g.K.Remote.settings k)) x.items)) (sym e.kept.0) p.worked)
     e.why
     c.args.setup e.closed b.0 b.1
@@ -24,10 +23,10 @@ pub returns-clause-causes : goal.returns-clause-causes
 returns-clause-causes g c =
     let p = c.play-kit.ensures in
     let e = c.end.ensures in
-    caused g.K.Remote.settings g.K.Remote.calls g.S.Source.given (g.S.Source.told (λ s. (half_of (g.S.Source.told s).faults (g.S.Source.told s).is_open (g.S.Source.told s).number))).left (g.W.Sink.told (λ w. (half_of (g.W.Sink.told w).faults (g.W.Sink.told w).is_open (g.W.Sink.told w).number))).taken
+    caused g.K.Remote.settings g.K.Remote.calls g.S.Source.told g.W.Sink.told
     c.in-Ok.hall c.play-kit.result.0.passes.items c.args.source c.end.result.source c.args.sink c.end.result.sink c.args.remotes.items c.end.result.remotes.items p.read.0 c.play-kit.result.1.read c.play-kit.result.1.wrote c.end.result.journal
-    (subst (λ x. ReaderDid c.in-Ok.hall c.play-kit.result.0.passes.items (ear_of (g.S.Source.told c.args.source).given (g.S.Source.told c.args.source).left (half_of (g.S.Source.told c.args.source).faults (g.S.Source.told c.args.source).is_open (g.S.Source.told c.args.source).number) []) (ear_of (g.S.Source.told x).given (g.S.Source.told x).left (half_of (g.S.Source.told x).faults (g.S.Source.told x).is_open (g.S.Source.told x).number) p.read.0) c.play-kit.result.1.read) (sym e.kept.1) p.read.1)
-    (subst (λ x. WriterDid c.in-Ok.hall c.play-kit.result.0.passes.items (mouth_of (g.W.Sink.told c.args.sink).taken (half_of (g.W.Sink.told c.args.sink).faults (g.W.Sink.told c.args.sink).is_open (g.W.Sink.told c.args.sink).number)) (mouth_of (g.W.Sink.told x).taken (half_of (g.W.Sink.told x).faults (g.W.Sink.told x).is_open (g.W.Sink.told x).number)) c.play-kit.result.1.wrote) (sym e.kept.2) p.wrote)
+    (subst (λ x. ReaderDid c.in-Ok.hall c.play-kit.result.0.passes.items (ear_of (g.S.Source.told c.args.source) []) (ear_of (g.S.Source.told x) p.read.0) c.play-kit.result.1.read) (sym e.kept.1) p.read.1)
+    (subst (λ x. WriterDid c.in-Ok.hall c.play-kit.result.0.passes.items (mouth_of (g.W.Sink.told c.args.sink)) (mouth_of (g.W.Sink.told x)) c.play-kit.result.1.wrote) (sym e.kept.2) p.wrote)
     (subst (λ x. AllWorked c.in-Ok.hall c.play-kit.result.0.passes.items 0 (map (λ k. hand_of (g.K.Remote.calls k) (g.K.Remote.settings k)) c.args.remotes.items) (map (λ k. hand_of (g.K.Remote.calls k) (g.K.Remote.settings k)) x.items)) (sym e.kept.0) p.worked)
     e.why
 
@@ -35,9 +34,9 @@ pub returns-clause-settings : goal.returns-clause-settings
 returns-clause-settings g c =
     let p = c.play-kit.ensures in
     let e = c.end.ensures in
-    same_settings g.K.Remote.settings g.K.Remote.calls g.S.Source.given (g.S.Source.told (λ s. (half_of (g.S.Source.told s).faults (g.S.Source.told s).is_open (g.S.Source.told s).number))).left (g.W.Sink.told (λ w. (half_of (g.W.Sink.told w).faults (g.W.Sink.told w).is_open (g.W.Sink.told w).number))).taken
+    same_settings g.K.Remote.settings g.K.Remote.calls g.S.Source.told g.W.Sink.told
     c.in-Ok.hall c.play-kit.result.0.passes.items c.args.source c.end.result.source c.args.sink c.end.result.sink c.args.remotes.items c.end.result.remotes.items p.read.0 c.play-kit.result.1.read c.play-kit.result.1.wrote c.end.result.journal
-    (subst (λ x. ReaderDid c.in-Ok.hall c.play-kit.result.0.passes.items (ear_of (g.S.Source.told c.args.source).given (g.S.Source.told c.args.source).left (half_of (g.S.Source.told c.args.source).faults (g.S.Source.told c.args.source).is_open (g.S.Source.told c.args.source).number) []) (ear_of (g.S.Source.told x).given (g.S.Source.told x).left (half_of (g.S.Source.told x).faults (g.S.Source.told x).is_open (g.S.Source.told x).number) p.read.0) c.play-kit.result.1.read) (sym e.kept.1) p.read.1)
-    (subst (λ x. WriterDid c.in-Ok.hall c.play-kit.result.0.passes.items (mouth_of (g.W.Sink.told c.args.sink).taken (half_of (g.W.Sink.told c.args.sink).faults (g.W.Sink.told c.args.sink).is_open (g.W.Sink.told c.args.sink).number)) (mouth_of (g.W.Sink.told x).taken (half_of (g.W.Sink.told x).faults (g.W.Sink.told x).is_open (g.W.Sink.told x).number)) c.play-kit.result.1.wrote) (sym e.kept.2) p.wrote)
+    (subst (λ x. ReaderDid c.in-Ok.hall c.play-kit.result.0.passes.items (ear_of (g.S.Source.told c.args.source) []) (ear_of (g.S.Source.told x) p.read.0) c.play-kit.result.1.read) (sym e.kept.1) p.read.1)
+    (subst (λ x. WriterDid c.in-Ok.hall c.play-kit.result.0.passes.items (mouth_of (g.W.Sink.told c.args.sink)) (mouth_of (g.W.Sink.told x)) c.play-kit.result.1.wrote) (sym e.kept.2) p.wrote)
     (subst (λ x. AllWorked c.in-Ok.hall c.play-kit.result.0.passes.items 0 (map (λ k. hand_of (g.K.Remote.calls k) (g.K.Remote.settings k)) c.args.remotes.items) (map (λ k. hand_of (g.K.Remote.calls k) (g.K.Remote.settings k)) x.items)) (sym e.kept.0) p.worked)
     e.why

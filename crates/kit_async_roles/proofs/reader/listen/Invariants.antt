@@ -1,6 +1,5 @@
 use Rattle.std.proofs.Common.{◌≡◌, None}
 use Rattle.kit_serve.specs.Limits.{longest_line}
-use Rattle.kit_async_roles.specs.Passes.{half_of}
 use Rattle.kit_async_roles.specs.Reading.{ReaderRan, ear_of}
 use Rattle.kit_async_roles.proofs.reader.listen.Given as goal
 
@@ -10,6 +9,5 @@ invariant-loop g l = record {
   finite : (goal.iterator-loop g).is_finite l.iterator';
   limit : l.splitter.limit ≡ longest_line;
   ran : ReaderRan l.hall l.initial.pass l.pass
-      (ear_of (g.S.Source.told l.initial.source).given (g.S.Source.told l.initial.source).left (half_of (g.S.Source.told l.initial.source).faults (g.S.Source.told l.initial.source).is_open (g.S.Source.told l.initial.source).number) l.initial.splitter.bytes)
-      (ear_of (g.S.Source.told l.source).given (g.S.Source.told l.source).left (half_of (g.S.Source.told l.source).faults (g.S.Source.told l.source).is_open (g.S.Source.told l.source).number) l.splitter.bytes) None;
+      (ear_of (g.S.Source.told l.initial.source) l.initial.splitter.bytes) (ear_of (g.S.Source.told l.source) l.splitter.bytes) None;
 }

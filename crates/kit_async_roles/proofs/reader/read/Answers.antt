@@ -1,18 +1,15 @@
-use Rattle.kit_async_roles.specs.Passes.{half_of}
 use Rattle.kit_async_roles.proofs.Readers.{ran_ended, ran_on, read_on}
 use Rattle.kit_async_roles.proofs.reader.read.Goals as goal
 
 pub returns-in-Ok-clause-ran : goal.returns-in-Ok-clause-ran
 returns-in-Ok-clause-ran g c =
     let s = g.S.Source in
-    ran_on c.args.hall.now c.args.pass.now (s.given c.args.source.now) (s.given c.fill.new.source) (s.left c.args.source.now) (s.left c.fill.new.source)
-    (half_of (s.faults c.args.source.now) (s.is_open c.args.source.now) (s.number c.args.source.now)) (half_of (s.faults c.fill.new.source) (s.is_open c.fill.new.source) (s.number c.fill.new.source))
+    ran_on c.args.hall.now c.args.pass.now (s.told c.args.source.now) (s.told c.fill.new.source)
     c.args.splitter.now.bytes c.fill.new.splitter.bytes c.fill.result c.requires.stands c.fill.ensures.reads c.fill.ensures.source (read_on c.fill.result _ c.in-Ok.is)
 
 pub returns-in-Err-clause-ran : goal.returns-in-Err-clause-ran
 returns-in-Err-clause-ran g c =
     let s = g.S.Source in
-    ran_ended c.args.hall.now c.args.pass.now c.end_read.new.pass (s.given c.args.source.now) (s.given c.fill.new.source) (s.left c.args.source.now) (s.left c.fill.new.source)
-    (half_of (s.faults c.args.source.now) (s.is_open c.args.source.now) (s.number c.args.source.now)) (half_of (s.faults c.fill.new.source) (s.is_open c.fill.new.source) (s.number c.fill.new.source))
+    ran_ended c.args.hall.now c.args.pass.now c.end_read.new.pass (s.told c.args.source.now) (s.told c.fill.new.source)
     c.args.splitter.now.bytes c.fill.new.splitter.bytes c.fill.result c.in-Err.end c.end_read.result c.end_read.ensures.heard c.end_read.ensures.ends c.in-Err.is c.fill.ensures.reads c.fill.ensures.source
     c.in-Err.ensures.kept c.requires.none c.fill.ensures.spent

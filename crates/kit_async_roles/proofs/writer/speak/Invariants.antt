@@ -1,5 +1,4 @@
 use Rattle.std.proofs.Common.{◌≡◌, None}
-use Rattle.kit_async_roles.specs.Passes.{half_of}
 use Rattle.kit_async_roles.specs.Writing.{WriterRan, mouth_of}
 use Rattle.kit_async_roles.proofs.writer.speak.Given as goal
 
@@ -8,6 +7,5 @@ invariant-loop g l = record {
   can : (goal.iterator-loop g).can_next l.iterator';
   finite : (goal.iterator-loop g).is_finite l.iterator';
   ran : WriterRan l.hall l.initial.pass l.pass
-      (mouth_of (g.W.Sink.told l.initial.sink).taken (half_of (g.W.Sink.told l.initial.sink).faults (g.W.Sink.told l.initial.sink).is_open (g.W.Sink.told l.initial.sink).number))
-      (mouth_of (g.W.Sink.told l.sink).taken (half_of (g.W.Sink.told l.sink).faults (g.W.Sink.told l.sink).is_open (g.W.Sink.told l.sink).number)) None;
+      (mouth_of (g.W.Sink.told l.initial.sink)) (mouth_of (g.W.Sink.told l.sink)) None;
 }

@@ -9,7 +9,7 @@ use Rattle.kit_serve.proofs.line_sink.LineSink.set_url_present.Goals as goal
 
 pub returns-clause-tells : goal.returns-clause-tells
 returns-clause-tells g c =
-    subst (λ (url : List ℕ). Tells g.W.Sink.taken (g.W.Sink.told c.args.self.now).faults c.tell.new.self (Seturlpresent (text_of c.args.key) url) c.tell.result) c.first_line.ensures c.tell.ensures.tells
+    subst (λ (url : List ℕ). Tells g.W.Sink.told c.args.self.now c.tell.new.self (Seturlpresent (text_of c.args.key) url) c.tell.result) c.first_line.ensures c.tell.ensures.tells
 
 pub tell-requires-clause-line : goal.tell-requires-clause-line
 tell-requires-clause-line g c =
