@@ -90,8 +90,8 @@ pub record Told : Type 0 where
   pub taken : Option (List ℕ)
   pub calls : Option (List Call)
 
-abbrev pub told : SourceTold → SinkTold → Option (List Call) → Told
-told source sink calls = record { given = source.given; taken = sink.taken; calls = calls }
+abbrev pub told_of : SourceTold → SinkTold → Option (List Call) → Told
+told_of source sink calls = record { given = source.given; taken = sink.taken; calls = calls }
 
 pub record Gains (old new : Told) (bytes out : List ℕ) (made : List Call) : Type 0 where
   pub gave : Appends old.given new.given bytes

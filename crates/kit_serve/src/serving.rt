@@ -5,7 +5,7 @@ ghost use Rattle.ann_outside.specs.Causes.{Rose};
 ghost use Rattle.kit_core.specs.Stages.{is_last, Follows};
 ghost use Rattle.kit_serve.specs.Limits.{longest_line, read_size};
 ghost use Rattle.kit_serve.specs.declared.end.End.TheVariants.{Eof, Bad, ReadFault, WriteFault, Memory};
-ghost use Rattle.kit_serve.specs.Sessions.{Serves, told};
+ghost use Rattle.kit_serve.specs.Sessions.{Serves, told_of};
 ghost use Rattle.kit_serve.specs.Turns.{end_of, sink_half, source_half, IsSpent, Leaves, ReadsOn, ReadsOnce, Turned, streams_of};
 ghost use Rattle.kit_serve.specs.Voices.{bytes_of, Bytes, Hears, Talking, Talked};
 
@@ -183,7 +183,7 @@ pub fn serve<R: Remote, S: Source, W: Sink>(
 ) -> Served<R>
     requires source { (S.told source.old).is_open ≡ true }
     requires sink { (W.told sink.old).is_open ≡ true }
-    ensures serves { Serves (R.settings remote) (told (S.told source.old) (W.told sink.old) (R.calls remote)) (told (S.told source.new) (W.told sink.new) (R.calls result.remote)) result.status }
+    ensures serves { Serves (R.settings remote) (told_of (S.told source.old) (W.told sink.old) (R.calls remote)) (told_of (S.told source.new) (W.told sink.new) (R.calls result.remote)) result.status }
     ensures end { result.status ≡ 0 → IfSome (S.told source.new).left (λ bytes. bytes ≡ []) }
     ensures source { Leaves (source_half (S.told source.old)) (source_half (S.told source.new)) (result.status ≡ 4) }
     ensures sink { Leaves (sink_half (W.told sink.old)) (sink_half (W.told sink.new)) (result.status ≡ 5) }

@@ -56,5 +56,6 @@ pub fn unprepared_is_empty()
 /// Without a child each call but a prepare says that the mirror isn't prepared, and nobody is asked.
 #[tactic(auto, using(crate::proofs::Everywhere::refuses_all))]
 pub fn unprepared_refuses()
-    ensures { (asked : Asked) (answer : Result Said NoMemory) (old new : MirrorValue) → is_prepare asked ≡ false → old.children ≡ [] → Keeps asked answer old new → (new.children ≡ []) × IfOk answer (λ said. said ≡ failure (codes "not prepared")) }
+    ensures { (asked : Asked) (answer : Result Said NoMemory) (old new : MirrorValue) → is_prepare asked ≡ false → old.children ≡ [] → Keeps asked answer old new
+        → (new.children ≡ []) × IfOk answer (λ said. said ≡ failure (codes "not prepared")) }
 {}

@@ -15,17 +15,18 @@ use Rattle.journal_model.specs.Shares.{is_memory}
 use Rattle.host_core.specs.CoreValue.{CoreValue}
 use Rattle.link_roles.specs.Writings.{LoneWired}
 use Rattle.child_start.specs.Cores.{IsSameCore}
-use Rattle.child_start.specs.Greetings.{Greeted, HasEnded, IsReady, IsRefused, IsUnsent}
+use Rattle.child_start.specs.declared.greeting.Came.{Came}
+use Rattle.child_start.specs.declared.greeting.Came.TheVariants.{Ready as CameReady, Refused as CameRefused, Ended as CameEnded, Unsent as CameUnsent}
+use Rattle.child_start.specs.declared.greeting.Mode.TheVariants.{Serve}
+use Rattle.child_start.specs.Greetings.{CameTo, Greeted, HasEnded, IsReady, IsRefused, IsUnsent}
 use Rattle.child_end.specs.Programs.{AddsAll}
 use Rattle.mirror_plan.specs.declared.plan.Plan.{Plan}
 use Rattle.mirror_starts.specs.declared.beginning.Cause.{Cause}
-use Rattle.mirror_starts.specs.declared.beginning.Stand.{Stand}
-use Rattle.mirror_starts.specs.declared.beginning.Stand.TheVariants.{Ready, Unready, Starved}
 use Rattle.mirror_starts.specs.Openings.{mirror_opening}
 use Rattle.mirror_children.specs.Children.{child_value, ChildValue, AreLinked, AreServing, IsServing}
 use Rattle.mirror_starts.specs.Stops.{log_of, LogValue, StoppedValue, AreClosed, Stops, StopsAll}
 use Rattle.mirror_starts.specs.Readiness.{AreAskedFor, AreLeftAs, AreReadyAs, AreStoppedAs, IsLeftAs, IsReadyAs, IsStoppedAs, IsUnready, starts_of}
-use Rattle.mirror_starts.specs.Beginnings.{stand_of_end, AreGreetedAs, BeginsAs, HasNotStarted, IsGreetedAs, StandsAs, StoodAs}
+use Rattle.mirror_starts.specs.Beginnings.{AreGreetedAs, BeginsAs, EndedAs, HasNotStarted, IsGreetedAs, StandsAs, StoodAs}
 use Rattle.mirror_starts.proofs.Greeting.{first_child, greeted_first, linked_greeted, serving_ready, unwired}
 use Rattle.child_end.proofs.Across.{adds_one, adds_both}
 use Rattle.journal_model.proofs.Across.{nothing_legal}
@@ -63,7 +64,7 @@ module _ (p : Plan) (old new : CoreValue) (ear : EarValue) (mouth : MouthValue) 
   first : ear.child ≡ 1
   first = first_child old.journal new.journal ear.child empty greeted
 
-  pub ready_as : IsReady new.journal ear.child → IsReadyAs p (child_value p.number new ear mouth)
+  ready_as : IsReady new.journal ear.child → IsReadyAs p (child_value p.number new ear mouth)
   ready_as r = record {
     number = refl;
     opening = keeps.opening ∙ opens;
@@ -71,21 +72,27 @@ module _ (p : Plan) (old new : CoreValue) (ear : EarValue) (mouth : MouthValue) 
     ready = subst (IsReady new.journal) first r;
   }
 
-  pub serving_as : LoneWired new.journal ear mouth → mouth.child ≡ ear.child → IsReady new.journal ear.child → IsServing (child_value p.number new ear mouth)
+  serving_as : LoneWired new.journal ear mouth → mouth.child ≡ ear.child → IsReady new.journal ear.child → IsServing (child_value p.number new ear mouth)
   serving_as wired both r = serving_ready (child_value p.number new ear mouth) (greeted_as wired both).linked (subst (IsReady new.journal) first r)
 
-  pub refused_as : (v : Verdict) → IsRefused new.journal ear.child v → IsUnready new.journal
+  refused_as : (v : Verdict) → IsRefused new.journal ear.child v → IsUnready new.journal
   refused_as v r = inl (v, subst (λ (k : ℕ). IsRefused new.journal k v) first r)
 
   ended_as : (why : Why) → HasEnded new.journal ear.child why → is_memory why ≡ false → IsUnready new.journal
   ended_as why e kept = inr (inl (why, subst (λ (k : ℕ). HasEnded new.journal k why) first e, kept))
 
-  pub ended_stands : (why : Why) → HasEnded new.journal ear.child why → StandsAs p (stand_of_end why) (child_value p.number new ear mouth)
+  ended_stands : (why : Why) → HasEnded new.journal ear.child why → EndedAs why (child_value p.number new ear mouth)
   ended_stands Memory e = tt
   ended_stands why e = ended_as why e refl
 
-  pub unsent_as : IsUnsent new.journal ear.child → IsUnready new.journal
+  unsent_as : IsUnsent new.journal ear.child → IsUnready new.journal
   unsent_as u = inr (inr (subst (IsUnsent new.journal) first u))
+
+  pub came_stands : (came : Came) → LoneWired new.journal ear mouth → mouth.child ≡ ear.child → CameTo Serve new.journal ear.child came → StandsAs p came (child_value p.number new ear mouth)
+  came_stands (CameReady tagged) wired both t = (ready_as t.0, serving_as wired both t.0)
+  came_stands (CameRefused v) wired both t = refused_as v t
+  came_stands (CameEnded why) wired both t = ended_stands why t
+  came_stands CameUnsent wired both t = unsent_as t
 
 pub unstarted_as : (p : Plan) (old new : CoreValue) → old.journal ≡ [] → old.opening ≡ mirror_opening p.registers → IsSameCore old new → new.journal ≡ old.journal ++ record { by = 0; what = NoStart 0 } ∷ [] → HasNotStarted p new
 unstarted_as p old new empty opens keeps grown =
@@ -93,13 +100,17 @@ unstarted_as p old new empty opens keeps grown =
     record { opening = keeps.opening ∙ opens; only = only; unwired = unwired (log_of new) only (keeps.legal (nothing_legal old.opening old.journal empty)) }
 
 -- the child that was greeted comes after the others
-pub met_begins : (p : Plan) (before after : ProgramsTold) (cs cs' : List ChildValue) (c : ChildValue) (stand : Stand) (r : Result (Unit {0}) Cause) → cs' ≡ cs ++ c ∷ [] → IsGreetedAs p c → AddsOne before.starts after.starts (p.program, true)
-    → StandsAs p stand c → StoodAs stand p.number r → BeginsAs p before after cs cs' r
-met_begins p before after cs cs' c Ready (Ok u) are greeted starts s h = (record { child = c; are = are; greeted = greeted; starts = starts }, s.0, s.1)
-met_begins p before after cs cs' c Ready (Err e) are greeted starts s h = absurd cc
-met_begins p before after cs cs' c Unready r are greeted starts s h =
+pub greeted_begins : (p : Plan) (before after : ProgramsTold) (cs cs' : List ChildValue) (c : ChildValue) (came : Came) (r : Result (Unit {0}) Cause) → cs' ≡ cs ++ c ∷ [] → IsGreetedAs p c
+    → AddsOne before.starts after.starts (p.program, true) → StandsAs p came c → StoodAs came p.number r → BeginsAs p before after cs cs' r
+greeted_begins p before after cs cs' c (CameReady tagged) (Ok u) are greeted starts s h = (record { child = c; are = are; greeted = greeted; starts = starts }, s.0, s.1)
+greeted_begins p before after cs cs' c (CameReady tagged) (Err e) are greeted starts s h = absurd cc
+greeted_begins p before after cs cs' c (CameRefused v) r are greeted starts s h =
     subst (BeginsAs p before after cs cs') (sym h) (refl, (record { child = c; are = are; greeted = greeted; starts = starts }, s))
-met_begins p before after cs cs' c Starved r are greeted starts s h = subst (BeginsAs p before after cs cs') (sym h) (inl (record { child = c; are = are; greeted = greeted; starts = starts }))
+greeted_begins p before after cs cs' c (CameEnded Memory) r are greeted starts s h = subst (BeginsAs p before after cs cs') (sym h) (inl (record { child = c; are = are; greeted = greeted; starts = starts }))
+greeted_begins p before after cs cs' c (CameEnded why) r are greeted starts s h =
+    subst (BeginsAs p before after cs cs') (sym h) (refl, (record { child = c; are = are; greeted = greeted; starts = starts }, s))
+greeted_begins p before after cs cs' c CameUnsent r are greeted starts s h =
+    subst (BeginsAs p before after cs cs') (sym h) (refl, (record { child = c; are = are; greeted = greeted; starts = starts }, s))
 
 -- ---- one more child
 

@@ -1,23 +1,19 @@
 -- What starting the children comes to, before any of them is stopped.
 use Rattle.ann_outside.specs.Told.{ProgramsTold}
 use Rattle.std.specs.Prelude.{ℕ, ◌≡◌, ◌⊎◌, ◌<◌, ◌≤◌, Bool, true, false, List, [], ◌∷◌, ◌++◌, length, Result, Ok, Err, IsOk}
-use Rattle.ann_outside.specs.declared.Sink.{Ghosts as SinkGhosts}
-use Rattle.ann_outside.specs.declared.Source.{Ghosts as SourceGhosts}
 use Rattle.ann_outside.specs.Causes.{AddsOne, Rose, Stays}
 use Rattle.journal_model.specs.declared.verdict.Why.{Why}
 use Rattle.journal_model.specs.declared.verdict.Why.TheVariants.{Memory}
 use Rattle.journal_model.specs.declared.entry.What.TheVariants.{NoStart}
 use Rattle.host_core.specs.CoreValue.{CoreValue}
+use Rattle.child_start.specs.declared.greeting.Came.{Came}
+use Rattle.child_start.specs.declared.greeting.Came.TheVariants.{Ready as CameReady, Refused as CameRefused, Ended as CameEnded, Unsent as CameUnsent}
 use Rattle.child_start.specs.Greetings.{Greeted}
 use Rattle.child_end.specs.Programs.{AddsAll}
 use Rattle.mirror_plan.specs.declared.plan.Plan.{Plan}
-use Rattle.mirror_children.specs.Children.{child_value, ChildValue, AreLinked, AreServing, IsLinked, IsServing}
+use Rattle.mirror_children.specs.Children.{ChildValue, AreLinked, AreServing, IsLinked, IsServing}
 use Rattle.mirror_starts.specs.declared.beginning.Cause.{Cause}
 use Rattle.mirror_starts.specs.declared.beginning.Cause.TheVariants.{Unready, Unstarted, NoMemory}
-use Rattle.mirror_starts.specs.declared.beginning.Stand.{Stand}
-use Rattle.mirror_starts.specs.declared.beginning.Stand.TheVariants.{Ready as StandsReady, Unready as StandsUnready, Starved as StandsStarved}
-use Rattle.mirror_starts.specs.declared.beginning.Met.{Met}
-use Rattle.mirror_starts.specs.declared.beginning.Met.TheVariants.{Child as MetChild, Unstarted as MetUnstarted, NoMemory as MetLacking}
 use Rattle.mirror_starts.specs.Openings.{mirror_opening}
 use Rattle.mirror_starts.specs.Stops.{IsUnwired, StoppedValue, StopsAll, log_of}
 use Rattle.mirror_starts.specs.Readiness.{IsReadyAs, AreReadyAs, IsUnready, starts_of}
@@ -53,29 +49,23 @@ pub record HasNotStarted (p : Plan) (core : CoreValue) : Type 0 where
 abbrev pub MayHaveStarted : ProgramsTold → ProgramsTold → List ℕ → Type 0
 MayHaveStarted before after program = Stays before.starts after.starts ⊎ ((b : Bool) × AddsOne before.starts after.starts (program, b))
 
--- by why it ended
-abbrev pub stand_of_end : Why → Stand
-stand_of_end Memory = StandsStarved
-stand_of_end why = StandsUnready
+-- how a child that was greeted stands, by why it ended
+abbrev pub EndedAs : Why → ChildValue → Type 0
+EndedAs Memory c = Unit {0}
+EndedAs why c = IsUnready c.journal
 
--- how a child that was greeted stands
-abbrev pub StandsAs : Plan → Stand → ChildValue → Type 0
-StandsAs p StandsReady c = IsReadyAs p c × IsServing c
-StandsAs p StandsUnready c = IsUnready c.journal
-StandsAs p StandsStarved c = Unit {0}
+-- and by what it came to
+abbrev pub StandsAs : Plan → Came → ChildValue → Type 0
+StandsAs p (CameReady tagged) c = IsReadyAs p c × IsServing c
+StandsAs p (CameRefused verdict) c = IsUnready c.journal
+StandsAs p (CameEnded why) c = EndedAs why c
+StandsAs p CameUnsent c = IsUnready c.journal
 
--- what came of greeting the plan's child, whose core this is then
-abbrev pub MeetsAs : {I O S : Type 0} {sinks : SinkGhosts I} {sources : SourceGhosts O} → Plan → ProgramsTold → ProgramsTold → CoreValue → Met I O S sinks sources → Type 0
-MeetsAs p before after core (MetChild link stub stand) =
-    IsGreetedAs p (child_value p.number core link.ear link.mouth) × AddsOne before.starts after.starts (p.program, true) × StandsAs p stand (child_value p.number core link.ear link.mouth)
-MeetsAs p before after core MetUnstarted = HasNotStarted p core × AddsOne before.starts after.starts (p.program, false) × Rose before.faults after.faults
-MeetsAs p before after core MetLacking = MayHaveStarted before after p.program
-
--- what starting ends with, by how the child stands
-abbrev pub StoodAs : Stand → ℕ → Result (Unit {0}) Cause → Type 0
-StoodAs StandsReady n result = IsOk result
-StoodAs StandsUnready n result = result ≡ Err (Unready n)
-StoodAs StandsStarved n result = result ≡ Err NoMemory
+-- what starting ends with, by what the child came to: where it ended because memory ran out, so does starting
+abbrev pub StoodAs : Came → ℕ → Result (Unit {0}) Cause → Type 0
+StoodAs (CameReady tagged) n result = IsOk result
+StoodAs (CameEnded Memory) n result = result ≡ Err NoMemory
+StoodAs came n result = result ≡ Err (Unready n)
 
 -- the plan's child is ready, or it isn't, for this cause
 abbrev pub BeginsAs : Plan → ProgramsTold → ProgramsTold → List ChildValue → List ChildValue → Result (Unit {0}) Cause → Type 0

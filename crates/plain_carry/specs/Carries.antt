@@ -3,6 +3,7 @@ use Rattle.std.specs.Prelude.{ℕ, ◌≡◌, ◌<◌, ◌==◌, nat_le, Bool, f
 use Rattle.std.specs.List.{list_all}
 use Rattle.std.specs.Io.KnownBytes.{Appends}
 use Rattle.ann_outside.specs.Causes.{StaysUntold}
+use Rattle.ann_outside.specs.Told.{SinkTold, SourceTold}
 use Rattle.annex_model.specs.Lines.{has_newline, Cut}
 use Rattle.wire_line.specs.HeldBytes.{first_line}
 use Rattle.plain_carry.specs.declared.end.End.{End}
@@ -57,8 +58,8 @@ pub record Told : Type 0 where
   pub given : Option (List ℕ)
   pub taken : Option (List ℕ)
 
-abbrev pub told : Option (List ℕ) → Option (List ℕ) → Told
-told given taken = record { given = given; taken = taken }
+abbrev pub told_of : SourceTold → SinkTold → Told
+told_of source sink = record { given = source.given; taken = sink.taken }
 
 -- what came is cut into these lines and a rest, and each line is short and passed on
 pub record Carried (P : Passing) (bytes : List ℕ) (lines : List (List ℕ)) (rest : List ℕ) (passed : List (Option (List ℕ))) : Type 0 where

@@ -1,7 +1,7 @@
 ghost use Rattle.std.specs.Prelude.{◌≡◌, ◌≤◌, [], ℕ, List, Option, true, false, Err, OnOk, IfErr, IfSome};
 ghost use Rattle.annex_model.specs.Lines.{has_newline};
 ghost use Rattle.ann_outside.specs.Causes.{Rose};
-ghost use Rattle.plain_carry.specs.Carries.{longest_line, told, Carries, ComesTo, GoesOn};
+ghost use Rattle.plain_carry.specs.Carries.{longest_line, told_of, Carries, ComesTo, GoesOn};
 ghost use Rattle.plain_carry.specs.Turns.{Passes, ReadsOn};
 ghost use Rattle.plain_carry.specs.declared.end.End.TheVariants.{Eof, Long, ReadFault, WriteFault};
 
@@ -73,8 +73,8 @@ fn turn<V: Way, S: Source, W: Sink>(
     requires source { (S.told source.old).is_open ≡ true }
     requires sink { (W.told sink.old).is_open ≡ true }
     requires limit { splitter.old.limit ≡ longest_line }
-    ensures goes { OnOk result (GoesOn V.passes (told (S.told source.old).given (W.told sink.old).taken) (told (S.told source.new).given (W.told sink.new).taken) splitter.old.bytes splitter.new.bytes) }
-    ensures ended { IfErr result (ComesTo V.passes (told (S.told source.old).given (W.told sink.old).taken) (told (S.told source.new).given (W.told sink.new).taken) splitter.old.bytes) }
+    ensures goes { OnOk result (GoesOn V.passes (told_of (S.told source.old) (W.told sink.old)) (told_of (S.told source.new) (W.told sink.new)) splitter.old.bytes splitter.new.bytes) }
+    ensures ended { IfErr result (ComesTo V.passes (told_of (S.told source.old) (W.told sink.old)) (told_of (S.told source.new) (W.told sink.new)) splitter.old.bytes) }
     ensures end { result ≡ Err Eof → IfSome (S.told source.new).left (λ bytes. bytes ≡ []) }
     ensures read_fault { result ≡ Err ReadFault → Rose (S.told source.old).faults (S.told source.new).faults }
     ensures write_fault { result ≡ Err WriteFault → Rose (W.told sink.old).faults (W.told sink.new).faults }
@@ -103,7 +103,7 @@ fn take_turns<V: Way, S: Source, W: Sink>(
     requires source { (S.told source.old).is_open ≡ true }
     requires sink { (W.told sink.old).is_open ≡ true }
     requires limit { splitter.old.limit ≡ longest_line }
-    ensures ended { ComesTo V.passes (told (S.told source.old).given (W.told sink.old).taken) (told (S.told source.new).given (W.told sink.new).taken) splitter.old.bytes result }
+    ensures ended { ComesTo V.passes (told_of (S.told source.old) (W.told sink.old)) (told_of (S.told source.new) (W.told sink.new)) splitter.old.bytes result }
     ensures end { result ≡ Eof → IfSome (S.told source.new).left (λ bytes. bytes ≡ []) }
     ensures read_fault { result ≡ ReadFault → Rose (S.told source.old).faults (S.told source.new).faults }
     ensures write_fault { result ≡ WriteFault → Rose (W.told sink.old).faults (W.told sink.new).faults }
@@ -129,7 +129,7 @@ pub fn carry<V: Way, S: Source, W: Sink>(
 ) -> End
     requires source { (S.told source.old).is_open ≡ true }
     requires sink { (W.told sink.old).is_open ≡ true }
-    ensures carries { Carries V.passes (told (S.told source.old).given (W.told sink.old).taken) (told (S.told source.new).given (W.told sink.new).taken) result }
+    ensures carries { Carries V.passes (told_of (S.told source.old) (W.told sink.old)) (told_of (S.told source.new) (W.told sink.new)) result }
     ensures end { result ≡ Eof → IfSome (S.told source.new).left (λ bytes. bytes ≡ []) }
     ensures read_fault { result ≡ ReadFault → Rose (S.told source.old).faults (S.told source.new).faults }
     ensures write_fault { result ≡ WriteFault → Rose (W.told sink.old).faults (W.told sink.new).faults }
