@@ -1,5 +1,5 @@
 -- What each call does in the directory that was given, if one was, and says; by what the desk tells before and after it.
-use Rattle.std.specs.Prelude.{ℕ, Bool, false, List, Option, Result, is_some}
+use Rattle.std.specs.Prelude.{ℕ, false, List, Option, Result, is_some}
 use Rattle.ann_key.specs.declared.bytes.NoMemory.{NoMemory as WithoutMemory}
 use Rattle.ann_outside.specs.Told.{DeskTold}
 use Rattle.kit_core.specs.declared.call.Said.{Said}
