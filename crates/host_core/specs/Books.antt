@@ -7,7 +7,9 @@ use Rattle.journal_model.specs.declared.entry.What.TheVariants.{Note as Noted}
 use Rattle.journal_model.specs.declared.entry.Entry.{Entry}
 use Rattle.journal_model.specs.declared.opening.Opening.{Opening}
 use Rattle.journal_model.specs.Journal.{each_of}
-use Rattle.journal_model.specs.Notes.{noted, with_notes}
+use Rattle.journal_model.specs.Legality.{task_of}
+use Rattle.journal_model.specs.Notes.{AreCurrentAt, noted, with_notes}
+use Rattle.task_text.specs.declared.task.Task.{Task}
 
 -- the book that the run began with, given each note of the journal in turn
 abbrev pub notes_after : Opening → List Entry → List Note
@@ -17,6 +19,10 @@ notes_after o past = with_notes o.notes (each_of (noted o) past)
 pub record IsNoted (o : Opening) (past : List Entry) (notes : List Note) : Type 0 where
   pub given : notes ≡ notes_after o past
   pub order : IsTrue (in_order o.notes)
+
+-- the remote has the content of this task's key in these layouts, by all notes so far
+abbrev pub AreTaskLayouts : Opening → List Entry → ℕ → List (ℕ × ℕ) → Type 0
+AreTaskLayouts o past number layouts = (task : Task) × (task_of o number ≡ Some task) × AreCurrentAt o past task.key layouts
 
 -- ---- what the first entry of a group notes
 

@@ -5,6 +5,7 @@ use Rattle.journal_model.specs.declared.verdict.Why.TheVariants.{Error as ErrorA
 use Rattle.journal_model.specs.declared.verdict.Verdict.{Verdict}
 use Rattle.journal_model.specs.declared.verdict.Verdict.TheVariants.{Unsent}
 use Rattle.annex_model.specs.Messages.{RemoteMessage, remote_reading}
+use Rattle.annex_model.specs.Hearings.{Hearing}
 use Rattle.annex_model.specs.Talks.{Shape, OneLine, Configs, Infos, spells_aside, said}
 use Rattle.journal_model.specs.declared.entry.What.{What}
 use Rattle.journal_model.specs.declared.entry.What.TheVariants.{Ask, Put, Verdict as Settled}
@@ -13,8 +14,10 @@ use Rattle.journal_model.specs.declared.opening.Opening.{Opening}
 use Rattle.journal_model.specs.Journal.{open_jobs, is_unsent, has_spoken, line_bytes}
 use Rattle.journal_model.specs.Parts.{item_at}
 use Rattle.journal_model.specs.Room.{room_for}
-use Rattle.journal_model.specs.Due.{ending, ended_jobs, made_by, is_version_one, is_error, after_line}
+use Rattle.journal_model.specs.Due.{ending, ended_jobs, made_by, is_version_one, is_error, after_line, after_hearing, replies, replying}
 use Rattle.journal_scan.specs.Looks.{due_jobs}
+use Rattle.talk_serial.specs.Hearings.{heard_as}
+use Rattle.talk_serial.specs.declared.talk.Heard.{Heard}
 use Rattle.host_core.specs.declared.due.Due.{Due}
 use Rattle.host_core.specs.declared.due.Due.TheVariants.{Nothing, Settle, Request, Replies, EndOf, EndedJobs, UnsentJobs}
 use Rattle.host_core.specs.declared.moves.Move.{Move}
@@ -32,6 +35,14 @@ dues past (Replies child job lines) = map (λ line. Put child job line) lines.it
 dues past (EndOf child why) = ending past child why
 dues past (EndedJobs child why) = ended_jobs past child why
 dues past (UnsentJobs child) = unsent_verdicts past child
+
+-- the message, which was heard so in the open job, makes this due
+abbrev pub IsDueHeard : Opening → List Entry → ℕ → ℕ → RemoteMessage → Heard → Due → Type 0
+IsDueHeard o past child job message heard due = (h : Hearing) → heard ≡ heard_as h → dues past due ≡ after_hearing o past child job message h
+
+-- the replies are due that the message is owed in the open job
+abbrev pub AreRepliesDue : Opening → List Entry → ℕ → ℕ → RemoteMessage → Due → Type 0
+AreRepliesDue o past child job message due = dues past due ≡ replying past child job (replies o past message)
 
 -- the first entry with what is due after it
 abbrev pub group_made : List Entry → ℕ → Option What → Due → List Entry

@@ -6,11 +6,11 @@ ghost use Rattle.wire_msg.specs.Shown.{remote_shown};
 ghost use Rattle.talk_serial.specs.Hearings.{heard_as};
 ghost use Rattle.journal_model.specs.Journal.{is_open, addressed};
 ghost use Rattle.journal_model.specs.Parts.{part};
-ghost use Rattle.journal_model.specs.Due.{due_by_got, after_line, after_message, after_late, after_hearing, was_open, is_passed, foul, verdict_at};
+ghost use Rattle.journal_model.specs.Due.{due_by_got, after_line, after_message, after_late, was_open, is_passed, foul, verdict_at};
 ghost use Rattle.annex_model.specs.Hearings.{Hearing, hearing};
 ghost use Rattle.journal_model.specs.Legality.{Legal};
 ghost use Rattle.host_core.specs.Settings.{IsServed, is_aside_heard, serves_message, serves_line, serves, is_reply};
-ghost use Rattle.host_core.specs.Moves.{dues, first_due, error_due, due_from};
+ghost use Rattle.host_core.specs.Moves.{IsDueHeard, dues, first_due, error_due, due_from};
 
 use crate::serving::Past;
 use crate::talks::hear;
@@ -133,7 +133,7 @@ fn after_hearing(
     heard: Heard,
 ) -> Result<Due, NoMemory>
     requires { IsServed past.opening.now past.journal.now.entries past.registers.now }
-    ensures due { IfOk result (λ due. (h : Hearing) → heard ≡ heard_as h → dues past.entry.journal.now.entries due ≡ after_hearing past.entry.opening.now past.entry.journal.now.entries child job (remote_shown message.now) h) }
+    ensures due { IfOk result (IsDueHeard past.entry.opening.now past.entry.journal.now.entries child job (remote_shown message.now) heard) }
     ensures reply { IfOk result (λ due. (h : Hearing) → heard ≡ heard_as h → is_reply due ≡ is_aside_heard h) }
 {
     match heard {

@@ -1,5 +1,5 @@
 // Appends a group within room that is kept for it.
-ghost use Rattle.std.specs.Prelude.{◌≡◌, ◌≤◌, ◌<◌, ◌+◌, ◌-◌, ◌^◌, ◌++◌, ◌∷◌, [], length, map, sum_by, take, MatchResult};
+ghost use Rattle.std.specs.Prelude.{◌≡◌, ◌≤◌, ◌<◌, ◌+◌, ◌-◌, ◌^◌, ◌++◌, ◌∷◌, [], length, map, sum_by, take, IsOk, MatchResult, OnErr, OnOk};
 ghost use Rattle.std.specs.List.{cons_option};
 ghost use Rattle.std.specs.Option.{SomeIff};
 ghost use Rattle.journal_model.specs.declared.verdict.Verdict.TheVariants.{Ended, Unsent};
@@ -41,7 +41,7 @@ fn due_room(due: &Due) -> Option<usize>
 }
 
 /// How much room the group needs.
-pub(super) fn group_room(what: &Option<What>, due: &Due) -> Result<usize, NoMemory>
+fn group_room(what: &Option<What>, due: &Due) -> Result<usize, NoMemory>
     ensures { MatchResult result (λ n. n ≡ group_room what.now due.now) (λ _. 2 ^ 64 ≤ group_room what.now due.now) }
 {
     let Some(what) = what else {
@@ -79,7 +79,7 @@ fn due_bytes(due: &Due) -> Option<usize>
 }
 
 /// How many bytes the lines of the group have.
-pub(super) fn group_bytes(what: &Option<What>, due: &Due) -> Result<usize, NoMemory>
+fn group_bytes(what: &Option<What>, due: &Due) -> Result<usize, NoMemory>
     ensures { MatchResult result (λ n. n ≡ group_bytes what.now due.now) (λ _. 2 ^ 64 ≤ group_bytes what.now due.now) }
 {
     let Some(what) = what else {
@@ -92,6 +92,25 @@ pub(super) fn group_bytes(what: &Option<What>, due: &Due) -> Result<usize, NoMem
         Some(bytes) => Ok(bytes),
         None => Err(NoMemory),
     }
+}
+
+/// Takes room for the group: for its entries and what can come of them, and for the bytes of its lines.
+pub(super) fn take_room(
+    journal: &mut Journal,
+    what: &Option<What>,
+    due: &Due,
+) -> Result<(), NoMemory>
+    requires { journal.old.room < 2 ^ 64 }
+    ensures entries { journal.new.entries ≡ journal.old.entries }
+    ensures small { journal.new.room < 2 ^ 64 }
+    ensures room { OnOk result (journal.new.room ≡ journal.old.room + group_room what.now due.now) }
+    ensures spare { OnOk result (group_bytes what.now due.now ≤ journal.new.spare) }
+    ensures err { OnErr result (journal.new.room ≡ journal.old.room) }
+    ensures free { group_room what.now due.now ≡ 0 → IsOk result }
+{
+    let more = group_room(what, due)?;
+    let bytes = group_bytes(what, due)?;
+    journal.take_room(more, bytes)
 }
 
 fn push(journal: &mut Journal, by: u32, what: What)

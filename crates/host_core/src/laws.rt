@@ -1,18 +1,17 @@
 // Laws over the table of events, each the contract of a function with nothing to do.
 ghost use Rattle.std.specs.Prelude.{◌≡◌, ◌<◌, ◌^◌, ◌++◌, ◌∷◌, [], ◌↔◌, ℕ, List, Some, true, length, IsTrue};
 ghost use Rattle.chunk_log.specs.NoteBooks.{in_order};
-ghost use Rattle.task_text.specs.declared.task.Task.{Task};
 ghost use Rattle.journal_model.specs.declared.entry.What.{What};
 ghost use Rattle.journal_model.specs.declared.entry.Entry.{Entry};
 ghost use Rattle.journal_model.specs.declared.opening.Opening.{Opening};
 ghost use Rattle.journal_model.specs.declared.answer.Answer.TheVariants.{Memory};
 ghost use Rattle.journal_model.specs.declared.entry.What.TheVariants.{Again, Answer as Answered};
 ghost use Rattle.journal_model.specs.AgainRows.{claimed_again, lost, lost_answer, one_check_again, renewed};
-ghost use Rattle.journal_model.specs.Legality.{Legal, MayStand, task_of};
-ghost use Rattle.journal_model.specs.Notes.{AreCurrentAt};
+ghost use Rattle.journal_model.specs.Legality.{Legal, MayStand};
 ghost use Rattle.journal_model.specs.NoteRows.{to_do, known_since, claimed, stored, noting, noted_and_answered};
 ghost use Rattle.journal_model.specs.Rows.{by_main, greeting};
 ghost use Rattle.task_text.specs.declared.task.Work.TheVariants.{Store, Drop};
+ghost use Rattle.host_core.specs.Books.{AreTaskLayouts};
 ghost use Rattle.host_core.specs.Steps.{step_of, Comes, Appends};
 ghost use Rattle.host_core.specs.declared.event.Event.{Event};
 ghost use Rattle.host_core.specs.declared.event.Event.TheVariants.{Answer as AnswerEvent, Claim as ClaimEvent, Layouts as AskLayouts};
@@ -29,7 +28,9 @@ pub fn events_keep_legal()
 /// The layouts that are answered are those in which the remote has the task's key by all notes so far. A book that a run begins
 /// with is in order.
 pub fn layouts_are_current()
-    ensures { (o : Opening) (past : List Entry) (by number : ℕ) (layouts : List (ℕ × ℕ)) → IsTrue (in_order o.notes) → (step_of o past by (AskLayouts number)).reply ≡ Known layouts → (task : Task) × (task_of o number ≡ Some task) × AreCurrentAt o past task.key layouts }
+    ensures { (o : Opening) (past : List Entry) (by number : ℕ) (layouts : List (ℕ × ℕ)) → IsTrue (in_order o.notes)
+        → (step_of o past by (AskLayouts number)).reply ≡ Known layouts
+        → AreTaskLayouts o past number layouts }
 {}
 
 /// Layouts are answered to the number that holds the task, of any work, and to no other.

@@ -6,8 +6,10 @@ ghost use Rattle.journal_model.specs.Legality.{Legal};
 ghost use Rattle.journal_model.specs.Limits.{most_again, most_tasks};
 ghost use Rattle.host_core.specs.Books.{notes_after};
 ghost use Rattle.host_core.specs.Mays.{IsMadeBy};
+ghost use Rattle.host_core.specs.Runs.{AreRuns};
 ghost use Rattle.host_core.specs.Steps.{step_of, takes_no_memory, is_free, unclaimed, told, shut_by};
 ghost use Rattle.host_core.specs.Settings.{registers_after};
+ghost use Rattle.task_queue.specs.Queues.{IsQueued};
 
 use crate::event::{Event, Reply};
 use crate::runs::{self, Run};
@@ -55,7 +57,15 @@ impl Model for Core {
 
     ghost view = { λ c. record { opening = c.opening; journal = c.journal.entries; registers = c.registers; notes = c.notes; shut = c.shut } };
 
-    ghost invariant = { λ c. Legal c.opening c.journal.entries × MayBegin c.opening × (room_of c.opening c.journal.entries ≤ c.journal.room) × (c.journal.room < 2 ^ 64) × IsServed c.opening c.journal.entries c.registers × IsNoted c.opening c.journal.entries c.notes × AreRuns c.opening c.journal.entries c.runs.items × IsQueued c.opening c.journal.entries c.queue };
+    ghost invariant = { λ c.
+        Legal c.opening c.journal.entries
+        × MayBegin c.opening
+        × (room_of c.opening c.journal.entries ≤ c.journal.room)
+        × (c.journal.room < 2 ^ 64)
+        × IsServed c.opening c.journal.entries c.registers
+        × IsNoted c.opening c.journal.entries c.notes
+        × AreRuns c.opening c.journal.entries c.runs.items
+        × IsQueued c.opening c.journal.entries c.queue };
 }
 
 impl Core {
@@ -66,19 +76,17 @@ impl Core {
         ensures empty { IfOk result (λ c. c.journal ≡ []) }
         ensures shut { IfOk result (λ c. c.shut ≡ false) }
     {
-        let (journal, registers, notes) = begun(alloc, &opening)?;
-        let runs = runs::first_runs(alloc, &opening)?;
-        let queue = Queue::new(alloc, &opening)?;
+        let begun = begin(alloc, &opening)?;
         let _kept = opening.registers.wanted();
         let _in_order = opening.notes.line(0);
         Ok(Core {
             alloc,
             opening,
-            journal,
-            registers,
-            notes,
-            runs,
-            queue,
+            journal: begun.journal,
+            registers: begun.registers,
+            notes: begun.notes,
+            runs: begun.runs,
+            queue: begun.queue,
             shut: false,
             waits: Waits::none(),
         })
@@ -113,9 +121,7 @@ impl Core {
             free,
         };
         let step = moves::move_of(self.alloc, past, by, event)?;
-        let more = group::group_room(&step.what, &step.due)?;
-        let bytes = group::group_bytes(&step.what, &step.due)?;
-        self.journal.take_room(more, bytes)?;
+        group::take_room(&mut self.journal, &step.what, &step.due)?;
         keeping::keep_group(
             self.alloc,
             &mut self.registers,
@@ -203,18 +209,73 @@ impl Core {
     }
 }
 
-// What a core begins with: a journal with room for what the runs of the tasks may come to, and copies of the opening's registers and notes.
-fn begun(alloc: Global, opening: &Opening) -> Result<(Journal, Registers, NoteBook), NoMemory>
+// What a core begins with, beside its opening.
+#[derive(Drop)]
+struct Begun {
+    journal: Journal,
+    registers: Registers,
+    notes: NoteBook,
+    runs: Vec<Run>,
+    queue: Queue,
+}
+
+// A journal with room for what the runs of the tasks may come to.
+fn first_journal(alloc: Global, opening: &Opening) -> Result<Journal, NoMemory>
+    requires few { length opening.now.tasks ≤ most_tasks }
+    requires again { opening.now.again ≤ most_again }
+    ensures empty { IfOk result (λ journal. journal.entries ≡ []) }
+    ensures room { IfOk result (λ journal. journal.room ≡ 2 * ((1 + opening.now.again) * length opening.now.tasks)) }
+{
+    let mut journal = Journal::new(alloc);
+    let runs = 1 + opening.again as usize;
+    journal.take_room(2 * (runs * opening.tasks.view().len()), 0)?;
+    Ok(journal)
+}
+
+// That journal, and copies of the opening's registers and notes.
+fn first_values(
+    alloc: Global,
+    opening: &Opening,
+) -> Result<(Journal, Registers, NoteBook), NoMemory>
     requires few { length opening.now.tasks ≤ most_tasks }
     requires again { opening.now.again ≤ most_again }
     ensures journal { IfOk result (λ b. (b.0.entries ≡ []) × (b.0.room ≡ 2 * ((1 + opening.now.again) * length opening.now.tasks))) }
     ensures registers { IfOk result (λ b. b.1 ≡ opening.now.registers) }
     ensures notes { IfOk result (λ b. b.2 ≡ opening.now.notes) }
 {
-    let mut journal = Journal::new(alloc);
-    let runs = 1 + opening.again as usize;
-    journal.take_room(2 * (runs * opening.tasks.view().len()), 0)?;
     let registers = opening.registers.copy()?;
     let notes = opening.notes.copy()?;
+    let journal = first_journal(alloc, opening)?;
     Ok((journal, registers, notes))
+}
+
+// What is kept of each task, and the queue of them.
+fn first_tasks(alloc: Global, opening: &Opening) -> Result<(Vec<Run>, Queue), NoMemory>
+    requires { length opening.now.tasks ≤ most_tasks }
+    ensures runs { IfOk result (λ b. AreRuns opening.now [] b.0.items) }
+    ensures queue { IfOk result (λ b. IsQueued opening.now [] b.1) }
+{
+    let runs = runs::first_runs(alloc, opening)?;
+    let queue = Queue::new(alloc, opening)?;
+    Ok((runs, queue))
+}
+
+fn begin(alloc: Global, opening: &Opening) -> Result<Begun, NoMemory>
+    requires few { length opening.now.tasks ≤ most_tasks }
+    requires again { opening.now.again ≤ most_again }
+    ensures journal { IfOk result (λ b. (b.journal.entries ≡ []) × (b.journal.room ≡ 2 * ((1 + opening.now.again) * length opening.now.tasks))) }
+    ensures registers { IfOk result (λ b. b.registers ≡ opening.now.registers) }
+    ensures notes { IfOk result (λ b. b.notes ≡ opening.now.notes) }
+    ensures runs { IfOk result (λ b. AreRuns opening.now [] b.runs.items) }
+    ensures queue { IfOk result (λ b. IsQueued opening.now [] b.queue) }
+{
+    let (runs, queue) = first_tasks(alloc, opening)?;
+    let (journal, registers, notes) = first_values(alloc, opening)?;
+    Ok(Begun {
+        journal,
+        registers,
+        notes,
+        runs,
+        queue,
+    })
 }

@@ -7,7 +7,8 @@ ghost use Rattle.journal_model.specs.Legality.{Legal, least_free};
 ghost use Rattle.journal_model.specs.Due.{made_by};
 ghost use Rattle.talk_serial.specs.Requests.{message_of, name_of};
 ghost use Rattle.wire_msg.specs.Shown.{host_shown};
-ghost use Rattle.host_core.specs.Steps.{is_free, step_of, claim, asking, next_job, next_on_wire, is_gone, gone, may_end, may_answer, closing, may_add_note, told, unless_shut, shut_by, shut_for, is_awaited, is_idle, listening, resting, next_line};
+ghost use Rattle.host_core.specs.Steps.{step_of, claim, asking, next_job, next_on_wire, gone, closing, told, unless_shut, shut_by, shut_for, listening, resting, next_line};
+ghost use Rattle.host_core.specs.Steps.{is_free, is_gone, is_awaited, is_idle, may_end, may_answer, may_add_note};
 ghost use Rattle.host_core.specs.Books.{IsNoted};
 ghost use Rattle.host_core.specs.Moves.{IsStep, group_made};
 ghost use Rattle.host_core.specs.Runs.{AreRuns};
@@ -243,6 +244,23 @@ fn ask(
     let message = request.message();
     let line = line_of(alloc, journal, child, next_job(journal, child), &message)?;
     asked(alloc, journal, child, task, request, line)
+}
+
+/// The same of a request that is its own.
+fn ask_own(
+    alloc: Global,
+    opening: &Opening,
+    journal: &Journal,
+    by: u32,
+    child: u32,
+    task: u32,
+    request: Request,
+) -> Result<Move, NoMemory>
+    ensures step { IfOk result (IsStep journal.now.entries by (step_of opening.now journal.now.entries by (Event.Ask child task request))) }
+    ensures reply { IfOk result (λ m. IsDueReply journal.now.entries m.what m.due) }
+    ensures free { is_free (step_of opening.now journal.now.entries by (Event.Ask child task request)) ≡ true → IsOk result }
+{
+    ask(alloc, opening, journal, by, child, task, &request)
 }
 
 fn lookup(opening: &Opening, journal: &Journal, by: u32, child: u32, job: u64) -> Move
@@ -598,7 +616,7 @@ pub(super) fn move_of(
             child,
             task,
             request,
-        } => ask(alloc, opening, journal, by, child, task, &request)?,
+        } => ask_own(alloc, opening, journal, by, child, task, request)?,
         Event::Lookup { child, job } => lookup(opening, journal, by, child, job),
         Event::Look { child } => look(opening, journal, by, child),
         Event::Listen { child } => listen(opening, journal, by, child),

@@ -5,10 +5,9 @@ ghost use Rattle.annex_model.specs.Lines.{has_newline};
 ghost use Rattle.annex_model.specs.Messages.{remote_reading};
 ghost use Rattle.wire_msg.specs.Shown.{remote_shown};
 ghost use Rattle.journal_model.specs.Journal.{on_wire, addressed};
-ghost use Rattle.journal_model.specs.Due.{replies, replying};
 ghost use Rattle.journal_model.specs.Replies.{set_by_all};
 ghost use Rattle.journal_model.specs.Registers.{if_setting};
-ghost use Rattle.host_core.specs.Moves.{dues, first_room};
+ghost use Rattle.host_core.specs.Moves.{AreRepliesDue, first_room};
 ghost use Rattle.host_core.specs.Settings.{IsServed, IsLine, is_reply, set_in};
 
 use crate::due::Due;
@@ -61,7 +60,7 @@ pub(super) fn replies(
     message: &RemoteMsg<'_>,
 ) -> Result<Due, NoMemory>
     requires { IsServed past.opening.now past.journal.now.entries past.registers.now }
-    ensures due { IfOk result (λ due. dues past.entry.journal.now.entries due ≡ replying past.entry.journal.now.entries child job (replies past.entry.opening.now past.entry.journal.now.entries (remote_shown message.now))) }
+    ensures due { IfOk result (AreRepliesDue past.entry.opening.now past.entry.journal.now.entries child job (remote_shown message.now)) }
     ensures reply { IfOk result (λ due. is_reply due ≡ true) }
 {
     let replies = replies_to(alloc, past.registers, &past.opening.identity, message)?;

@@ -147,9 +147,35 @@ fn begin(alloc: Global, seed: u64, tasks: u32) -> Result<World, NoMemory>
     ensures begun { IfOk result (λ world. world ≡ first_world seed tasks) }
     ensures stands { IfOk result Stands }
 {
-    let opening = opening_of(alloc, seed as u32, tasks)?;
     let files = files_of(alloc, tasks)?;
+    let opening = opening_of(alloc, seed as u32, tasks)?;
     World::new(alloc, opening, files)
+}
+
+// The world in which it ends.
+fn ended(alloc: Global, seed: u64, tasks: u32) -> Result<World, NoMemory>
+    requires seed { seed < 2 ^ 32 }
+    requires tasks { tasks ≤ MOST_TASKS }
+    ensures walked { IfOk result (Walked seed tasks) }
+    ensures stands { IfOk result Stands }
+    ensures opening { IfOk result (λ world. world.opening ≡ opening_of seed tasks) }
+    ensures files { IfOk result (ChangesFiles (first_world seed tasks)) }
+{
+    let mut world = begin(alloc, seed, tasks)?;
+    make_moves(alloc, &mut world, seed)?;
+    Ok(world)
+}
+
+// How many of its answers count for each word, and how many tasks got the content of their keys.
+fn counted(alloc: Global, world: &World, seed: u32, tasks: u32) -> Result<([u64; 7], u64), NoMemory>
+    requires tasks { tasks ≤ MOST_TASKS }
+    requires few { length world.now.opening.tasks ≤ most_tasks }
+    ensures counts { IfOk result (λ n. n.0 ≡ counts_in world.now) }
+    ensures equal { IfOk result (λ n. n.1 ≡ equal_in seed tasks world.now) }
+{
+    let counts = counts_in(alloc, world)?;
+    let equal = equal_in(alloc, world, seed, tasks)?;
+    Ok((counts, equal))
 }
 
 /// Does the tasks of a rehearsal, by that seed, in a world of four children. It touches nothing outside.
@@ -166,10 +192,8 @@ pub fn walk(alloc: Global, seed: u64, tasks: u32) -> Result<Walk, NoMemory>
     ensures counts { IfOk result (λ walk. walk.counts ≡ counts_in walk.world) }
     ensures equal { IfOk result (λ walk. walk.equal ≡ equal_in seed tasks walk.world) }
 {
-    let mut world = begin(alloc, seed, tasks)?;
-    make_moves(alloc, &mut world, seed)?;
-    let counts = counts_in(alloc, &world)?;
-    let equal = equal_in(alloc, &world, seed as u32, tasks)?;
+    let world = ended(alloc, seed, tasks)?;
+    let (counts, equal) = counted(alloc, &world, seed as u32, tasks)?;
     Ok(Walk {
         counts,
         equal,

@@ -7,13 +7,13 @@ use Rattle.host_core.proofs.machine.Core.new.Goals as goal
 pub invariant_of-result : goal.invariant_of-result
 invariant_of-result c =
     let o = c.args.opening in
-    let e = sym c.in_ok-journal.ensures.journal.0 in (
+    let e = sym c.in_ok-begun.ensures.journal.0 in (
       search rules,
       c.requires,
       search rules,
       search rules,
       search rules,
       search rules,
-      subst (λ (es : List Entry). AreRuns o es c.in_ok-runs.runs.items) e c.in_ok-runs.ensures,
-      subst (λ (es : List Entry). IsQueued o es c.in_ok-queue.queue) e c.in_ok-queue.ensures,
+      subst (λ (es : List Entry). AreRuns o es c.in_ok-begun.begun.runs.items) e c.in_ok-begun.ensures.runs,
+      subst (λ (es : List Entry). IsQueued o es c.in_ok-begun.begun.queue) e c.in_ok-begun.ensures.queue,
     )

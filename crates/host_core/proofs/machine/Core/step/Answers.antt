@@ -15,23 +15,19 @@ use Rattle.host_core.specs.Steps.{step_of, told, unless_shut, is_free}
 use Rattle.host_core.specs.Books.{IsNoted}
 use Rattle.host_core.specs.CoreValue.{CoreValue}
 use Rattle.host_core.specs.Mays.{IsMadeBy}
-use Rattle.host_core.specs.Moves.{group_bytes, group_made, group_room}
+use Rattle.host_core.specs.Moves.{group_made, group_room}
 use Rattle.host_core.specs.Queued.{IsTurnedIn}
 use Rattle.host_core.specs.Runs.{AreRuns}
 use Rattle.host_core.specs.Settings.{set_in, IsServed}
 use Rattle.host_core.proofs.Sharing.{step_made}
 use Rattle.host_core.proofs.Stepping.{Legal-step}
-use Rattle.host_core.proofs.Pushing.{group_fits, few_entries, free_bytes, free_room, free_first}
+use Rattle.host_core.proofs.Pushing.{group_fits, few_entries, free_room, free_first}
 use Rattle.host_core.proofs.Sparing.{event_free}
 use Rattle.host_core.proofs.Noting.{note_fits, notes_grow}
 use Rattle.host_core.proofs.Queueing.{queue_fits, queue_turns}
 use Rattle.host_core.proofs.Running.{runs_fit, runs_grow}
 use Rattle.host_core.proofs.Setting.{settings_group, line_fits, registers_grow}
 use Rattle.host_core.proofs.machine.Core.step.Goals as goal
-
--- nothing is not too much
-too_many : (n : ℕ) → n ≡ 0 → 2 ^ 64 ≤ n → ⊥
-too_many n none many = omega (arith, none, many)
 
 pub keep_group-requires-clause-line : goal.keep_group-requires-clause-line
 keep_group-requires-clause-line c =
@@ -82,9 +78,9 @@ push_group-requires-clause-room c =
     let few = few_entries o past c.self.inside.journal.room c.self.invariant.0 c.self.invariant.2 c.self.invariant.3 in
     let e : group_made past c.args.by what due ≡ (step_of o past c.args.by c.args.event).group = c.in_ok-step.ensures.step.group_is in
     let room : ℕ = c.self.inside.journal.room in
-    let kept : c.take_room.new.self.room ≡ room + group_room what due = c.in_ok-take_room.ensures.room ∙ ap (λ (n : ℕ). room + n) c.in_ok-more.ensures in
+    let kept : c.take_room.new.journal.room ≡ room + group_room what due = c.in_ok-take_room.ensures.room in
     let both = group_fits o past c.args.by c.args.event what due room few c.self.invariant.0 e c.self.invariant.2 in
-    let P : List Entry → Type 0 = λ es. length es + length (group_made es c.args.by what due) ≤ c.take_room.new.self.room in
+    let P : List Entry → Type 0 = λ es. length es + length (group_made es c.args.by what due) ≤ c.take_room.new.journal.room in
     subst P (sym c.take_room.ensures.entries) (omega (arith, both.0, kept))
 
 pub returns-clause-legal : goal.returns-clause-legal
@@ -134,7 +130,7 @@ invariant_of-self-2 c =
     let few = few_entries o past c.self.inside.journal.room c.self.invariant.0 c.self.invariant.2 c.self.invariant.3 in
     let e : group_made past c.args.by what due ≡ (step_of o past c.args.by c.args.event).group = c.in_ok-step.ensures.step.group_is in
     let room : ℕ = c.self.inside.journal.room in
-    let kept : c.take_room.new.self.room ≡ room + group_room what due = c.in_ok-take_room.ensures.room ∙ ap (λ (n : ℕ). room + n) c.in_ok-more.ensures in
+    let kept : c.take_room.new.journal.room ≡ room + group_room what due = c.in_ok-take_room.ensures.room in
     let both = group_fits o past c.args.by c.args.event what due room few c.self.invariant.0 e c.self.invariant.2 in
     let grown : c.push_group.new.journal.entries ≡ past ++ group_made past c.args.by what due =
     c.push_group.ensures.entries ∙ ap (λ (es : List Entry). es ++ group_made es c.args.by what due) c.take_room.ensures.entries in
@@ -194,8 +190,7 @@ returns-in_err-take_room-clause-free c = λ free. (
     let due : Due = c.in_ok-step.step.due in
     let e : group_made past c.args.by what due ≡ (step_of o past c.args.by c.args.event).group = c.in_ok-step.ensures.step.group_is in
     let f : is_free (step_of o past c.args.by c.args.event) ≡ true = subst (λ (v : CoreValue). is_free (step_of v.opening v.journal c.args.by c.args.event) ≡ true) (sym c.self.view_is) free in
-    let none = free_room o past c.args.by c.args.event what due f e in
-    let no : false ≡ true = c.in_err-take_room.ensures.free (c.in_ok-more.ensures ∙ none) (c.in_ok-bytes.ensures ∙ free_bytes what due none) in
+    let no : false ≡ true = c.in_err-take_room.ensures.free (free_room o past c.args.by c.args.event what due f e) in
     (cc)
     )
 
@@ -207,8 +202,7 @@ returns-in_err-take_room-clause-free_event c = λ free. (
     let due : Due = c.in_ok-step.step.due in
     let e : group_made past c.args.by what due ≡ (step_of o past c.args.by c.args.event).group = c.in_ok-step.ensures.step.group_is in
     let f : is_free (step_of o past c.args.by c.args.event) ≡ true = event_free o past c.args.by c.args.event free in
-    let none = free_room o past c.args.by c.args.event what due f e in
-    let no : false ≡ true = c.in_err-take_room.ensures.free (c.in_ok-more.ensures ∙ none) (c.in_ok-bytes.ensures ∙ free_bytes what due none) in
+    let no : false ≡ true = c.in_err-take_room.ensures.free (free_room o past c.args.by c.args.event what due f e) in
     (cc)
     )
 
@@ -258,90 +252,12 @@ invariant_of-self c = (
   c.free_task-free.ensures.kept c.self.inside.journal.entries c.self.invariant.7,
 )
 
-pub invariant_of-self-in_err-more : goal.invariant_of-self-in_err-more
-invariant_of-self-in_err-more c = (
-  c.self.invariant.0,
-  c.self.invariant.1,
-  c.self.invariant.2,
-  c.self.invariant.3,
-  c.self.invariant.4,
-  c.self.invariant.5,
-  c.self.invariant.6,
-  c.free_task-free.ensures.kept c.self.inside.journal.entries c.self.invariant.7,
-)
-
-pub returns-in_err-more-clause-few : goal.returns-in_err-more-clause-few
-returns-in_err-more-clause-few c =
-    few_entries c.self.inside.opening c.self.inside.journal.entries c.self.inside.journal.room c.self.invariant.0 c.self.invariant.2 c.self.invariant.3
-
-pub returns-in_err-more-clause-free : goal.returns-in_err-more-clause-free
-returns-in_err-more-clause-free c = λ free. (
-    let o : Opening = c.self.inside.opening in
-    let past : List Entry = c.self.inside.journal.entries in
-    let what : Option What = c.in_ok-step.step.what in
-    let due : Due = c.in_ok-step.step.due in
-    let e : group_made past c.args.by what due ≡ (step_of o past c.args.by c.args.event).group = c.in_ok-step.ensures.step.group_is in
-    let f : is_free (step_of o past c.args.by c.args.event) ≡ true = subst (λ (v : CoreValue). is_free (step_of v.opening v.journal c.args.by c.args.event) ≡ true) (sym c.self.view_is) free in
-    absurd (omega (arith, c.in_err-more.ensures, free_room o past c.args.by c.args.event what due f e))
-    )
-
-pub returns-in_err-more-clause-free_event : goal.returns-in_err-more-clause-free_event
-returns-in_err-more-clause-free_event c = λ free. (
-    let o : Opening = c.self.inside.opening in
-    let past : List Entry = c.self.inside.journal.entries in
-    let what : Option What = c.in_ok-step.step.what in
-    let due : Due = c.in_ok-step.step.due in
-    let e : group_made past c.args.by what due ≡ (step_of o past c.args.by c.args.event).group = c.in_ok-step.ensures.step.group_is in
-    let f : is_free (step_of o past c.args.by c.args.event) ≡ true = event_free o past c.args.by c.args.event free in
-    absurd (omega (arith, c.in_err-more.ensures, free_room o past c.args.by c.args.event what due f e))
-    )
-
-pub invariant_of-self-in_err-bytes : goal.invariant_of-self-in_err-bytes
-invariant_of-self-in_err-bytes c = (
-  c.self.invariant.0,
-  c.self.invariant.1,
-  c.self.invariant.2,
-  c.self.invariant.3,
-  c.self.invariant.4,
-  c.self.invariant.5,
-  c.self.invariant.6,
-  c.free_task-free.ensures.kept c.self.inside.journal.entries c.self.invariant.7,
-)
-
-pub returns-in_err-bytes-clause-few : goal.returns-in_err-bytes-clause-few
-returns-in_err-bytes-clause-few c =
-    few_entries c.self.inside.opening c.self.inside.journal.entries c.self.inside.journal.room c.self.invariant.0 c.self.invariant.2 c.self.invariant.3
-
-pub returns-in_err-bytes-clause-free : goal.returns-in_err-bytes-clause-free
-returns-in_err-bytes-clause-free c = λ free. (
-    let o : Opening = c.self.inside.opening in
-    let past : List Entry = c.self.inside.journal.entries in
-    let what : Option What = c.in_ok-step.step.what in
-    let due : Due = c.in_ok-step.step.due in
-    let e : group_made past c.args.by what due ≡ (step_of o past c.args.by c.args.event).group = c.in_ok-step.ensures.step.group_is in
-    let f : is_free (step_of o past c.args.by c.args.event) ≡ true = subst (λ (v : CoreValue). is_free (step_of v.opening v.journal c.args.by c.args.event) ≡ true) (sym c.self.view_is) free in
-    let none = free_bytes what due (free_room o past c.args.by c.args.event what due f e) in
-    absurd (too_many (group_bytes what due) none c.in_err-bytes.ensures)
-    )
-
-pub returns-in_err-bytes-clause-free_event : goal.returns-in_err-bytes-clause-free_event
-returns-in_err-bytes-clause-free_event c = λ free. (
-    let o : Opening = c.self.inside.opening in
-    let past : List Entry = c.self.inside.journal.entries in
-    let what : Option What = c.in_ok-step.step.what in
-    let due : Due = c.in_ok-step.step.due in
-    let e : group_made past c.args.by what due ≡ (step_of o past c.args.by c.args.event).group = c.in_ok-step.ensures.step.group_is in
-    let f : is_free (step_of o past c.args.by c.args.event) ≡ true = event_free o past c.args.by c.args.event free in
-    let none = free_bytes what due (free_room o past c.args.by c.args.event what due f e) in
-    absurd (too_many (group_bytes what due) none c.in_err-bytes.ensures)
-    )
-
 pub invariant_of-self-in_err-take_room : goal.invariant_of-self-in_err-take_room
 invariant_of-self-in_err-take_room c =
     let o : Opening = c.self.inside.opening in
     let past : List Entry = c.self.inside.journal.entries in
     let same = sym c.take_room.ensures.entries in
-    let rooms : room_of o c.take_room.new.self.entries ≡ room_of o past = ap (room_of o) c.take_room.ensures.entries in (
+    let rooms : room_of o c.take_room.new.journal.entries ≡ room_of o past = ap (room_of o) c.take_room.ensures.entries in (
       subst (Legal o) same c.self.invariant.0,
       c.self.invariant.1,
       omega (arith, rooms, c.self.invariant.2, c.in_err-take_room.ensures.err),
@@ -357,7 +273,7 @@ invariant_of-self-in_err-keep_group c =
     let o : Opening = c.self.inside.opening in
     let past : List Entry = c.self.inside.journal.entries in
     let same = sym c.take_room.ensures.entries in
-    let rooms : room_of o c.take_room.new.self.entries ≡ room_of o past = ap (room_of o) c.take_room.ensures.entries in (
+    let rooms : room_of o c.take_room.new.journal.entries ≡ room_of o past = ap (room_of o) c.take_room.ensures.entries in (
       subst (Legal o) same c.self.invariant.0,
       c.self.invariant.1,
       omega (arith, rooms, c.self.invariant.2, c.in_ok-take_room.ensures.room),
