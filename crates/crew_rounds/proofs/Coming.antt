@@ -12,8 +12,8 @@ use Rattle.gathering.proofs.Ending.{ear_ends, mouth_ends}
 use Rattle.gathering.proofs.Halls.{drop_start}
 use Rattle.gathering.proofs.Renewing.{renews_by}
 use Rattle.link_roles.specs.Moves.{EarMoved, MouthMoved}
-use Rattle.crew_work.specs.Crews.{Worked}
-use Rattle.crew_work.proofs.Working.{passed_none, worked_still}
+use Rattle.lone_work.specs.Works.{Worked}
+use Rattle.lone_work.proofs.Turning.{passed_none, worked_still}
 use Rattle.crew_rounds.specs.Coming.{EarsCome, IsFresh, MouthsCome, WorkersCome, WorkersStay}
 use Rattle.ann_key.proofs.Booleans.{true_and_false as true_not_false}
 

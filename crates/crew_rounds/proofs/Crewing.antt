@@ -13,9 +13,9 @@ use Rattle.gathering.specs.Rounds.{CorePass, WorkerEnds, since}
 use Rattle.gathering.specs.Tasks.{turns_by}
 use Rattle.gathering.proofs.Halls.{Saw, drop_start}
 use Rattle.task_run.specs.declared.setup.Setup.{Setup}
-use Rattle.lone_work.specs.Works.{AllRan, TaskDone}
+use Rattle.lone_work.specs.Works.{AllRan, TaskDone, Worked}
 use Rattle.lone_work.proofs.Working.{runs_last}
-use Rattle.crew_work.specs.Crews.{Worked, calls_of}
+use Rattle.crew_work.specs.Runs.{calls_of}
 use Rattle.gathering.specs.JournalRuns.{HasJournalRun}
 use Rattle.crew_work.proofs.Ending.{worker_ends}
 use Rattle.crew_rounds.specs.Crewing.{AllManned, AllRun, DeskDid, DesksDid, Manned, WorkerTells, calls_from}

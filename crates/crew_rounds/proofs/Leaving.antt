@@ -20,7 +20,7 @@ use Rattle.gathering.proofs.Ending.{stayed_keeps}
 use Rattle.link_roles.specs.Doors.{Ends}
 use Rattle.link_roles.specs.Moves.{IsSameLink}
 use Rattle.task_run.specs.declared.setup.Setup.{Setup}
-use Rattle.crew_work.specs.Crews.{CanServe}
+use Rattle.lone_work.specs.Works.{CanServe}
 use Rattle.crew_round.specs.declared.back.Back.{Back}
 use Rattle.crew_round.specs.declared.back.Back.TheVariants.{Stayed, Ran}
 use Rattle.crew_round.specs.Back.{CameBack}

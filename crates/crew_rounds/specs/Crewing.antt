@@ -10,8 +10,8 @@ use Rattle.gathering.specs.JournalRuns.{JournalRun}
 use Rattle.gathering.specs.Rounds.{CorePass, since}
 use Rattle.gathering.specs.Tasks.{IsThroughAfterAgain, turns_by}
 use Rattle.task_run.specs.declared.setup.Setup.{Setup}
-use Rattle.lone_work.specs.Works.{CausedInTurn, TaskDone, all_calls, turns_of}
-use Rattle.crew_work.specs.Crews.{Worked, calls_of}
+use Rattle.lone_work.specs.Works.{CausedInTurn, TaskDone, Worked, all_calls, turns_of}
+use Rattle.crew_work.specs.Runs.{calls_of}
 
 -- a worker's pass, and what its desk tells
 pub record WorkerTells : Type 0 where

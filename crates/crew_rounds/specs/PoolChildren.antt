@@ -7,7 +7,7 @@ use Rattle.journal_model.specs.Journal.{why_of}
 use Rattle.link_roles.specs.Writings.{LoneWired}
 use Rattle.gathering.specs.Rounds.{LinkValue, IsAtRest}
 use Rattle.gathering.specs.Laws.{Distinct, children_of}
-use Rattle.crew_work.specs.Crews.{CanServe}
+use Rattle.lone_work.specs.Works.{CanServe}
 
 -- The child of this link can serve in a round: it was got ready and not closed; and the link is wired to the journal, where each
 -- request was written before a line answered it.

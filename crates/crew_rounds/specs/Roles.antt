@@ -15,8 +15,7 @@ use Rattle.host_core.specs.declared.event.Reply.TheVariants.{Over}
 use Rattle.link_roles.specs.Events.{Says}
 use Rattle.link_roles.specs.Moves.{EarMoved, MouthMoved}
 use Rattle.task_run.specs.declared.setup.Setup.{Setup}
-use Rattle.lone_work.specs.Works.{AreTasks}
-use Rattle.crew_work.specs.Crews.{CanServe, Worked}
+use Rattle.lone_work.specs.Works.{AreTasks, CanServe, Worked}
 
 -- the pass is one of the hall, and has seen that the child was started
 pub record CanHold (h : HallValue Entry Opening) (p : CorePass) (c : ℕ) : Type 0 where

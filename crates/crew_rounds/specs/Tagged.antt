@@ -10,7 +10,7 @@ use Rattle.gathering.specs.Tasks.{IsThrough}
 use Rattle.gathering.specs.Rounds.{CorePass, LinkValue, KeepsPost, EarEnds, MouthEnds, IsAtRest}
 use Rattle.gathering.specs.Laws.{MayBeginTagged}
 use Rattle.task_run.specs.declared.setup.Setup.{Setup}
-use Rattle.crew_work.specs.Crews.{CanServe}
+use Rattle.lone_work.specs.Works.{CanServe}
 use Rattle.crew_rounds.specs.Coming.{IsFresh}
 use Rattle.crew_rounds.specs.Crewing.{AllManned, WorkerTells}
 use Rattle.crew_rounds.specs.TaggedRounds.{passes_of, desks_of}

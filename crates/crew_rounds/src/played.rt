@@ -77,7 +77,8 @@ fn cast<'a, I: Sink, O: Source, K: Desk + Drop, R: Wait>(
     ensures desks { kit.desks.items ≡ map (λ w. w.desk) (reverse result.0.workers.items) }
     ensures link { (result.0.ear.ear ≡ kit.link.ear) × (result.0.mouth.mouth ≡ kit.link.mouth) }
     ensures holders { (result.0.ear.hall.now ≡ site.now.hall.now) × (result.0.mouth.hall.now ≡ site.now.hall.now) }
-    ensures placed { All (λ w. (w.hall.now ≡ site.now.hall.now) × (w.tasks.now ≡ site.now.tasks.now) × (w.setup.now ≡ site.now.setup.now) × (w.way.child ≡ site.now.child)) result.0.workers.items }
+    ensures placed { All (λ w. (w.hall.now ≡ site.now.hall.now) × (w.tasks.now ≡ site.now.tasks.now) × (w.setup.now ≡ site.now.setup.now) × (w.way.child ≡ site.now.child))
+        result.0.workers.items }
     ensures none { (result.1.passes.items ≡ []) × (result.1.desks.items ≡ []) }
     ensures rooms { (3 + vec_len result.0.workers ≤ vec_capacity result.1.passes) × (vec_len result.0.workers ≤ vec_capacity result.1.desks) }
 {
@@ -213,7 +214,8 @@ pub(crate) fn play<
     requires tasks { (site.now.hall.now.fixed.tasks ≡ site.now.tasks.now) × AreTasks site.now.tasks.now }
     requires folder { has_newline site.now.setup.now.work ≡ false }
     ensures own { All (IsPassOf site.now.hall.now) result.0.passes.items × (length result.0.passes.items ≡ length kit.passes.items) }
-    ensures left { IfDone result.1 (CrewLeft site.now.hall.now site.now.setup.now kit.link.ear.child (link_of result.0.link.ear result.0.link.mouth) result.0.passes.items (map K.told kit.desks.items) (map K.told result.0.desks.items)) }
+    ensures left { IfDone result.1 (CrewLeft site.now.hall.now site.now.setup.now kit.link.ear.child (link_of result.0.link.ear result.0.link.mouth)
+        result.0.passes.items (map K.told kit.desks.items) (map K.told result.0.desks.items)) }
     ensures kept { IfKept result.1 ((result.0.passes.items ≡ kit.passes.items) × LinkStays kit.link.ear result.0.link.ear kit.link.mouth result.0.link.mouth kit.desks.items result.0.desks.items) }
     ensures same { IsSameLink kit.link.ear result.0.link.ear kit.link.mouth result.0.link.mouth }
 {

@@ -53,7 +53,9 @@ pub fn round_tagged_some<
     requires can { TaggedCan core.opening core.journal (link_of link.ear link.mouth) }
     requires tasks { (core.opening.tasks ≡ tasks.now) × AreTasks tasks.now }
     requires folder { has_newline setup.now.work ≡ false }
-    ensures round { IfDone result.outcome (GoesOn core.journal result.core.journal (λ rest. TaggedLeaves core.opening setup.now (range_with_len 1 (3 + vec_len desks)) core.journal rest (link_of result.link.ear result.link.mouth) (map K.told desks.items) (map K.told result.desks.items))) }
+    ensures round { IfDone result.outcome (GoesOn core.journal result.core.journal
+        (λ rest. TaggedLeaves core.opening setup.now (range_with_len 1 (3 + vec_len desks)) core.journal rest (link_of result.link.ear result.link.mouth)
+        (map K.told desks.items) (map K.told result.desks.items))) }
     ensures kept { IfKept result.outcome ((result.core.journal ≡ core.journal) × LinkStays link.ear result.link.ear link.mouth result.link.mouth desks.items result.desks.items) }
     ensures opening { result.core.opening ≡ core.opening }
     ensures same { IsSameLink link.ear result.link.ear link.mouth result.link.mouth }
@@ -116,7 +118,9 @@ pub fn round_tagged<
     requires can { TaggedCan core.opening core.journal (link_of link.ear link.mouth) }
     requires tasks { (core.opening.tasks ≡ tasks.now) × AreTasks tasks.now }
     requires folder { has_newline setup.now.work ≡ false }
-    ensures round { IfDone result.outcome (GoesOn core.journal result.core.journal (λ rest. TaggedLeaves core.opening setup.now (range_with_len 1 (3 + vec_len desks)) core.journal rest (link_of result.link.ear result.link.mouth) (map K.told desks.items) (map K.told result.desks.items))) }
+    ensures round { IfDone result.outcome (GoesOn core.journal result.core.journal
+        (λ rest. TaggedLeaves core.opening setup.now (range_with_len 1 (3 + vec_len desks)) core.journal rest (link_of result.link.ear result.link.mouth)
+        (map K.told desks.items) (map K.told result.desks.items))) }
     ensures kept { IfKept result.outcome ((result.core.journal ≡ core.journal) × LinkStays link.ear result.link.ear link.mouth result.link.mouth desks.items result.desks.items) }
     ensures opening { result.core.opening ≡ core.opening }
     ensures same { IsSameLink link.ear result.link.ear link.mouth result.link.mouth }

@@ -1,9 +1,10 @@
 // A worker in a thread.
 use ann_outside::Desk;
 use crew_round::Role;
-use crew_work::{Way, run_worker};
+use crew_work::run_worker;
 use hall::{Hall, Pass};
 use host_core::Core;
+use lone_work::Way;
 use std::alloc::Global;
 use std::sync::Wait;
 use task_run::Setup;
@@ -29,7 +30,8 @@ impl<'a, W: Way, K: Desk, R: Wait> Role for Worker<'a, W, K, R> {
 
     ghost can_run = { λ s. CanWork s.hall.now s.pass s.tasks.now s.setup.now (W.serves s.way) };
 
-    ghost ran = { λ a b. WorkerRan a.hall.now a.setup.now a.pass b.pass (W.owns a.way) (W.serves a.way) (W.wired a.way (seen_of a.pass)) (W.wired b.way (seen_of b.pass)) (K.told a.desk) (K.told b.desk) × (W.serves b.way ≡ W.serves a.way) × (W.owns b.way ≡ W.owns a.way) × W.same a.way b.way };
+    ghost ran = { λ a b. WorkerRan a.hall.now a.setup.now a.pass b.pass (W.owns a.way) (W.serves a.way) (W.wired a.way (seen_of a.pass)) (W.wired b.way (seen_of b.pass))
+        (K.told a.desk) (K.told b.desk) × (W.serves b.way ≡ W.serves a.way) × (W.owns b.way ≡ W.owns a.way) × W.same a.way b.way };
 
     fn run(self) -> Self {
         let Worker {

@@ -17,7 +17,8 @@ use Rattle.lone_work.specs.AtTasks.{AtTask, AskedFor}
 use Rattle.lone_work.specs.KnownLayouts.{IsBook}
 use Rattle.lone_work.specs.Noting.{by_noting}
 use Rattle.lone_work.proofs.Serving.{at_asked}
-use Rattle.crew_work.specs.Jobs.{JobsOn, by_jobs}
+use Rattle.lone_work.specs.Servings.{by_jobs}
+use Rattle.crew_work.specs.Jobs.{JobsOn}
 use Rattle.ann_key.proofs.Numbers.{same_number as same}
 
 never_jobs : (c t : ℕ) (w : What) → never w ≡ true → by_jobs c t w ≡ true
@@ -42,12 +43,12 @@ note_jobs c t w h = absurd cc
 -- ---- what asking and noting leave
 
 module _ (o : Opening) (n t u : ℕ) (a : Bool) (old new : List Entry) (is : t ≡ u) (book : IsBook o.notes) where
-  jobs_on : (c : ℕ) → AtTask o n t new → Grows n a (by_jobs c t) old new → JobsOn o n a c u old new
-  jobs_on c at grows = subst (λ (k : ℕ). JobsOn o n a c k old new) is record { may = record { at = at; book = book }; grows = grows }
+  jobs_on : (c : ℕ) → AtTask o n t new → Grows n a (by_jobs c t) old new → JobsOn o n a old new c u
+  jobs_on c at grows = subst (λ (k : ℕ). JobsOn o n a old new c k) is record { may = record { at = at; book = book }; grows = grows }
 
-  pub jobs_on_asked : (c : ℕ) (name : Option (List ℕ)) (q : HostMessage) (result : Result Verdict NoMemory) → AskedFor o n t old new name q result → Grows n a (by_jobs c t) old new → JobsOn o n a c u old new
+  pub jobs_on_asked : (c : ℕ) (name : Option (List ℕ)) (q : HostMessage) (result : Result Verdict NoMemory) → AskedFor o n t old new name q result → Grows n a (by_jobs c t) old new → JobsOn o n a old new c u
   jobs_on_asked c name q result h grows = jobs_on c (at_asked o n t old new name q result h) grows
 
   -- notes of the task, or nothing
-  pub jobs_on_noted : (c : ℕ) → AtTask o n t new → Grows n a (by_noting t) old new → JobsOn o n a c u old new
+  pub jobs_on_noted : (c : ℕ) → AtTask o n t new → Grows n a (by_noting t) old new → JobsOn o n a old new c u
   jobs_on_noted c at grows = jobs_on c at (moved_wider (note_jobs c t) (λ w k. k) grows (λ own k p. p))

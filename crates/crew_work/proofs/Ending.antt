@@ -1,29 +1,49 @@
 -- What a worker did gives what it promises at its end.
 use Rattle.ann_outside.specs.Told.{DeskTold}
-use Rattle.std.proofs.Common.{◌≡◌, ℕ, ◌<◌, List, [], ◌∷◌, refl, sym, ap, subst, ◌∙◌, Bool, true, false, ◌==◌, cond}
+use Rattle.std.proofs.Common.{◌≡◌, ℕ, ◌<◌, List, [], ◌∷◌, refl, sym, ap, subst, ◌∙◌, Bool, true, false, not, ◌==◌, cond}
 use Rattle.std.specs.Prelude.{◌&&◌, ◌||◌}
 use Rattle.std.specs.List.{list_any}
 use Rattle.ann_outside.specs.declared.file_desk.Call.{Call}
 use Rattle.hall.specs.Passes.{seen_of}
 use Rattle.journal_model.specs.declared.entry.What.{What}
+use Rattle.journal_model.specs.declared.entry.What.TheVariants.{Claim, Lead, Ask, Lost, Note, Answer as Answered, Again}
 use Rattle.journal_model.specs.declared.entry.Entry.{Entry}
 use Rattle.journal_model.specs.declared.opening.Opening.{Opening}
 use Rattle.journal_model.specs.Journal.{is_started}
-use Rattle.journal_model.specs.Shares.{are_own, is_of_child, makes_only}
-use Rattle.gathering.specs.Posts.{Post, makes}
+use Rattle.journal_model.specs.Shares.{are_own, by_link, is_of_child, makes_only}
+use Rattle.gathering.specs.Posts.{Post, makes, works}
 use Rattle.gathering.specs.Rounds.{CorePass, IsWired, LinkValue, LoneEnds, WorkerEnds, since}
 use Rattle.gathering.proofs.Laboring.{started_lasts}
 use Rattle.link_roles.specs.Moves.{IsSameLink}
 use Rattle.link_roles.specs.Writings.{LoneWired, is_written_first}
 use Rattle.task_run.specs.declared.setup.Setup.{Setup}
 use Rattle.gathering.specs.JournalRuns.{HasJournalRun, JournalRun}
-use Rattle.lone_work.specs.Works.{AllRan, TaskDone, turns_of}
+use Rattle.lone_work.specs.Works.{AllRan, TaskDone, Worked, by_worker, turns_of}
 use Rattle.gathering.specs.Tasks.{IsThroughAfterAgain, takes_turn, turns_by}
-use Rattle.crew_work.specs.Crews.{Worked, calls_of, post_of}
-use Rattle.crew_work.specs.Runs.{LonesEnd, WorkersEnd}
+use Rattle.crew_work.specs.Runs.{LonesEnd, WorkersEnd, calls_of, post_of}
 use Rattle.gathering.proofs.Ending.{since_is as new_is}
 use Rattle.std.proofs.lemmas.Bool.{and_parts as both, eqb-true as same_number}
 use Rattle.lone_work.proofs.Serving.{wider as wider_made}
+use Rattle.ann_key.proofs.Booleans.{or_left}
+
+-- what a worker makes its post makes
+worker_posted : (owns : Bool) (c : ℕ) (w : What) → by_worker owns c w ≡ true → makes (post_of owns c) w ≡ true
+worker_posted true c (Claim task child) h = h
+worker_posted true c (Lead child job line) h = h
+worker_posted true c (Ask child job task line) h = (both (child == c) (not (task == 0)) h).0
+worker_posted true c (Lost child task) h = (both (child == c) (not (task == 0)) h).0
+worker_posted true c (Note task chunk count) h = refl
+worker_posted true c (Answered task answer) h = refl
+worker_posted true c (Again task answer) h = refl
+worker_posted true c w h = or_left (by_link c w) (works c w) h
+worker_posted false c (Claim task child) h = h
+worker_posted false c (Lead child job line) h = h
+worker_posted false c (Ask child job task line) h = (both (child == c) (not (task == 0)) h).0
+worker_posted false c (Lost child task) h = (both (child == c) (not (task == 0)) h).0
+worker_posted false c (Note task chunk count) h = refl
+worker_posted false c (Answered task answer) h = refl
+worker_posted false c (Again task answer) h = refl
+worker_posted false c w h = absurd cc
 
 -- its run
 run_of : (o : Opening) (setup : Setup) (n c t k : ℕ) (journal : List Entry) (done : List TaskDone) → AllRan o setup n c journal done → list_any (λ (u : ℕ × ℕ). u.0 == t && u.1 == k) (turns_of done) ≡ true
@@ -47,7 +67,7 @@ worker_ends o setup calls owns c crew p Before After desk desk' w through pos to
   keeps = record {
     number = pos;
     only = subst (λ (x : List Entry). makes_only (makes (crew p.number)) p.number x ≡ true) (sym new)
-        (wider_made (makes (post_of owns c)) (makes (crew p.number)) post p.number more w.did.moved.own);
+        (wider_made (by_worker owns c) (makes (crew p.number)) (λ z h. post z (worker_posted owns c z h)) p.number more w.did.moved.own);
     holds = w.rests;
   };
   ran = λ t k h. subst (λ (l : List Call). JournalRun o setup l p.number t k (seen_of p)) (sym (told t k)) (run t k h);

@@ -8,12 +8,12 @@ use Rattle.link_roles.proofs.Roles.{moved_both, moved_still, same_both}
 use Rattle.crew_work.specs.Jobs.{JobsGo, JobsOn, MayAsk}
 
 module _ (o : Opening) (n : ℕ) (a : Bool) (c t : ℕ) (o' : Opening) (m : ℕ) (b : Bool) (d u : ℕ) (eo : o' ≡ o) (en : m ≡ n) (ea : b ≡ a) (ec : d ≡ c) (et : u ≡ t) where
-  on_so : (y z : List Entry) → JobsOn o' m b d u y z → JobsOn o n a c t y z
+  on_so : (y z : List Entry) → JobsOn o' m b y z d u → JobsOn o n a y z c t
   on_so y z k =
-      subst (λ (w : Opening). JobsOn w n a c t y z) eo
-      (subst (λ (w : ℕ). JobsOn o' w a c t y z) en
-      (subst (λ (w : Bool). JobsOn o' m w c t y z) ea
-      (subst (λ (w : ℕ). JobsOn o' m b w t y z) ec (subst (λ (w : ℕ). JobsOn o' m b d w y z) et k))))
+      subst (λ (w : Opening). JobsOn w n a y z c t) eo
+      (subst (λ (w : ℕ). JobsOn o' w a y z c t) en
+      (subst (λ (w : Bool). JobsOn o' m w y z c t) ea
+      (subst (λ (w : ℕ). JobsOn o' m b y z w t) ec (subst (λ (w : ℕ). JobsOn o' m b y z d w) et k))))
 
 pub jobs_still : {H : Type 0} (door : DoorView H) (c t : ℕ) → MayAsk door.opening door.number t door.seen → JobsGo door door c c t t
 jobs_still door c t may = record {
@@ -37,5 +37,5 @@ module _ {H : Type 0} (x y : DoorView H) (c d t u : ℕ) where
     on = record { may = next.may; grows = moved_both refl refl s.on.grows next.grows };
   }
     where
-      next : JobsOn x.opening x.number x.alone c t y.seen z.seen
+      next : JobsOn x.opening x.number x.alone y.seen z.seen c t
       next = on_so x.opening x.number x.alone c t y.opening y.number y.alone d u s.door.opening s.door.number s.door.alone s.child s.task y.seen z.seen r.on

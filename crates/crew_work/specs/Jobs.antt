@@ -1,21 +1,12 @@
 -- How a number stands that asks for a task over a child that others read and write, and what its asking makes.
-use Rattle.std.specs.Prelude.{ℕ, ◌≡◌, ◌==◌, ◌&&◌, Bool, false, List}
-use Rattle.journal_model.specs.declared.entry.What.{What}
-use Rattle.journal_model.specs.declared.entry.What.TheVariants.{Lead, Ask, Lost, Note}
+use Rattle.std.specs.Prelude.{ℕ, ◌≡◌, Bool, List}
 use Rattle.journal_model.specs.declared.entry.Entry.{Entry}
 use Rattle.journal_model.specs.declared.opening.Opening.{Opening}
 use Rattle.link_roles.specs.Asks.{Grows}
 use Rattle.link_roles.specs.Doors.{DoorView, IsSameDoor}
 use Rattle.lone_work.specs.AtTasks.{AtTask}
 use Rattle.lone_work.specs.KnownLayouts.{IsBook}
-
--- requests for t of c, with the names before them, which may be lost, and notes of t
-abbrev pub by_jobs : ℕ → ℕ → What → Bool
-by_jobs c t (Lead child job line) = child == c
-by_jobs c t (Ask child job task line) = child == c && task == t
-by_jobs c t (Lost child task) = child == c && task == t
-by_jobs c t (Note task chunk count) = task == t
-by_jobs c t w = false
+use Rattle.lone_work.specs.Servings.{by_jobs}
 
 -- the number holds task t, no job of which is open, in a run that began with a book
 pub record MayAsk (o : Opening) (number t : ℕ) (seen : List Entry) : Type 0 where
@@ -23,7 +14,7 @@ pub record MayAsk (o : Opening) (number t : ℕ) (seen : List Entry) : Type 0 wh
   pub book : IsBook o.notes
 
 -- it may ask for the task still, and made nothing else
-pub record JobsOn (o : Opening) (number : ℕ) (alone : Bool) (c t : ℕ) (old new : List Entry) : Type 0 where
+pub record JobsOn (o : Opening) (number : ℕ) (alone : Bool) (old new : List Entry) (c t : ℕ) : Type 0 where
   pub may : MayAsk o number t new
   pub grows : Grows number alone (by_jobs c t) old new
 
@@ -32,4 +23,4 @@ pub record JobsGo {H : Type 0} (old new : DoorView H) (c d t u : ℕ) : Type 0 w
   pub door : IsSameDoor old new
   pub child : d ≡ c
   pub task : u ≡ t
-  pub on : JobsOn old.opening old.number old.alone c t old.seen new.seen
+  pub on : JobsOn old.opening old.number old.alone old.seen new.seen c t

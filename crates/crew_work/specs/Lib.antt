@@ -1,5 +1,3 @@
-pub mod Crews
 pub mod JobLaws
 pub mod Jobs
-pub mod WayLaws
 pub mod Runs

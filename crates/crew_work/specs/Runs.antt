@@ -1,18 +1,28 @@
 -- That a worker ran its tasks, as the laws of rounds take it.
 use Rattle.ann_outside.specs.Told.{DeskTold}
-use Rattle.std.specs.Prelude.{ℕ, ◌≡◌, ◌<◌, true, false, List}
+use Rattle.std.specs.Prelude.{ℕ, ◌≡◌, ◌<◌, ◌==◌, ◌&&◌, Bool, true, false, if◌then◌else◌, List, [], ◌∷◌}
 use Rattle.ann_outside.specs.declared.file_desk.Call.{Call}
 use Rattle.hall.specs.Passes.{seen_of}
 use Rattle.journal_model.specs.declared.entry.What.{What}
 use Rattle.journal_model.specs.declared.opening.Opening.{Opening}
 use Rattle.link_roles.specs.Moves.{IsSameLink}
 use Rattle.link_roles.specs.Writings.{LoneWired, is_written_first}
-use Rattle.gathering.specs.Posts.{Post, makes}
+use Rattle.gathering.specs.Posts.{Post, Worker, Lone, makes}
 use Rattle.gathering.specs.Tasks.{IsThrough}
 use Rattle.gathering.specs.Rounds.{CorePass, LinkValue, IsWired, LoneEnds, WorkerEnds}
 use Rattle.task_run.specs.declared.setup.Setup.{Setup}
 use Rattle.gathering.specs.JournalRuns.{HasJournalRun}
-use Rattle.crew_work.specs.Crews.{Worked, calls_of, post_of}
+use Rattle.lone_work.specs.Works.{TaskDone, Worked}
+
+-- a worker's post: over a child that others read and write, or that it has for itself
+abbrev pub post_of : Bool → ℕ → Post
+post_of true c = Lone c
+post_of false c = Worker c
+
+-- the calls of a run that was done
+abbrev pub calls_of : List TaskDone → ℕ → ℕ → List Call
+calls_of [] t k = []
+calls_of (r ∷ rs) t k = if r.task == t && r.turn == k then r.calls else calls_of rs t k
 
 -- What a worker over a child that others read and write did with its pass since the hall's begin, at a post that makes what it
 -- makes, is what a worker promises at its end, where the calls that are told of its number are those of its desk.

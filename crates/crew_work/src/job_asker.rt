@@ -5,7 +5,7 @@ ghost use Rattle.talk_serial.specs.Requests.{message_of, name_of};
 ghost use Rattle.link_roles.specs.Asks.{Grows};
 ghost use Rattle.link_roles.specs.Doors.{IsSameDoor};
 ghost use Rattle.lone_work.specs.AtTasks.{AtTask, AskedFor};
-ghost use Rattle.crew_work.specs.Jobs.{by_jobs};
+ghost use Rattle.lone_work.specs.Servings.{by_jobs};
 
 use ann_key::NoMemory;
 use chunk_log::Layouts;

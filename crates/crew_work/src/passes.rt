@@ -3,15 +3,14 @@ ghost use Rattle.std.specs.Prelude.{◌≡◌, false};
 ghost use Rattle.annex_model.specs.Lines.{has_newline};
 ghost use Rattle.gathering.specs.Tasks.{IsThrough};
 ghost use Rattle.hall.specs.Passes.{IsPassOf, seen_of};
-ghost use Rattle.lone_work.specs.Works.{AreTasks};
-ghost use Rattle.crew_work.specs.Crews.{CanServe, Worked};
+ghost use Rattle.lone_work.specs.Works.{AreTasks, CanServe, Worked};
 
 use crate::turns::work;
-use crate::way::Way;
 use ann_outside::Desk;
 use hall::{Hall, Pass};
 use host_core::Core;
 use link_crew::HallDoor;
+use lone_work::Way;
 use std::alloc::Global;
 use std::sync::Wait;
 use task_run::Setup;
@@ -33,7 +32,8 @@ pub fn run_worker<W: Way, K: Desk, R: Wait>(
     requires folder { has_newline setup.now.work ≡ false }
     requires can { CanServe hall.now.fixed (W.serves way.old) (seen_of pass.old) }
     ensures pass { IsPassOf hall.now pass.new × (pass.new.number ≡ pass.old.number) }
-    ensures worked { Worked hall.now.fixed setup.now (W.owns way.old) pass.old.number false (W.serves way.old) (seen_of pass.old) (seen_of pass.new) (W.wired way.old (seen_of pass.old)) (W.wired way.new (seen_of pass.new)) (K.told desk.old) (K.told desk.new) }
+    ensures worked { Worked hall.now.fixed setup.now (W.owns way.old) pass.old.number false (W.serves way.old) (seen_of pass.old) (seen_of pass.new)
+        (W.wired way.old (seen_of pass.old)) (W.wired way.new (seen_of pass.new)) (K.told desk.old) (K.told desk.new) }
     ensures through { IsThrough hall.now.fixed (seen_of pass.new) (W.serves way.old) }
     ensures way { (W.serves way.new ≡ W.serves way.old) × (W.owns way.new ≡ W.owns way.old) × W.same way.old way.new }
 {

@@ -90,8 +90,8 @@ module _ (o : Opening) (setup : Setup) (m : ℕ) (start final : List Entry) (l :
 pub tagged_can : (o : Opening) (journal : List Entry) (ear : EarValue) (mouth : MouthValue) → CanBeServed o journal ear mouth true → TaggedCan o journal (record { ear = ear; mouth = mouth })
 tagged_can o journal ear mouth h = record {
   calm = h.calm;
-  begins = record { started = h.can.started; tagged = sym h.tag; turn = h.wired.link.turn; unclosed = h.unclosed };
-  serves = record { legal = h.can.legal; number = h.can.number; started = h.can.started; prepared = h.can.prepared; book = h.can.book };
+  begins = record { started = h.can.serves.started; tagged = sym h.tag; turn = h.wired.link.turn; unclosed = h.unclosed };
+  serves = h.can.serves;
   ear = h.wired.link.ear;
   mouth = h.wired.link.mouth;
 }
@@ -135,7 +135,7 @@ pub starved_may : {o : Opening} {old mid : List Entry} {ear ear' : EarValue} {mo
     → (is_started mid ear'.child ≡ true) × (may_stop mid ear'.child Closed ≡ true)
 starved_may {o} {old} {mid} {ear} {ear'} can ej ee =
     subst (λ (j : List Entry). (is_started j ear'.child ≡ true) × (may_stop j ear'.child Closed ≡ true)) (sym ej)
-    (subst (λ (e : EarValue). (is_started old e.child ≡ true) × (may_stop old e.child Closed ≡ true)) (sym ee) (can.can.started, may_close old ear.child can.can.idle can.can.rest))
+    (subst (λ (e : EarValue). (is_started old e.child ≡ true) × (may_stop old e.child Closed ≡ true)) (sym ee) (can.can.serves.started, may_close old ear.child can.can.rests.idle can.can.rests.rest))
 
 pub starved_held : {o : Opening} {old mid : List Entry} {ear ear' : EarValue} {mouth mouth' : MouthValue} {tagged : Bool} → CanBeServed o old ear mouth tagged → mid ≡ old → (ear' ≡ ear) × (mouth' ≡ mouth) → IsHeld mid ear' mouth'
 starved_held {o} {old} {mid} {ear} {ear'} {mouth} {mouth'} can ej el =

@@ -75,7 +75,7 @@ pub whole_ends : {wanted wanted' : Type 0} (o : Opening) (setup : Setup) (limit 
     → ServesLinks o setup g new links links' desks desks' → Legal o new → AreSameLinks links links' → All (λ (l : LinkValue). IsHeld new l.ear l.mouth) links' → All (λ (l : LinkValue). l.mouth.child ≡ l.ear.child) links'
     → AreLaid seats links' wires wires' → Stays told.starts after.starts → told.faults ≤ after.faults → PoolServed wanted' o setup limit program old new desks desks' true first.ear first.mouth before after wires wires'
 whole_ends {wanted} {wanted'} o setup limit jobs program old g new first before told after seats links links' desks desks' wires wires' many f given can its s legal' same held one laid stays later =
-    pool_ends o setup limit program old g new first before told after seats links links' desks desks' true wires wires' p can.can.legal its s'.mid (middle s'.done) closed legal' same held one laid stays later f
+    pool_ends o setup limit program old g new first before told after seats links links' desks desks' true wires wires' p can.can.serves.legal its s'.mid (middle s'.done) closed legal' same held one laid stays later f
   where
     p : IsPool wanted true o (length desks) program old g first before told seats links
     p = subst (λ (n : ℕ). IsPool wanted true o n program old g first before told seats links) many given
@@ -90,13 +90,13 @@ whole_ends {wanted} {wanted'} o setup limit jobs program old g new first before 
     closed = subst (λ (ls : List LinkValue). ClosesAll (children_of ls) s'.mid new) (sym p.links_are) s'.closes
 
     low : All (λ (l : LinkValue). first.ear.child ≤ l.ear.child) (first ∷ p.more)
-    low = pool_low o setup limit old g g g first p.more desks desks true before.starts p.others its can.can.legal p.gathered p.by.seated
+    low = pool_low o setup limit old g g g first p.more desks desks true before.starts p.others its can.can.serves.legal p.gathered p.by.seated
 
     untagged : All (λ (l : LinkValue). is_tagged g l.ear.child ≡ false) (first ∷ p.more)
-    untagged = pool_untagged o setup limit old g g g first p.more desks desks true before.starts p.others its can.can.legal p.gathered p.by.seated can.can.prepared (sym can.tag)
+    untagged = pool_untagged o setup limit old g g g first p.more desks desks true before.starts p.others its can.can.serves.legal p.gathered p.by.seated can.can.serves.prepared (sym can.tag)
 
     mains : All (λ (l : LinkValue). are_by 0 (since_start l.ear.child g) ≡ true) (first ∷ p.more)
-    mains = pool_mains o setup limit old g g g first p.more desks desks true before.starts p.others its can.can.legal p.gathered p.by.seated can.can.started can.mains
+    mains = pool_mains o setup limit old g g g first p.more desks desks true before.starts p.others its can.can.serves.legal p.gathered p.by.seated can.can.serves.started can.mains
 
     middle : RoundsPool o setup g s'.mid (first ∷ p.more) links' desks desks' ⊎ ServesFirst o setup (first ∷ p.more) g s'.mid desks desks' → Middle o setup limit first.ear.child (first ∷ p.more) g s'.mid desks desks' true
     middle (inl r) = middle_round o setup limit first.ear.child g s'.mid (first ∷ p.more) links' desks desks' legal_g p.gathered.can low untagged mains (subst (λ (ls : List LinkValue). AreSameLinks ls links') p.links_are same) r
@@ -109,7 +109,7 @@ pub starved_ends : {wanted wanted' : Type 0} {tagged : Bool} (o : Opening) (setu
     → ClosesAll (children_of links) g new → Legal o new → All (λ (l : LinkValue). l.mouth.child ≡ l.ear.child) links
     → AreLaid seats links wires wires' → Stays told.starts after.starts → told.faults ≤ after.faults → PoolServed wanted' o setup limit program old new desks desks false first.ear first.mouth before after wires wires'
 starved_ends {wanted} {wanted'} {tagged} o setup limit jobs program old g new first before told after seats links desks wires wires' many f given can its closed legal' one laid stays later =
-    pool_ends o setup limit program old g new first before told after seats links links desks desks false wires wires' p can.can.legal its g
+    pool_ends o setup limit program old g new first before told after seats links links desks desks false wires wires' p can.can.serves.legal its g
     (middle_none o setup limit first.ear.child (first ∷ p.more) g desks (All-head (MayServe o g) first p.more p.gathered.can.each).serves.legal p.gathered.can.calm) closed legal' (link_same links) held one laid stays later f
   where
     p : IsPool wanted false o (length desks) program old g first before told seats links
@@ -232,4 +232,4 @@ pub roomless_may : {tagged : Bool} (o : Opening) (old g : List Entry) (first lin
     → (is_started g link.ear.child ≡ true) × (may_stop g link.ear.child Closed ≡ true)
 roomless_may o old g first link before after can u =
     subst (λ (j : List Entry). (is_started j link.ear.child ≡ true) × (may_stop j link.ear.child Closed ≡ true)) (sym u.journal)
-    (subst (λ (l : LinkValue). (is_started old l.ear.child ≡ true) × (may_stop old l.ear.child Closed ≡ true)) (sym u.link_is) (can.can.started, may_close old first.ear.child can.can.idle can.can.rest))
+    (subst (λ (l : LinkValue). (is_started old l.ear.child ≡ true) × (may_stop old l.ear.child Closed ≡ true)) (sym u.link_is) (can.can.serves.started, may_close old first.ear.child can.can.rests.idle can.can.rests.rest))

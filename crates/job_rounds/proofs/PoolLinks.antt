@@ -54,15 +54,7 @@ first_of_all {X} (y ∷ ys) x some is = (ys, ap (λ (z : X). z ∷ ys) (sym is))
 pub first_can : (o : Opening) (g : List Entry) (l : LinkValue) (links : List LinkValue) → PoolCan o g (l ∷ links) → CanWork o l.ear.child g
 first_can o g l links can =
     let its = All-head (MayServe o g) l links can.each in
-    record {
-      legal = its.serves.legal;
-      number = its.serves.number;
-      started = its.serves.started;
-      prepared = its.serves.prepared;
-      idle = rest_shut g can.calm l.ear.child;
-      rest = can.calm.idle;
-      book = its.serves.book;
-    }
+    record { serves = its.serves; rests = record { idle = rest_shut g can.calm l.ear.child; rest = can.calm.idle } }
 
 -- another link's child is not the first's
 others_differ : (l : LinkValue) (links : List LinkValue) → Distinct (children_of (l ∷ links)) → All (λ (x : LinkValue). (l.ear.child == x.ear.child) ≡ false) links

@@ -33,6 +33,7 @@ use Rattle.gathering.specs.Tasks.{IsThrough}
 use Rattle.child_start.proofs.Jobs.{idle_on}
 use Rattle.task_run.specs.declared.setup.Setup.{Setup}
 use Rattle.lone_work.specs.Works.{by_worker}
+use Rattle.lone_work.proofs.Turning.{alone_only}
 use Rattle.lone_rounds.specs.Rounds.{AllLostWell, is_of_run}
 use Rattle.lone_rounds.specs.Starting.{is_any_start, is_unclosed}
 use Rattle.lone_rounds.specs.Stints.{HasServed, TasksDone, in_stint}
@@ -337,10 +338,10 @@ pub served_part : {o : Opening} {setup : Setup} {c : ℕ} {g mid : List Entry} {
 served_part {o} {setup} {c} {g} {mid} legal ready s =
     let k : Closing c s.mid mid = closing c s.mid mid s.closes in
     record {
-      rest = s.worked.more ++ k.tail;
-      is = k.is ∙ ap (λ (x : List Entry). x ++ k.tail) s.worked.is ∙ append_assoc g s.worked.more k.tail;
-      part = part_both c s.worked.more k.tail
-          (worker_part c s.worked.more s.worked.only s.worked.own (late_from o c g s.worked.more legal (subst (Legal o) s.worked.is s.can.legal) (two_jobs o g c legal ready))) (closing_part c k.tail k.one);
+      rest = s.worked.did.moved.more ++ k.tail;
+      is = k.is ∙ ap (λ (x : List Entry). x ++ k.tail) s.worked.did.moved.is ∙ append_assoc g s.worked.did.moved.more k.tail;
+      part = part_both c s.worked.did.moved.more k.tail
+          (worker_part c s.worked.did.moved.more (alone_only s.worked refl) (s.worked.did.moved.lone refl) (late_from o c g s.worked.did.moved.more legal (subst (Legal o) s.worked.did.moved.is s.can.serves.legal) (two_jobs o g c legal ready))) (closing_part c k.tail k.one);
     }
 
 -- all is at rest after it
@@ -348,9 +349,9 @@ pub served_calm : {o : Opening} {setup : Setup} {c : ℕ} {g mid : List Entry} {
 served_calm {o} {setup} {c} {g} {mid} legal calm ready s =
     let k : Closing c s.mid mid = closing c s.mid mid s.closes in
     let p : ServedPart c g mid = served_part legal ready s in
-    let idle : open_jobs mid c ≡ [] = ap (λ (j : List Entry). open_jobs j c) k.is ∙ idle_on s.mid k.tail c (of_closing c k.tail k.one (λ (x : List Entry). asked_jobs x c ≡ []) refl refl) s.can.idle in
+    let idle : open_jobs mid c ≡ [] = ap (λ (j : List Entry). open_jobs j c) k.is ∙ idle_on s.mid k.tail c (of_closing c k.tail k.one (λ (x : List Entry). asked_jobs x c ≡ []) refl refl) s.can.rests.idle in
     record {
-      idle = λ t. ap (λ (j : List Entry). is_busy j t) k.is ∙ closing_rests c k.tail k.one s.mid s.can.rest t;
+      idle = λ t. ap (λ (j : List Entry). is_busy j t) k.is ∙ closing_rests c k.tail k.one s.mid s.can.rests.rest t;
       shut = shut_open mid (subst AreShut (sym p.is) (shut_next g p.rest c p.part.within (ap (λ (j : List Entry). open_jobs j c) (sym p.is) ∙ idle) (rest_shut g calm)));
     }
 
@@ -369,7 +370,7 @@ module _ (o : Opening) (setup : Setup) (limit first : ℕ) (g mid : List Entry) 
   least = All-head (λ (x : LinkValue). first ≤ x.ear.child) l links low
 
   abbrev worked : List Entry
-  worked = s.worked.more
+  worked = s.worked.did.moved.more
 
   k : Closing c s.mid mid
   k = closing c s.mid mid s.closes
@@ -378,11 +379,11 @@ module _ (o : Opening) (setup : Setup) (limit first : ℕ) (g mid : List Entry) 
   then = worked ++ k.tail
 
   whole : mid ≡ g ++ then
-  whole = k.is ∙ ap (λ (x : List Entry). x ++ k.tail) s.worked.is ∙ append_assoc g worked k.tail
+  whole = k.is ∙ ap (λ (x : List Entry). x ++ k.tail) s.worked.did.moved.is ∙ append_assoc g worked k.tail
 
   part : Part c then
   part = part_both c worked k.tail
-      (worker_part c worked s.worked.only s.worked.own (late_from o c g worked legal (subst (Legal o) s.worked.is s.can.legal) (two_jobs o g c legal its.serves.prepared))) (closing_part c k.tail k.one)
+      (worker_part c worked (alone_only s.worked refl) (s.worked.did.moved.lone refl) (late_from o c g worked legal (subst (Legal o) s.worked.did.moved.is s.can.serves.legal) (two_jobs o g c legal its.serves.prepared))) (closing_part c k.tail k.one)
 
   taken : turns_by 0 g then ≡ turns_by 0 g worked
   taken = turns_by-append 0 g worked k.tail ∙ ap (λ (x : List (ℕ × ℕ)). turns_by 0 g worked ++ x) (of_closing c k.tail k.one (λ (x : List Entry). turns_by 0 (g ++ worked) x ≡ []) refl refl) ∙ append-nil (turns_by 0 g worked)
@@ -395,8 +396,8 @@ module _ (o : Opening) (setup : Setup) (limit first : ℕ) (g mid : List Entry) 
   done =
       let at_end : TasksDone o setup most (s.mid ++ k.tail) g worked a.desk a.desk' = record {
         done = s.worked.done;
-        claimed = s.worked.claimed;
-        ran = worker_runs o setup most c s.mid k.tail s.worked.done s.can.number s.worked.ran;
+        claimed = sym s.worked.did.claimed;
+        ran = worker_runs o setup most c s.mid k.tail s.worked.done s.can.serves.number s.worked.ran;
         log_is = s.worked.log_is;
         caused = s.worked.caused;
       } in
@@ -416,15 +417,15 @@ module _ (o : Opening) (setup : Setup) (limit first : ℕ) (g mid : List Entry) 
   left_alone = go s.through
     where
       ends : list_all (λ (e : Entry). is_unclosed_end e.what) worked ≡ true
-      ends = all_unclosed (by_worker c) (worker_ends c) worked s.worked.only
+      ends = all_unclosed (by_worker true c) (worker_ends c) worked (alone_only s.worked refl)
 
       unclosed : why_of s.mid c ≡ Some Closed → ⊥
-      unclosed h = still_unclosed g worked c ends its.unclosed (ap (λ (j : List Entry). why_of j c) (sym s.worked.is) ∙ h)
+      unclosed h = still_unclosed g worked c ends its.unclosed (ap (λ (j : List Entry). why_of j c) (sym s.worked.did.moved.is) ∙ h)
 
       go : IsThrough o s.mid c → (list_any (λ (x : LinkValue). is_lost mid x.ear.child) (l ∷ links) ≡ true) ⊎ (are_all_claimed o mid ≡ true)
       go (inl all) = inr (ap (are_all_claimed o) k.is ∙ closing_claims c k.tail k.one o s.mid ∙ all)
       go (inr gone) = inl (or_left (is_lost mid c) (list_any (λ (x : LinkValue). is_lost mid x.ear.child) links)
-          (ap (λ (j : List Entry). is_lost j c) k.is ∙ lost_on s.mid k.tail c (gone_lost s.mid c s.can.prepared gone unclosed)))
+          (ap (λ (j : List Entry). is_lost j c) k.is ∙ lost_on s.mid k.tail c (gone_lost s.mid c s.can.serves.prepared gone unclosed)))
 
   pub middle_alone : Middle o setup limit first (l ∷ links) g mid desks desks' true
   middle_alone = record {
@@ -433,7 +434,7 @@ module _ (o : Opening) (setup : Setup) (limit first : ℕ) (g mid : List Entry) 
     none = any_none (in_stint c) is_any_start (no_start_in c) then part.within;
     within = all-each (λ (e : Entry). in_stint c e.what) (λ (e : Entry). in_pool first e.what) (λ e h. stint_pool first c e.what least h) then part.within;
     asks = part.asks;
-    lost = lost_tasks g then (all-join (λ (e : Entry). loses_task e.what) worked k.tail (worker_loses c worked s.worked.only) (closing_loses c k.tail k.one));
+    lost = lost_tasks g then (all-join (λ (e : Entry). loses_task e.what) worked k.tail (worker_loses c worked (alone_only s.worked refl)) (closing_loses c k.tail k.one));
     posts = posted_main g then part.main;
     quiet = λ w. absurd cc;
     legal = legal';

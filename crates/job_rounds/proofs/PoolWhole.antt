@@ -88,7 +88,7 @@ pool_can o journal first tagged h = record {
   calm = h.calm;
   differ = alone;
   each = All-cons (MayServe o journal) first [] (record {
-    serves = record { legal = h.can.legal; number = h.can.number; started = h.can.started; prepared = h.can.prepared; book = h.can.book };
+    serves = h.can.serves;
     unclosed = h.unclosed;
     wired = h.wired;
   }) (All-nil (MayServe o journal));

@@ -183,22 +183,22 @@ module _ (o : Opening) (setup : Setup) (limit : ℕ) (offer tagged : Bool) (old 
   closes : Closing c served.mid new
   closes = closing c served.mid new served.closes
 
-  grown : new ≡ g ++ (served.worked.more ++ closes.tail)
-  grown = closes.is ∙ ap (λ (x : List Entry). x ++ closes.tail) served.worked.is ∙ append_assoc g served.worked.more closes.tail
+  grown : new ≡ g ++ (served.worked.did.moved.more ++ closes.tail)
+  grown = closes.is ∙ ap (λ (x : List Entry). x ++ closes.tail) served.worked.did.moved.is ∙ append_assoc g served.worked.did.moved.more closes.tail
 
-  grown_within : list_all (λ (e : Entry). in_stint c e.what) (served.worked.more ++ closes.tail) ≡ true
-  grown_within = (both (list_all (λ (e : Entry). in_stint c e.what) greeted.more) (list_all (λ (e : Entry). in_stint c e.what) (served.worked.more ++ closes.tail))
-      (sym (list_all-append (λ (e : Entry). in_stint c e.what) greeted.more (served.worked.more ++ closes.tail))
-      ∙ ap (list_all (λ (e : Entry). in_stint c e.what)) (sym (behind_first old stint.stretch.later (greeted.more ++ (served.worked.more ++ closes.tail)) new (Start c 0 offer) stint.stretch.is
-      (grown ∙ ap (λ (x : List Entry). x ++ (served.worked.more ++ closes.tail)) greeted.grown ∙ append_assoc old (main_entry (Start c 0 offer) ∷ greeted.more) (served.worked.more ++ closes.tail))))
+  grown_within : list_all (λ (e : Entry). in_stint c e.what) (served.worked.did.moved.more ++ closes.tail) ≡ true
+  grown_within = (both (list_all (λ (e : Entry). in_stint c e.what) greeted.more) (list_all (λ (e : Entry). in_stint c e.what) (served.worked.did.moved.more ++ closes.tail))
+      (sym (list_all-append (λ (e : Entry). in_stint c e.what) greeted.more (served.worked.did.moved.more ++ closes.tail))
+      ∙ ap (list_all (λ (e : Entry). in_stint c e.what)) (sym (behind_first old stint.stretch.later (greeted.more ++ (served.worked.did.moved.more ++ closes.tail)) new (Start c 0 offer) stint.stretch.is
+      (grown ∙ ap (λ (x : List Entry). x ++ (served.worked.did.moved.more ++ closes.tail)) greeted.grown ∙ append_assoc old (main_entry (Start c 0 offer) ∷ greeted.more) (served.worked.did.moved.more ++ closes.tail))))
       ∙ subst (λ (n : ℕ). list_all (λ (e : Entry). in_stint n e.what) stint.stretch.later ≡ true) (sym greeted.next) stint.stretch.within)).1
 
   alone_stretch : (full : Bool) → JobStretch o setup limit offer (offer && tagged) (Start c 0 offer) old new (desk ∷ others) (desk' ∷ others) full
   alone_stretch full = stint_job o setup limit offer (offer && tagged) (Start c 0 offer) old new desk desk' others stint full
-      (served_turn o (length (desk ∷ others)) offer old g new c legal' greeted ready (served.worked.more ++ closes.tail) grown few stint.stretch.later stint.stretch.is
+      (served_turn o (length (desk ∷ others)) offer old g new c legal' greeted ready (served.worked.did.moved.more ++ closes.tail) grown few stint.stretch.later stint.stretch.is
       (subst (λ (n : ℕ). list_all (λ (e : Entry). in_stint n e.what) stint.stretch.later ≡ true) (sym greeted.next) stint.stretch.within))
       (λ shut. served_idle o setup c (next_child old) g new desk desk' greeted.next served)
-      (served_manned o (length (desk ∷ others)) offer old g new c legal' greeted ready (served.worked.more ++ closes.tail) grown few grown_within)
+      (served_manned o (length (desk ∷ others)) offer old g new c legal' greeted ready (served.worked.did.moved.more ++ closes.tail) grown few grown_within)
 
   pub alone_start : {program : List ℕ} {before after : ProgramsTold} {wires wires' : List WireValue} (full : Bool) → ((xs : List Entry) → any is_any_start xs ≡ false → StartsAll program new (main_entry (Start c 0 offer) ∷ xs) before after wires wires')
       → OneJobStart o setup limit offer (offer && tagged) full program old new (desk ∷ others) (desk' ∷ others) before after wires wires'

@@ -308,7 +308,7 @@ closed_idle c mid new h idle =
     ap (λ (j : List Entry). open_jobs j c) k.is ∙ idle_on mid k.tail c (of_closing c k.tail k.one (λ (x : List Entry). asked_jobs x c ≡ []) refl refl) idle
 
 pub served_idle : (o : Opening) (setup : Setup) (c n : ℕ) (g new : List Entry) (desk desk' : DeskTold) → c ≡ n → HasServed o setup c g new desk desk' → open_jobs new n ≡ []
-served_idle o setup c n g new desk desk' is s = subst (λ (k : ℕ). open_jobs new k ≡ []) is (closed_idle c s.mid new s.closes s.can.idle)
+served_idle o setup c n g new desk desk' is s = subst (λ (k : ℕ). open_jobs new k ≡ []) is (closed_idle c s.mid new s.closes s.can.rests.idle)
 
 pub away_idle : (o : Opening) (c n : ℕ) (g new : List Entry) (answer : Answer) → c ≡ n → open_jobs g c ≡ [] → TurnsAway o c g new answer → open_jobs new n ≡ []
 away_idle o c n g new answer is idle (mid, (b, a), closes) = subst (λ (k : ℕ). open_jobs new k ≡ []) is (closed_idle c mid new closes (one_idle o g mid (λ t. answer) c b a idle))

@@ -17,7 +17,8 @@ pub fn none_unserved()
 
 /// Where all went well from outside, each task that was run is answered by its success, or says that memory ran out.
 pub fn jobs_succeed()
-    ensures { (o : Opening) (setup : Setup) (limit : ℕ) (journal past entries : List Entry) (k : ℕ) (desks desks' : List DeskTold) → JobsSucceed o setup limit journal past entries k desks desks' }
+    ensures { (o : Opening) (setup : Setup) (limit : ℕ) (journal past entries : List Entry) (k : ℕ) (desks desks' : List DeskTold)
+        → JobsSucceed o setup limit journal past entries k desks desks' }
 {}
 
 /// In a legal journal, with a faithful remote, a get keeps what the stores of its keys sent.

@@ -135,7 +135,8 @@ fn round_links<
     requires tasks { (bench.core.opening.tasks ≡ tasks.now) × AreTasks tasks.now }
     requires folder { has_newline setup.now.work ≡ false }
     requires can { PoolCan bench.core.opening bench.core.journal (map (λ l. link_of l.ear l.mouth) links.items) }
-    ensures round { IfDone result.2 (RoundsPool bench.core.opening setup.now bench.core.journal result.1.core.journal (map (λ l. link_of l.ear l.mouth) links.items) (map (λ l. link_of l.ear l.mouth) result.0.items) (map K.told bench.desks.items) (map K.told result.1.desks.items)) }
+    ensures round { IfDone result.2 (RoundsPool bench.core.opening setup.now bench.core.journal result.1.core.journal
+        (map (λ l. link_of l.ear l.mouth) links.items) (map (λ l. link_of l.ear l.mouth) result.0.items) (map K.told bench.desks.items) (map K.told result.1.desks.items)) }
     ensures kept { IfKept result.2 ((result.1.core.journal ≡ bench.core.journal) × AreAsBefore links.items result.0.items bench.desks.items result.1.desks.items) }
     ensures same { AreSameLinks (map (λ l. link_of l.ear l.mouth) links.items) (map (λ l. link_of l.ear l.mouth) result.0.items) }
     ensures opening { result.1.core.opening ≡ bench.core.opening }
@@ -169,7 +170,8 @@ fn serve_first<I: Sink, O: Source, K: Desk + Drop>(
     requires tasks { (bench.old.core.opening.tasks ≡ tasks.now) × AreTasks tasks.now }
     requires folder { has_newline setup.now.work ≡ false }
     requires can { PoolCan bench.old.core.opening bench.old.core.journal (map (λ l. link_of l.ear l.mouth) links.old.items) }
-    ensures serves { ServesFirst bench.old.core.opening setup.now (map (λ l. link_of l.ear l.mouth) links.old.items) bench.old.core.journal bench.new.core.journal (map K.told bench.old.desks.items) (map K.told bench.new.desks.items) }
+    ensures serves { ServesFirst bench.old.core.opening setup.now (map (λ l. link_of l.ear l.mouth) links.old.items) bench.old.core.journal bench.new.core.journal
+        (map K.told bench.old.desks.items) (map K.told bench.new.desks.items) }
     ensures held { All (λ l. IsHeld bench.new.core.journal l.ear l.mouth) links.new.items }
     ensures same { AreSameLinks (map (λ l. link_of l.ear l.mouth) links.old.items) (map (λ l. link_of l.ear l.mouth) links.new.items) }
     ensures core { IsSameCore bench.old.core bench.new.core }
@@ -197,7 +199,8 @@ fn serve_one<I: Sink, O: Source, K: Desk + Drop>(
     requires tasks { (bench.old.core.opening.tasks ≡ tasks.now) × AreTasks tasks.now }
     requires folder { has_newline setup.now.work ≡ false }
     requires can { PoolCan bench.old.core.opening bench.old.core.journal (map (λ l. link_of l.ear l.mouth) links.old.items) }
-    ensures serves { ServesOne bench.old.core.opening setup.now bench.old.core.journal bench.new.core.journal (map (λ l. link_of l.ear l.mouth) links.old.items) (map K.told bench.old.desks.items) (map K.told bench.new.desks.items) }
+    ensures serves { ServesOne bench.old.core.opening setup.now bench.old.core.journal bench.new.core.journal
+        (map (λ l. link_of l.ear l.mouth) links.old.items) (map K.told bench.old.desks.items) (map K.told bench.new.desks.items) }
     ensures held { All (λ l. IsHeld bench.new.core.journal l.ear l.mouth) links.new.items }
     ensures same { AreSameLinks (map (λ l. link_of l.ear l.mouth) links.old.items) (map (λ l. link_of l.ear l.mouth) links.new.items) }
     ensures core { IsSameCore bench.old.core bench.new.core }
@@ -227,8 +230,10 @@ fn serve_all<
     requires folder { has_newline setup.now.work ≡ false }
     requires can { PoolCan bench.core.opening bench.core.journal (map (λ l. link_of l.ear l.mouth) links.items) }
     ensures serves { MatchResult result.2
-        (λ alone. ServesLinksUnless alone bench.core.opening setup.now bench.core.journal result.1.core.journal (map (λ l. link_of l.ear l.mouth) links.items) (map (λ l. link_of l.ear l.mouth) result.0.items) (map K.told bench.desks.items) (map K.told result.1.desks.items))
-        (λ _. StarvedLinks bench.core.journal result.1.core.journal (map (λ l. link_of l.ear l.mouth) links.items) (map (λ l. link_of l.ear l.mouth) result.0.items) (map K.told bench.desks.items) (map K.told result.1.desks.items)) }
+        (λ alone. ServesLinksUnless alone bench.core.opening setup.now bench.core.journal result.1.core.journal
+        (map (λ l. link_of l.ear l.mouth) links.items) (map (λ l. link_of l.ear l.mouth) result.0.items) (map K.told bench.desks.items) (map K.told result.1.desks.items))
+        (λ _. StarvedLinks bench.core.journal result.1.core.journal
+        (map (λ l. link_of l.ear l.mouth) links.items) (map (λ l. link_of l.ear l.mouth) result.0.items) (map K.told bench.desks.items) (map K.told result.1.desks.items)) }
     ensures held { IfOk result.2 (λ _. All (λ l. IsHeld result.1.core.journal l.ear l.mouth) result.0.items) }
     ensures same { AreSameLinks (map (λ l. link_of l.ear l.mouth) links.items) (map (λ l. link_of l.ear l.mouth) result.0.items) }
     ensures core { IsSameCore bench.core result.1.core }
@@ -270,8 +275,10 @@ fn serve_links<
     requires folder { has_newline setup.now.work ≡ false }
     requires can { PoolCan bench.core.opening bench.core.journal (map (λ l. link_of l.ear l.mouth) links.items) }
     ensures serves { MatchResult result.2
-        (λ _. ServesLinks bench.core.opening setup.now bench.core.journal result.1.core.journal (map (λ l. link_of l.ear l.mouth) links.items) (map (λ l. link_of l.ear l.mouth) result.0.items) (map K.told bench.desks.items) (map K.told result.1.desks.items))
-        (λ _. StarvedLinks bench.core.journal result.1.core.journal (map (λ l. link_of l.ear l.mouth) links.items) (map (λ l. link_of l.ear l.mouth) result.0.items) (map K.told bench.desks.items) (map K.told result.1.desks.items)) }
+        (λ _. ServesLinks bench.core.opening setup.now bench.core.journal result.1.core.journal
+        (map (λ l. link_of l.ear l.mouth) links.items) (map (λ l. link_of l.ear l.mouth) result.0.items) (map K.told bench.desks.items) (map K.told result.1.desks.items))
+        (λ _. StarvedLinks bench.core.journal result.1.core.journal
+        (map (λ l. link_of l.ear l.mouth) links.items) (map (λ l. link_of l.ear l.mouth) result.0.items) (map K.told bench.desks.items) (map K.told result.1.desks.items)) }
     ensures held { IfOk result.2 (λ _. All (λ l. IsHeld result.1.core.journal l.ear l.mouth) result.0.items) }
     ensures same { AreSameLinks (map (λ l. link_of l.ear l.mouth) links.items) (map (λ l. link_of l.ear l.mouth) result.0.items) }
     ensures core { IsSameCore bench.core result.1.core }
@@ -319,7 +326,8 @@ where
     requires since { is_unclaimed_since bench.core.journal ≡ true }
     requires last_child { link.ear.child ≡ count is_start bench.core.journal }
     requires room { vec_len wires.old + vec_len bench.desks ≤ vec_capacity wires.old }
-    ensures served { PoolServed (IsErr result.1) bench.core.opening plan.now.setup plan.now.starts plan.now.program bench.core.journal result.0.core.journal (map K.told bench.desks.items) (map K.told result.0.desks.items) (is_ok result.1) link.ear link.mouth
+    ensures served { PoolServed (IsErr result.1) bench.core.opening plan.now.setup plan.now.starts plan.now.program bench.core.journal result.0.core.journal
+        (map K.told bench.desks.items) (map K.told result.0.desks.items) (is_ok result.1) link.ear link.mouth
         (P.told programs.old) (P.told programs.new) wires.old.items wires.new.items }
     ensures room { (vec_len wires.new ≤ vec_len wires.old + vec_len bench.desks) × (vec_capacity wires.new ≡ vec_capacity wires.old) }
     ensures core { IsSameCore bench.core result.0.core }

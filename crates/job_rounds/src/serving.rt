@@ -35,7 +35,8 @@ pub(crate) fn serve_alone<I: Sink, O: Source, K: Desk + Drop>(
     requires tasks { (bench.old.core.opening.tasks ≡ tasks.now) × AreTasks tasks.now }
     requires folder { has_newline setup.now.work ≡ false }
     requires can { CanBeServed bench.old.core.opening bench.old.core.journal link.old.ear link.old.mouth tagged }
-    ensures serves { ServesAlone bench.old.core.opening setup.now link.old.ear.child bench.old.core.journal bench.new.core.journal (map K.told bench.old.desks.items) (map K.told bench.new.desks.items) }
+    ensures serves { ServesAlone bench.old.core.opening setup.now link.old.ear.child bench.old.core.journal bench.new.core.journal
+        (map K.told bench.old.desks.items) (map K.told bench.new.desks.items) }
     ensures held { IsHeld bench.new.core.journal link.new.ear link.new.mouth }
     ensures same { IsSameLink link.old.ear link.new.ear link.old.mouth link.new.mouth }
     ensures core { IsSameCore bench.old.core bench.new.core }

@@ -20,7 +20,7 @@ use child_end::finish;
 use child_start::{Greeting, Mode, greet};
 use journal_model::Answer;
 use link_roles::{Lone, Wire};
-use lone_rounds::{Plan, answer_one, is_offered, not_prepared, turn_away};
+use lone_rounds::{Plan, answer_one, is_offered, tagged_of, turn_away, unready_answer};
 use lone_work::know_book;
 use std::alloc::Global;
 use std::marker::{Send, Sync};
@@ -55,7 +55,8 @@ where
     requires since { is_unclaimed_since bench.core.journal ≡ true }
     requires last_child { link.ear.child ≡ count is_start bench.core.journal }
     requires room { vec_len wires.old + vec_len bench.desks ≤ vec_capacity wires.old }
-    ensures served { FirstServed (IsErr result.1) bench.core.opening plan.now.setup plan.now.starts plan.now.program bench.core.journal result.0.core.journal (map K.told bench.desks.items) (map K.told result.0.desks.items) (is_ok result.1) link.ear link.mouth
+    ensures served { FirstServed (IsErr result.1) bench.core.opening plan.now.setup plan.now.starts plan.now.program bench.core.journal result.0.core.journal
+        (map K.told bench.desks.items) (map K.told result.0.desks.items) (is_ok result.1) link.ear link.mouth
         (P.told programs.old) (P.told programs.new) wires.old.items wires.new.items }
     ensures room { (vec_len wires.new ≤ vec_len wires.old + vec_len bench.desks) × (vec_capacity wires.new ≡ vec_capacity wires.old) }
     ensures core { IsSameCore bench.core result.0.core }
@@ -117,35 +118,24 @@ where
         offer,
         Mode::Serve,
     ) {
-        Greeting::Ready { link, stub, tagged } => {
+        Greeting::Child { link, stub, came } => {
             know_book(&bench.core.opening().notes);
-            let (bench, served) = serve_child(
-                rt, alloc, programs, plan, tasks, link, stub, tagged, bench, wires,
-            );
-            match served {
-                Ok(()) => (bench, Ok(is_offered(offer, tagged))),
-                Err(NoMemory) => (bench, Err(NoMemory)),
+            match tagged_of(came) {
+                Some(tagged) => {
+                    let (bench, served) = serve_child(
+                        rt, alloc, programs, plan, tasks, link, stub, tagged, bench, wires,
+                    );
+                    match served {
+                        Ok(()) => (bench, Ok(is_offered(offer, tagged))),
+                        Err(NoMemory) => (bench, Err(NoMemory)),
+                    }
+                }
+                None => {
+                    turn_away(&link, &mut bench.core, unready_answer(came));
+                    finish(programs, link, stub, wires);
+                    (bench, Ok(offer))
+                }
             }
-        }
-        Greeting::Refused {
-            verdict,
-            link,
-            stub,
-        } => {
-            let answer = not_prepared(verdict);
-            turn_away(&link, &mut bench.core, answer);
-            finish(programs, link, stub, wires);
-            (bench, Ok(offer))
-        }
-        Greeting::Ended { why, link, stub } => {
-            turn_away(&link, &mut bench.core, Answer::Ended { why });
-            finish(programs, link, stub, wires);
-            (bench, Ok(offer))
-        }
-        Greeting::Unsent { link, stub } => {
-            turn_away(&link, &mut bench.core, Answer::Unsent);
-            finish(programs, link, stub, wires);
-            (bench, Ok(offer))
         }
         Greeting::StartFault => {
             answer_one(&mut bench.core, Answer::StartFault);

@@ -91,7 +91,7 @@ greeting_asks c (Ask child job task line) h =
     rw (s.1, s.0) refl
 greeting_asks c w h = refl
 
-worker_asks : (c : ℕ) (w : What) → by_worker c w ≡ true → late c w ≡ true → is_of_run w ≡ true
+worker_asks : (c : ℕ) (w : What) → by_worker true c w ≡ true → late c w ≡ true → is_of_run w ≡ true
 worker_asks c (Ask child job task line) h l =
     let t = both (child == c) (not (task == 0)) h in
     go (child == c) (job == 0) (job == 1) (task == 0) (asks_for Serve line) t.0 t.1 l
@@ -104,6 +104,6 @@ worker_asks c (Ask child job task line) h l =
     go false b d z x e n k = absurd cc
 worker_asks c w h l = refl
 
-pub all_work : (c : ℕ) (xs : List Entry) → list_all (λ (e : Entry). by_worker c e.what) xs ≡ true → list_all (λ (e : Entry). late c e.what) xs ≡ true
+pub all_work : (c : ℕ) (xs : List Entry) → list_all (λ (e : Entry). by_worker true c e.what) xs ≡ true → list_all (λ (e : Entry). late c e.what) xs ≡ true
     → list_all (λ (e : Entry). is_of_run e.what) xs ≡ true
-all_work c xs h l = all-both (λ (e : Entry). by_worker c e.what) (λ (e : Entry). late c e.what) (λ (e : Entry). is_of_run e.what) (λ e. worker_asks c e.what) xs h l
+all_work c xs h l = all-both (λ (e : Entry). by_worker true c e.what) (λ (e : Entry). late c e.what) (λ (e : Entry). is_of_run e.what) (λ e. worker_asks c e.what) xs h l

@@ -15,3 +15,4 @@ pub mod Leaving
 pub mod Ending
 pub mod Scanning
 pub mod LastAgain
+pub mod Meeting

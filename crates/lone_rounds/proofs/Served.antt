@@ -27,6 +27,7 @@ use Rattle.child_start.proofs.Begun.{later_unstarted}
 use Rattle.task_run.specs.declared.setup.Setup.{Setup}
 use Rattle.task_run.specs.TaskRuns.{gone_answer, or_refusal, refusal_of, unready_answer}
 use Rattle.lone_work.specs.Works.{by_worker, ends_closed}
+use Rattle.lone_work.proofs.Turning.{alone_only}
 use Rattle.gathering.specs.Tasks.{turns_by}
 use Rattle.gathering.proofs.Turning.{turns_by-append}
 use Rattle.lone_rounds.specs.Starting.{is_any_start, is_ready_untagged, is_spent, is_unclosed}
@@ -118,7 +119,7 @@ pub greeting_unclosed : (c : ℕ) (w : What) → is_of_greeting c w ≡ true →
 greeting_unclosed c (End child why) h = (both (child == c) (not (is_closed why)) h).1
 greeting_unclosed c w h = refl
 
-pub worker_unclosed : (c : ℕ) (w : What) → by_worker c w ≡ true → is_unclosed_end w ≡ true
+pub worker_unclosed : (c : ℕ) (w : What) → by_worker true c w ≡ true → is_unclosed_end w ≡ true
 worker_unclosed c (End child why) h = (both (child == c) (not (is_closed why)) h).1
 worker_unclosed c w h = refl
 
@@ -152,7 +153,7 @@ module _ (o : Opening) (setup : Setup) (limit : ℕ) (offer tagged : Bool) (old 
   first = main_entry (Start c 0 offer)
 
   abbrev its : List Entry
-  its = s.worked.more
+  its = s.worked.did.moved.more
 
   k : Closing c s.mid new
   k = closing c s.mid new s.closes
@@ -161,7 +162,7 @@ module _ (o : Opening) (setup : Setup) (limit : ℕ) (offer tagged : Bool) (old 
   later = greeted.more ++ (its ++ k.tail)
 
   behind : new ≡ g ++ (its ++ k.tail)
-  behind = k.is ∙ ap (λ (x : List Entry). x ++ k.tail) s.worked.is ∙ append_assoc g its k.tail
+  behind = k.is ∙ ap (λ (x : List Entry). x ++ k.tail) s.worked.did.moved.is ∙ append_assoc g its k.tail
 
   whole : new ≡ old ++ first ∷ later
   whole = behind ∙ ap (λ (x : List Entry). x ++ (its ++ k.tail)) greeted.grown ∙ append_assoc old (first ∷ greeted.more) (its ++ k.tail)
@@ -170,7 +171,7 @@ module _ (o : Opening) (setup : Setup) (limit : ℕ) (offer tagged : Bool) (old 
   two = (let n = ap length ready.jobs in omega (arith, n))
 
   worked_part : Part c its
-  worked_part = worker_part c its s.worked.only s.worked.own (late_from o c g its legal' (subst (Legal o) s.worked.is s.can.legal) two)
+  worked_part = worker_part c its (alone_only s.worked refl) (s.worked.did.moved.lone refl) (late_from o c g its legal' (subst (Legal o) s.worked.did.moved.is s.can.serves.legal) two)
 
   rest_part : Part c (its ++ k.tail)
   rest_part = part_both c its k.tail worked_part (closing_part c k.tail k.one)
@@ -188,8 +189,8 @@ module _ (o : Opening) (setup : Setup) (limit : ℕ) (offer tagged : Bool) (old 
   done =
       let at_end : TasksDone o setup limit (s.mid ++ k.tail) g its desk desk' = record {
         done = s.worked.done;
-        claimed = s.worked.claimed;
-        ran = worker_runs o setup limit c s.mid k.tail s.worked.done s.can.number s.worked.ran;
+        claimed = sym s.worked.did.claimed;
+        ran = worker_runs o setup limit c s.mid k.tail s.worked.done s.can.serves.number s.worked.ran;
         log_is = s.worked.log_is;
         caused = s.worked.caused;
       } in
@@ -199,7 +200,7 @@ module _ (o : Opening) (setup : Setup) (limit : ℕ) (offer tagged : Bool) (old 
   so_far = (first ∷ greeted.more) ++ its
 
   mid_is : s.mid ≡ old ++ so_far
-  mid_is = s.worked.is ∙ ap (λ (x : List Entry). x ++ its) greeted.grown ∙ append_assoc old (first ∷ greeted.more) its
+  mid_is = s.worked.did.moved.is ∙ ap (λ (x : List Entry). x ++ its) greeted.grown ∙ append_assoc old (first ∷ greeted.more) its
 
   gone_spent : is_gone s.mid c ≡ true → is_spent s.mid c ≡ true
   gone_spent h = go (is_ended s.mid c) refl (is_mute s.mid c) refl h
@@ -209,7 +210,7 @@ module _ (o : Opening) (setup : Setup) (limit : ℕ) (offer tagged : Bool) (old 
           let unclosed : is_unclosed (why_of s.mid c) ≡ true = subst (λ (j : List Entry). is_ended j c ≡ true → is_unclosed (why_of j c) ≡ true) (sym mid_is)
           (new_unclosed o old so_far c legal greeted.next
           (all-join (λ (e : Entry). is_unclosed_end e.what) (first ∷ greeted.more) its (all_unclosed (is_of_greeting c) (greeting_unclosed c) greeted.more greeted.own)
-          (all_unclosed (by_worker c) (worker_unclosed c) its s.worked.only))) x in
+          (all_unclosed (by_worker true c) (worker_unclosed c) its (alone_only s.worked refl)))) x in
           or_right (is_some (refusal_of s.mid c)) (is_mute s.mid c || is_unclosed (why_of s.mid c)) (or_right (is_mute s.mid c) (is_unclosed (why_of s.mid c)) unclosed)
       go false x true y i = or_right (is_some (refusal_of s.mid c)) (is_mute s.mid c || is_unclosed (why_of s.mid c)) (or_left (is_mute s.mid c) (is_unclosed (why_of s.mid c)) y)
       go false x false y i = absurd cc
@@ -223,16 +224,16 @@ module _ (o : Opening) (setup : Setup) (limit : ℕ) (offer tagged : Bool) (old 
 
   -- where all are claimed then, a task was: the worker's last entry closes its run
   ends_now : are_all_claimed o new ≡ true → EndsClosed new
-  ends_now all = go its refl s.worked.last
+  ends_now all = go its refl (s.worked.last refl)
     where
       unworked : its ≡ [] → are_all_claimed o new ≡ false
       unworked none =
-          ap (are_all_claimed o) k.is ∙ closing_claims c k.tail k.one o s.mid ∙ ap (are_all_claimed o) (s.worked.is ∙ ap (λ (x : List Entry). g ++ x) none ∙ append-nil g)
+          ap (are_all_claimed o) k.is ∙ closing_claims c k.tail k.one o s.mid ∙ ap (are_all_claimed o) (s.worked.did.moved.is ∙ ap (λ (x : List Entry). g ++ x) none ∙ append-nil g)
           ∙ ap (are_all_claimed o) greeted.grown ∙ claimed_same o old (first ∷ greeted.more) (greeting_claims_none old g offer c greeted) (greeting_closes_none old g offer c greeted) ∙ left
 
       go : (xs : List Entry) → its ≡ xs → ends_closed xs ≡ true → EndsClosed new
       go [] is h = absurd (let bad : true ≡ false = sym all ∙ unworked is in cc)
-      go (x ∷ xs) is h = closing_ends c k.tail k.one g new x xs (k.is ∙ ap (λ (y : List Entry). y ++ k.tail) (s.worked.is ∙ ap (λ (y : List Entry). g ++ y) is)) h
+      go (x ∷ xs) is h = closing_ends c k.tail k.one g new x xs (k.is ∙ ap (λ (y : List Entry). y ++ k.tail) (s.worked.did.moved.is ∙ ap (λ (y : List Entry). g ++ y) is)) h
 
   ready_said : is_ready_untagged new c ≡ not tagged
   ready_said = ap (λ (j : List Entry). is_ready_untagged j c) behind ∙ ready_now o g (its ++ k.tail) c legal' ready greeted.idle rest_part.within ∙ ap not (sym tag)
@@ -247,8 +248,8 @@ module _ (o : Opening) (setup : Setup) (limit : ℕ) (offer tagged : Bool) (old 
       turn = served_next o old g offer c greeted legal' ready (its ++ k.tail) rest_part.within;
       within = subst (λ (n : ℕ). list_all (λ (e : Entry). in_stint n e.what) later ≡ true) greeted.next part.within;
       asks = part.asks;
-      lost = served_lost old g offer c greeted (its ++ k.tail) (all-join (λ (e : Entry). loses_task e.what) its k.tail (worker_loses c its s.worked.only) (closing_loses c k.tail k.one));
-      rest = λ u. ap (λ (j : List Entry). is_busy j u) k.is ∙ closing_rests c k.tail k.one s.mid s.can.rest u;
+      lost = served_lost old g offer c greeted (its ++ k.tail) (all-join (λ (e : Entry). loses_task e.what) its k.tail (worker_loses c its (alone_only s.worked refl)) (closing_loses c k.tail k.one));
+      rest = λ u. ap (λ (j : List Entry). is_busy j u) k.is ∙ closing_rests c k.tail k.one s.mid s.can.rests.rest u;
       ended = ap (λ (b : Bool). b && true) k.ended;
       spent = over;
       untaken = subst NoneUntaken (sym behind) (ready_taken o old g offer c greeted legal' ready (its ++ k.tail) rest_part.within);

@@ -122,13 +122,8 @@ module _ (old new : List Entry) (offer : Bool) (c : ℕ) (g : Greeted old new 0 
 
   pub greeting_works : (o : Opening) → Legal o new → IsReady new c → IsBook o.notes → ((t : ℕ) → is_busy old t ≡ false) → CanWork o c new
   greeting_works o legal ready book rest = record {
-    legal = legal;
-    number = (let n = g.next in omega (arith, n));
-    started = greeting_started;
-    prepared = ready.prepared;
-    idle = g.idle;
-    rest = greeting_rests rest;
-    book = book;
+    serves = record { legal = legal; number = (let n = g.next in omega (arith, n)); started = greeting_started; prepared = ready.prepared; book = book };
+    rests = record { idle = g.idle; rest = greeting_rests rest };
   }
 
 -- what follows the greeting loses requests of tasks alone
@@ -140,7 +135,7 @@ served_lost old new offer c g more h =
 
 -- ---- tasks
 
-worker_in : (c : ℕ) (w : What) → by_worker c w ≡ true → in_stint c w ≡ true
+worker_in : (c : ℕ) (w : What) → by_worker true c w ≡ true → in_stint c w ≡ true
 worker_in c (Claim task child) h = refl
 worker_in c (Lead child job line) h = h
 worker_in c (Ask child job task line) h = (both (child == c) (not (task == 0)) h).0
@@ -156,19 +151,19 @@ worker_in c (End child why) h = (both (child == c) (not (is_closed why)) h).0
 worker_in c (Settled child job verdict) h = h
 worker_in c w h = absurd cc
 
-pub worker_part : (c : ℕ) (xs : List Entry) → list_all (λ (e : Entry). by_worker c e.what) xs ≡ true → are_by 0 xs ≡ true → list_all (λ (e : Entry). late c e.what) xs ≡ true → Part c xs
+pub worker_part : (c : ℕ) (xs : List Entry) → list_all (λ (e : Entry). by_worker true c e.what) xs ≡ true → are_by 0 xs ≡ true → list_all (λ (e : Entry). late c e.what) xs ≡ true → Part c xs
 worker_part c xs only own later = record {
-  within = all_in (by_worker c) (in_stint c) (worker_in c) xs only;
+  within = all_in (by_worker true c) (in_stint c) (worker_in c) xs only;
   main = own;
   asks = all_work c xs only later;
 }
 
-worker_loses_task : (c : ℕ) (w : What) → by_worker c w ≡ true → loses_task w ≡ true
+worker_loses_task : (c : ℕ) (w : What) → by_worker true c w ≡ true → loses_task w ≡ true
 worker_loses_task c (Lost child task) h = (both (child == c) (not (task == 0)) h).1
 worker_loses_task c w h = refl
 
-pub worker_loses : (c : ℕ) (xs : List Entry) → list_all (λ (e : Entry). by_worker c e.what) xs ≡ true → list_all (λ (e : Entry). loses_task e.what) xs ≡ true
-worker_loses c xs h = all_in (by_worker c) loses_task (worker_loses_task c) xs h
+pub worker_loses : (c : ℕ) (xs : List Entry) → list_all (λ (e : Entry). by_worker true c e.what) xs ≡ true → list_all (λ (e : Entry). loses_task e.what) xs ≡ true
+worker_loses c xs h = all_in (by_worker true c) loses_task (worker_loses_task c) xs h
 
 pub zero_part : (c t : ℕ) (answer : Answer) → Part c (main_entry (Claim t 0) ∷ main_entry (Answered t answer) ∷ [])
 zero_part c t answer = record { within = refl; main = refl; asks = refl }

@@ -1,25 +1,29 @@
 -- What one start and what follows it comes to, and how a run stands between two starts.
 use Rattle.ann_outside.specs.Told.{DeskTold, ProgramsTold}
-use Rattle.std.specs.Prelude.{ℕ, ◌≡◌, ◌⊎◌, ◌≤◌, ◌+◌, ◌==◌, ◌&&◌, not, Bool, true, false, List, [], ◌∷◌, ◌++◌, Option, Some, None, Result, MatchResult}
+use Rattle.std.specs.Prelude.{ℕ, ◌≡◌, ◌⊎◌, ◌≤◌, ◌+◌, ◌==◌, ◌&&◌, not, Bool, true, false, List, [], ◌∷◌, ◌++◌, Option, Some, None, is_some, option_map, Result, MatchResult}
 use Rattle.std.specs.List.{list_all, list_any}
 use Rattle.ann_key.specs.declared.bytes.NoMemory.{NoMemory}
 use Rattle.ann_outside.specs.Calls.{Gained}
 use Rattle.ann_outside.specs.Causes.{AddsOne, Stays}
 use Rattle.ann_outside.specs.Starts.{Starts}
 use Rattle.journal_model.specs.declared.answer.Answer.{Answer}
+use Rattle.journal_model.specs.declared.answer.Answer.TheVariants.{NotPrepared, Ended as EndedAnswer, Unsent as UnsentAnswer}
 use Rattle.journal_model.specs.declared.entry.What.{What}
 use Rattle.journal_model.specs.declared.entry.What.TheVariants.{Claim, Start, NoStart, Lead, Ask, Put, Sent, Mute, Got, End, Verdict as Settled, Lost, Answer as Answered, Note, Again}
 use Rattle.journal_model.specs.declared.entry.Entry.{Entry}
 use Rattle.journal_model.specs.declared.opening.Opening.{Opening}
-use Rattle.journal_model.specs.Journal.{any, is_ended}
+use Rattle.journal_model.specs.Journal.{any, is_ended, is_started}
 use Rattle.journal_model.specs.Legality.{Legal, count, is_busy, is_start, least_free, turn_of_task}
 use Rattle.journal_model.specs.Shares.{are_by}
 use Rattle.journal_model.specs.Halves.{EarValue, MouthValue}
 use Rattle.host_core.specs.Steps.{are_all_claimed}
 use Rattle.link_roles.specs.Alone.{Closes}
 use Rattle.gathering.specs.Tasks.{IsThrough, turns_by}
+use Rattle.child_start.specs.declared.greeting.Came.{Came}
+use Rattle.child_start.specs.declared.greeting.Came.TheVariants.{Ready, Refused, Ended, Unsent}
 use Rattle.task_run.specs.declared.setup.Setup.{Setup}
-use Rattle.lone_work.specs.Works.{CanWork, TaskDone, Worked, CausedInTurn, all_calls, turns_of}
+use Rattle.task_run.specs.TaskRuns.{refused_at}
+use Rattle.lone_work.specs.Works.{CanWork, NoneAtWork, TaskDone, WorkedAlone, CausedInTurn, all_calls, turns_of}
 use Rattle.task_run.specs.declared.turn.TaskTurn.{TaskTurn}
 use Rattle.link_roles.specs.Wires.{WireValue}
 use Rattle.child_end.specs.Wires.{IsHeld, IsOfStart, came}
@@ -68,10 +72,41 @@ TurnsAway o c old new answer = (mid : List Entry) × ((b : Bool) × AnswersOne o
 -- tasks were done over the child until it was gone or all were claimed, and it was closed
 pub record HasServed (o : Opening) (setup : Setup) (c : ℕ) (old new : List Entry) (desk desk' : DeskTold) : Type 0 where
   pub mid : List Entry
-  pub worked : Worked o setup 0 c old mid desk desk'
+  pub worked : WorkedAlone o setup 0 c old mid desk desk'
   pub can : CanWork o c mid
   pub through : IsThrough o mid c
   pub closes : Closes 0 c mid new
+
+-- ---- what the child came to
+
+-- whether it is ready, and then whether it takes tags
+abbrev pub tagged_of : Came → Option Bool
+tagged_of (Ready tagged) = Some tagged
+tagged_of came = None
+
+-- the answer of a task that finds the child so: none where it is ready
+abbrev pub came_answer : Came → Option Answer
+came_answer (Ready tagged) = None
+came_answer (Refused verdict) = option_map NotPrepared (refused_at verdict)
+came_answer (Ended why) = Some (EndedAnswer why)
+came_answer Unsent = Some UnsentAnswer
+
+-- the child was started and has no open job, and no task is busy, in a legal journal
+pub record IsIdle (o : Opening) (c : ℕ) (seen : List Entry) : Type 0 where
+  pub legal : Legal o seen
+  pub started : is_started seen c ≡ true
+  pub rests : NoneAtWork c seen
+
+-- a child that is ready can work; one that isn't is idle, and there is an answer for it
+abbrev pub CanMeet : Opening → ℕ → List Entry → Came → Type 0
+CanMeet o c seen (Ready tagged) = CanWork o c seen
+CanMeet o c seen came = IsIdle o c seen × (is_some (came_answer came) ≡ true)
+
+-- Of a child that is ready tasks were done, and else one was answered; and the child was closed. `next` says whether ASYNC may be offered
+-- from then on.
+abbrev pub Meets : Opening → Setup → ℕ → List Entry → List Entry → Came → Bool → DeskTold → DeskTold → Type 0
+Meets o setup c old new (Ready tagged) next desk desk' = HasServed o setup c old new desk desk' × (next ≡ tagged)
+Meets o setup c old new came next desk desk' = ((answer : Answer) × (Some answer ≡ came_answer came) × TurnsAway o c old new answer) × (next ≡ true) × (desk' ≡ desk)
 
 -- ---- tasks that are done
 

@@ -12,5 +12,5 @@ mod zero;
 pub use plan::Plan;
 pub use running::run_alone;
 pub use serving::{serve, turn_away};
-pub use starting::{is_offered, not_prepared};
+pub use starting::{is_offered, tagged_of, unready_answer};
 pub use zero::{answer_left, answer_one};

@@ -7,7 +7,7 @@ ghost use Rattle.link_roles.specs.Writings.{LoneWired};
 ghost use Rattle.gathering.specs.Tasks.{IsThrough};
 ghost use Rattle.link_roles.specs.Alone.{KeepsLink};
 ghost use Rattle.child_start.specs.Cores.{IsSameCore};
-ghost use Rattle.lone_work.specs.Works.{AreTasks, CanWork, Worked};
+ghost use Rattle.lone_work.specs.Works.{AreTasks, CanWork, WorkedAlone};
 ghost use Rattle.lone_rounds.specs.Stints.{HasServed, TurnsAway};
 
 use crate::zero::answer_one;
@@ -16,7 +16,7 @@ use child_end::close_child;
 use host_core::Core;
 use journal_model::Answer;
 use link_roles::{Lone, OwnDoor};
-use lone_work::work;
+use lone_work::work_alone;
 use std::alloc::Global;
 use task_run::Setup;
 use task_text::Task;
@@ -33,14 +33,14 @@ fn work_over<I: Sink, O: Source, K: Desk>(
     requires tasks { (core.old.opening.tasks ≡ tasks.now) × AreTasks tasks.now }
     requires folder { has_newline setup.now.work ≡ false }
     requires can { CanWork core.old.opening link.old.ear.child core.old.journal }
-    ensures worked { Worked core.old.opening setup.now 0 link.old.ear.child core.old.journal core.new.journal (K.told desk.old) (K.told desk.new) }
+    ensures worked { WorkedAlone core.old.opening setup.now 0 link.old.ear.child core.old.journal core.new.journal (K.told desk.old) (K.told desk.new) }
     ensures can { CanWork core.old.opening link.old.ear.child core.new.journal }
     ensures through { IsThrough core.old.opening core.new.journal link.old.ear.child }
     ensures link { KeepsLink core.old.journal core.new.journal link.old.ear link.new.ear link.old.mouth link.new.mouth }
     ensures core { IsSameCore core.old core.new }
 {
     let mut door = OwnDoor { core };
-    work(alloc, tasks, setup, link, &mut door, desk);
+    work_alone(alloc, tasks, setup, link, &mut door, desk);
     let OwnDoor { core: _ } = door;
 }
 

@@ -6,25 +6,27 @@ ghost use Rattle.journal_model.specs.Legality.{Legal, count, is_busy, is_start};
 ghost use Rattle.host_core.specs.Steps.{are_all_claimed};
 ghost use Rattle.task_run.specs.TaskRuns.{refused_at};
 ghost use Rattle.child_start.specs.Cores.{IsSameCore};
+ghost use Rattle.link_roles.specs.Alone.{KeepsLink};
 ghost use Rattle.lone_work.specs.Works.{AreTasks};
-ghost use Rattle.lone_rounds.specs.Stints.{HasStarted, KeptOr, OneStart, Unstarted};
+ghost use Rattle.lone_rounds.specs.Stints.{CanMeet, HasStarted, KeptOr, Meets, OneStart, Unstarted, came_answer, tagged_of};
 
 use crate::plan::Plan;
 use crate::serving::{serve, turn_away};
 use crate::zero::answer_one;
 use ann_key::NoMemory;
-use ann_outside::{Desk, Programs};
+use ann_outside::{Desk, Programs, Sink, Source};
 use child_end::finish;
-use child_start::{Greeting, Mode, greet};
+use child_start::{Came, Greeting, Mode, greet};
 use host_core::Core;
 use journal_model::{Answer, Verdict};
-use link_roles::Wire;
+use link_roles::{Lone, Wire};
 use lone_work::know_book;
 use std::alloc::Global;
+use task_run::Setup;
 use task_text::Task;
 
-/// The answer where a line refused to get ready, with that line's place.
-pub fn not_prepared(verdict: Verdict) -> Answer
+// The answer where a line refused to get ready, with that line's place.
+fn not_prepared(verdict: Verdict) -> Answer
     requires { is_some (refused_at verdict) ≡ true }
     ensures { Some result ≡ option_map NotPrepared (refused_at verdict) }
 {
@@ -34,11 +36,63 @@ pub fn not_prepared(verdict: Verdict) -> Answer
     }
 }
 
+/// Whether the child is ready, and then whether it takes tags.
+pub fn tagged_of(came: Came) -> Option<bool>
+    ensures { result ≡ tagged_of came }
+{
+    match came {
+        Came::Ready { tagged } => Some(tagged),
+        _ => None,
+    }
+}
+
+/// The answer of a task that finds a child that isn't ready.
+pub fn unready_answer(came: Came) -> Answer
+    requires { is_some (came_answer came) ≡ true }
+    ensures { Some result ≡ came_answer came }
+{
+    match came {
+        Came::Ready { .. } => unreachable!(),
+        Came::Refused { verdict } => not_prepared(verdict),
+        Came::Ended { why } => Answer::Ended { why },
+        Came::Unsent => Answer::Unsent,
+    }
+}
+
 /// Whether ASYNC is offered after a child that is ready, tagged or not.
 pub fn is_offered(offer: bool, tagged: bool) -> bool
     ensures { result ≡ (offer && tagged) }
 {
     offer && tagged
+}
+
+// Does tasks over a child that is ready, or answers one for one that isn't, and closes it. Whether ASYNC may be offered to the next one.
+fn meet<I: Sink, O: Source, K: Desk>(
+    alloc: Global,
+    tasks: &[Task],
+    setup: &Setup,
+    link: &mut Lone<I, O>,
+    came: Came,
+    core: &mut Core,
+    desk: &mut K,
+) -> bool
+    requires tasks { (core.old.opening.tasks ≡ tasks.now) × AreTasks tasks.now }
+    requires folder { has_newline setup.now.work ≡ false }
+    requires can { CanMeet core.old.opening link.old.ear.child core.old.journal came }
+    ensures meets { Meets core.old.opening setup.now link.old.ear.child core.old.journal core.new.journal came result (K.told desk.old) (K.told desk.new) }
+    ensures link { KeepsLink core.old.journal core.new.journal link.old.ear link.new.ear link.old.mouth link.new.mouth }
+    ensures core { IsSameCore core.old core.new }
+{
+    match tagged_of(came) {
+        Some(tagged) => {
+            serve(alloc, tasks, setup, link, core, desk);
+            tagged
+        }
+        None => {
+            turn_away(link, core, unready_answer(came));
+            true
+        }
+    }
 }
 
 // Starts one child and lets it do tasks. One task is answered by what came of a start that gave no child that is ready. Whether
@@ -76,35 +130,15 @@ where
 {
     let program = plan.program.view();
     match greet(alloc, programs, program, core, 0, offer, Mode::Serve) {
-        Greeting::Ready {
+        Greeting::Child {
             mut link,
             stub,
-            tagged,
+            came,
         } => {
             know_book(&core.opening().notes);
-            serve(alloc, tasks, &plan.setup, &mut link, core, desk);
+            let tagged = meet(alloc, tasks, &plan.setup, &mut link, came, core, desk);
             finish(programs, link, stub, wires);
             Ok(is_offered(offer, tagged))
-        }
-        Greeting::Refused {
-            verdict,
-            link,
-            stub,
-        } => {
-            let answer = not_prepared(verdict);
-            turn_away(&link, core, answer);
-            finish(programs, link, stub, wires);
-            Ok(offer)
-        }
-        Greeting::Ended { why, link, stub } => {
-            turn_away(&link, core, Answer::Ended { why });
-            finish(programs, link, stub, wires);
-            Ok(offer)
-        }
-        Greeting::Unsent { link, stub } => {
-            turn_away(&link, core, Answer::Unsent);
-            finish(programs, link, stub, wires);
-            Ok(offer)
         }
         Greeting::StartFault => {
             answer_one(core, Answer::StartFault);

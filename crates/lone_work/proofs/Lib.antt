@@ -9,4 +9,5 @@ pub mod Serving
 pub mod KeyNotes
 pub mod Knowing
 pub mod Sizes
+pub mod Doing
 pub mod Across

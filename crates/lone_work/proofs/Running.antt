@@ -1,5 +1,4 @@
 -- A task that was claimed, run and answered, or left to be run again, has its run in the journal.
-use Rattle.ann_outside.specs.Told.{DeskTold}
 use Rattle.std.proofs.Common.{◌≡◌, ℕ, ◌+◌, List, [], ◌∷◌, ◌++◌, refl, sym, ap, subst, ◌∙◌, Bool, true, false, not, ◌==◌, cond, Some, None, Option, arith, append_assoc, append-nil, length}
 use Rattle.std.specs.Prelude.{◌||◌, map, Result, Ok, Err, is_some}
 use Rattle.std.specs.List.{cons_option}
@@ -14,12 +13,13 @@ use Rattle.journal_model.specs.declared.entry.What.{What}
 use Rattle.journal_model.specs.declared.entry.What.TheVariants.{Claim, Note, Answer as Answered, Again}
 use Rattle.journal_model.specs.declared.entry.Entry.{Entry}
 use Rattle.journal_model.specs.declared.opening.Opening.{Opening}
-use Rattle.journal_model.specs.Journal.{any, asked_jobs, is_started, starts}
-use Rattle.journal_model.specs.Legality.{Legal, has_open_job, holder, is_busy, job_for, task_of, turn_of_task, turned_by}
+use Rattle.journal_model.specs.Journal.{any, asked_jobs}
+use Rattle.journal_model.specs.Legality.{Legal, claims, closes, has_open_job, holder, is_busy, is_claimed_by, job_for, task_of, turn_of_task, turned_by}
 use Rattle.journal_model.specs.Notes.{AreCurrentAt}
 use Rattle.journal_model.specs.Shares.{are_by, makes_only}
 use Rattle.journal_model.proofs.Holding.{claimed, closed, holder_append}
-use Rattle.journal_model.proofs.Looks.{any-append, entry}
+use Rattle.journal_model.proofs.Looks.{entry}
+use Rattle.journal_model.proofs.Unbounded.{Within, bounds, held_positive, none_by, unbounded}
 use Rattle.journal_model.proofs.Working.{jobs_stay_closed}
 use Rattle.task_run.specs.Askers.{Asking, Noting}
 use Rattle.task_run.specs.declared.setup.Setup.{Setup}
@@ -29,25 +29,15 @@ use Rattle.task_run.specs.Ran.{Ran, HasTaskCauses, answered, behind_more}
 use Rattle.task_run.specs.Runs.{TaskRun}
 use Rattle.task_run.proofs.Askings.{asks_for, askings-append, askings_from-append, askings_from-none, askings-unasked}
 use Rattle.lone_work.specs.AtTasks.{notings}
-use Rattle.lone_work.specs.KnownLayouts.{known_layouts}
-use Rattle.lone_work.specs.Servings.{HasTurn, ServesOn, by_server}
-use Rattle.lone_work.proofs.KeyNotes.{layouts_since_claim}
+use Rattle.lone_work.specs.Servings.{HasTurn, by_server}
 use Rattle.lone_work.proofs.Noted.{notes_for, notings-append, notings_from-append, notings_from-none, notings-unnoted}
 use Rattle.lone_work.proofs.Serving.{gives_none, held_on, idle_on, server_claims, server_closes}
 use Rattle.gathering.specs.JournalRuns.{JournalRun}
 use Rattle.gathering.proofs.Lasting.{run_shut}
-use Rattle.lone_work.specs.Works.{LoneBegun, CanWork, LoneDoes, RanFor}
-use Rattle.std.proofs.lemmas.Bool.{and_parts as both}
-use Rattle.ann_key.proofs.Booleans.{or_left}
-use Rattle.task_run.proofs.Across.{prepared_on}
+use Rattle.lone_work.specs.Works.{NoneAtWork, RanFor}
+use Rattle.ann_key.proofs.Booleans.{or_neither as neither, left_false as either_left, right_false as either_right}
 
 -- ---- entries of a task
-
-pub server_bounds : (c t : ℕ) (w : What) → by_server c t w ≡ true → bounds_run t w ≡ false
-server_bounds c t (Claim task child) h = absurd cc
-server_bounds c t (Answered task answer) h = absurd cc
-server_bounds c t (Again task answer) h = absurd cc
-server_bounds c t w h = refl
 
 closing_asks : (again : Bool) (t : ℕ) (answer : Answer) → asks_for t (closing again t answer) ≡ false
 closing_asks true t answer = refl
@@ -61,17 +51,26 @@ closing_no_job : (again : Bool) (t : ℕ) (answer : Answer) → job_for t (closi
 closing_no_job true t answer = refl
 closing_no_job false t answer = refl
 
--- a role that is alone, and makes none of a kind
-none_in : (makes p : What → Bool) → ((w : What) → makes w ≡ true → p w ≡ false) → (n : ℕ) (more : List Entry) → makes_only makes n more ≡ true → are_by n more ≡ true → any p more ≡ false
-none_in makes p none n [] own by = refl
-none_in makes p none n (e ∷ more) own by =
-    let s : ((not (e.by == n) || makes e.what) ≡ true) × (makes_only makes n more ≡ true) = both (not (e.by == n) || makes e.what) (makes_only makes n more) own in
-    let b : ((e.by == n) ≡ true) × (are_by n more ≡ true) = both (e.by == n) (are_by n more) by in
-    rw (none e.what (go (e.by == n) b.0 s.0), none_in makes p none n more s.1 b.1) refl
+-- ---- while a number holds a task, and begins and closes no run of it, nobody does
+
+-- the two kinds, and both
+none_bounds_of : (t : ℕ) (xs : List Entry) → any (claims t) xs ≡ false → any (closes t) xs ≡ false → any (bounds_run t) xs ≡ false
+none_bounds_of t [] c k = refl
+none_bounds_of t (e ∷ xs) c k = one e.what c k (none_bounds_of t xs)
   where
-    go : (b : Bool) → b ≡ true → (not b || makes e.what) ≡ true → makes e.what ≡ true
-    go true i h = h
-    go false i h = absurd cc
+    one : (w : What) → (claims t w || any (claims t) xs) ≡ false → (closes t w || any (closes t) xs) ≡ false
+        → (any (claims t) xs ≡ false → any (closes t) xs ≡ false → any (bounds_run t) xs ≡ false) → (bounds_run t w || any (bounds_run t) xs) ≡ false
+    one (Claim task child) c k r = neither (task == t) (any (bounds_run t) xs) (either_left (task == t) (any (claims t) xs) c) (r (either_right (task == t) (any (claims t) xs) c) k)
+    one (Answered task answer) c k r = neither (task == t) (any (bounds_run t) xs) (either_left (task == t) (any (closes t) xs) k) (r c (either_right (task == t) (any (closes t) xs) k))
+    one (Again task answer) c k r = neither (task == t) (any (bounds_run t) xs) (either_left (task == t) (any (closes t) xs) k) (r c (either_right (task == t) (any (closes t) xs) k))
+    one w c k r = r c k
+
+pub none_bounds : (o : Opening) (n t : ℕ) (p : What → Bool) → Within p t → (seen more : List Entry) → Legal o (seen ++ more)
+    → is_claimed_by seen n t ≡ true → makes_only p n more ≡ true → any (bounds_run t) more ≡ false
+none_bounds o n t p within seen more legal held own =
+    let none = unbounded o seen more n t (held_positive o seen more n t legal held) legal held
+    (none_by p (bounds t) (λ w made. neither (claims t w) (closes t w) (within.unclaimed w made) (within.unclosed w made)) n more own) in
+    none_bounds_of t more none.0 none.1
 
 -- ---- notes after more requests
 
@@ -207,7 +206,7 @@ module _ (o : Opening) (setup : Setup) (task : Task) (n c : ℕ) (u : TaskTurn) 
 
 -- ---- after the run
 
-module _ (o : Opening) (n c t : ℕ) (past within : List Entry) (renewed : Bool) (answer : Answer) (could : CanWork o c past) (own : makes_only (by_server c t) n within ≡ true) (by : are_by n within ≡ true) where
+module _ (n c t : ℕ) (past within : List Entry) (renewed : Bool) (answer : Answer) (rest : (v : ℕ) → is_busy past v ≡ false) (own : makes_only (by_server c t) n within ≡ true) (by : are_by n within ≡ true) where
   abbrev claimed_now : List Entry
   claimed_now = past ++ entry n (Claim t c) ∷ []
 
@@ -218,36 +217,26 @@ module _ (o : Opening) (n c t : ℕ) (past within : List Entry) (renewed : Bool)
   closed_now = ran_now ++ entry n (closing renewed t answer) ∷ []
 
   -- no task is busy
-  rests : (v : ℕ) → is_busy closed_now v ≡ false
-  rests v = ap is_some (holder_append ran_now (entry n (closing renewed t answer) ∷ []) v) ∙ by_renewed renewed
+  none_held : (v : ℕ) → is_busy closed_now v ≡ false
+  none_held v = ap is_some (holder_append ran_now (entry n (closing renewed t answer) ∷ []) v) ∙ by_renewed renewed
     where
       held : holder ran_now v ≡ holder claimed_now v
       held = held_on claimed_now within v (gives_none (by_server c t) claimed (server_claims c t) n within own by) (gives_none (by_server c t) closed (server_closes c t) n within own by)
 
       go : (b : Bool) → (t == v) ≡ b → is_some (cond {A = Option Holder} b None (holder ran_now v)) ≡ false
       go true e = refl
-      go false e = ap is_some held ∙ ap is_some (holder_append past (entry n (Claim t c) ∷ []) v) ∙ (rw e (could.rest v))
+      go false e = ap is_some held ∙ ap is_some (holder_append past (entry n (Claim t c) ∷ []) v) ∙ (rw e (rest v))
 
       by_renewed : (b : Bool) → is_some (turned_by v (holder ran_now v) n (closing b t answer)) ≡ false
       by_renewed true = go (t == v) refl
       by_renewed false = go (t == v) refl
 
-  pub can_again : Legal o closed_now → is_started ran_now c ≡ true → HasTurn ran_now c t → CanWork o c closed_now
-  can_again legal started turn = record {
-    legal = legal;
-    number = could.number;
-    started = any-append (starts c) ran_now (entry n (closing renewed t answer) ∷ []) ∙ or_left (is_started ran_now c) (is_started (entry n (closing renewed t answer) ∷ []) c) started;
-    prepared = prepared_on ran_now (entry n (closing renewed t answer) ∷ []) c turn.prepared;
-    idle = idle_on ran_now (entry n (closing renewed t answer) ∷ []) c (closing_asks_none renewed) turn.idle;
-    rest = rests;
-    book = could.book;
-  }
+  pub rests_again : HasTurn ran_now c t → NoneAtWork c closed_now
+  rests_again turn = record { idle = idle_on ran_now (entry n (closing renewed t answer) ∷ []) c (closing_asks_none renewed) turn.idle; rest = none_held }
     where
       closing_asks_none : (b : Bool) → asked_jobs (entry n (closing b t answer) ∷ []) c ≡ []
       closing_asks_none true = refl
       closing_asks_none false = refl
-
--- ---- the whole task
 
 -- running out of memory is an answer that no refusal of the desk gives
 pub causes_answered : (old new : Counts) (result : Result Answer NoMemory) → HasTaskCauses old new result → HasTaskCauses old new (Ok (answered result))
@@ -259,57 +248,3 @@ causes_answered old new (Err e) h = record {
   no_file = λ is. absurd cc;
   untold = λ is. h.untold refl;
 }
-
-module _ (o : Opening) (setup : Setup) (task : Task) (n c : ℕ) (u : TaskTurn) (old ran new : List Entry) (desk desk' : DeskTold) (result : Result Answer NoMemory) where
-  pub does : {P Q : Type 0} (b : LoneBegun o n c u old) → task_of o u.task ≡ Some task → (s : ServesOn o n true c u.task old ran P Q)
-      → Ran task u setup (known_layouts o old u.task) (askings old u.task) (askings ran u.task) (notings old u.task) (notings ran u.task) desk.log desk'.log result → HasTaskCauses desk.counts desk'.counts result
-      → (again : Bool) → new ≡ ran ++ entry n (closing again u.task (answered result)) ∷ [] → LoneDoes o setup n c u old new desk desk'
-  does b is s r causes again given = record {
-    within = s.moved.more;
-    renewed = again;
-    answer = answered result;
-    calls = r.calls;
-    is = given ∙ ap (λ (x : List Entry). x ++ entry n (closing again u.task (answered result)) ∷ []) s.moved.is;
-    only = s.moved.own;
-    own = s.moved.lone refl;
-    run = subst (RanFor o setup r.calls n c u (answered result)) (sym (given ∙ ap (λ (x : List Entry). x ++ entry n (closing again u.task (answered result)) ∷ []) came_is)) whole;
-    log_is = r.log_is;
-    caused = causes_answered desk.counts desk'.counts result causes;
-  }
-    where
-      came_is : ran ≡ (b.past ++ entry n (Claim u.task c) ∷ []) ++ s.moved.more
-      came_is = s.moved.is ∙ ap (λ (x : List Entry). x ++ s.moved.more) b.is
-
-      pairs : askings ((b.past ++ entry n (Claim u.task c) ∷ []) ++ s.moved.more) u.task ≡ askings (b.past ++ entry n (Claim u.task c) ∷ []) u.task ++ r.asked
-      pairs = ap (λ (x : List Entry). askings x u.task) (sym came_is) ∙ r.pairs_are ∙ ap (λ (x : List Entry). askings x u.task ++ r.asked) b.is
-
-      notes : notings ((b.past ++ entry n (Claim u.task c) ∷ []) ++ s.moved.more) u.task
-          ≡ notings (b.past ++ entry n (Claim u.task c) ∷ []) u.task ++ map (behind_more (length (askings (b.past ++ entry n (Claim u.task c) ∷ []) u.task))) r.noted
-      notes =
-          ap (λ (x : List Entry). notings x u.task) (sym came_is) ∙ r.notes_are
-          ∙ ap (λ (x : List Entry). notings x u.task ++ map (behind_more (length (askings x u.task))) r.noted) b.is
-
-      -- what is known of the key, since the claim
-      known : AreCurrentAt o b.past task.key (known_layouts o old u.task)
-      known =
-          subst (λ (x : List Entry). AreCurrentAt o b.past task.key (known_layouts o x u.task)) (sym b.is)
-          (layouts_since_claim o b.past [] n c u.task task b.serves.book.order is (subst (Legal o) b.is b.serves.at.legal) refl refl)
-
-      whole : RanFor o setup r.calls n c u (answered result) (((b.past ++ entry n (Claim u.task c) ∷ []) ++ s.moved.more) ++ entry n (closing again u.task (answered result)) ∷ [])
-      whole = journal_run o setup task n c u b.past s.moved.more again (answered result) is b.turn (known_layouts o old u.task) r.asked r.calls r.noted known pairs notes r.run
-          (subst (λ (x : List Entry). has_open_job x u.task ≡ false) b.is b.serves.at.shut)
-          (subst (λ (x : List Entry). has_open_job x u.task ≡ false) came_is s.serves.at.shut)
-          (none_in (by_server c u.task) (bounds_run u.task) (server_bounds c u.task) n s.moved.more s.moved.own (s.moved.lone refl))
-
-  pub again : {P Q : Type 0} (b : LoneBegun o n c u old) → (s : ServesOn o n true c u.task old ran P Q) → (renewed : Bool) (answer : Answer)
-      → new ≡ ran ++ entry n (closing renewed u.task answer) ∷ [] → Legal o new → CanWork o c new
-  again b s renewed answer given legal =
-      subst (CanWork o c) (sym new_is)
-      (can_again o n c u.task b.past s.moved.more renewed answer b.could s.moved.own (s.moved.lone refl) (subst (Legal o) new_is legal)
-      (subst (λ (x : List Entry). is_started x c ≡ true) came_is s.serves.started) (subst (λ (x : List Entry). HasTurn x c u.task) came_is (s.serves.turn refl)))
-    where
-      came_is : ran ≡ (b.past ++ entry n (Claim u.task c) ∷ []) ++ s.moved.more
-      came_is = s.moved.is ∙ ap (λ (x : List Entry). x ++ s.moved.more) b.is
-
-      new_is : new ≡ ((b.past ++ entry n (Claim u.task c) ∷ []) ++ s.moved.more) ++ entry n (closing renewed u.task answer) ∷ []
-      new_is = given ∙ ap (λ (x : List Entry). x ++ entry n (closing renewed u.task answer) ∷ []) came_is

@@ -1,9 +1,7 @@
 -- What a worker did, task by task.
-use Rattle.ann_outside.specs.Told.{DeskTold}
 use Rattle.std.proofs.Common.{◌≡◌, ℕ, ◌<◌, List, [], ◌∷◌, ◌++◌, refl, sym, ap, subst, ◌∙◌, Bool, true, false, not, ◌==◌, cond, Some, None, Option, arith, append_assoc, append-nil}
 use Rattle.std.specs.Prelude.{◌&&◌, ◌||◌, if◌then◌else◌, map}
 use Rattle.std.specs.List.{list_all, list_any, cons_option}
-use Rattle.ann_outside.specs.Calls.{Gained}
 use Rattle.ann_outside.specs.DeskCauses.{Counts}
 use Rattle.ann_outside.specs.declared.file_desk.Call.{Call}
 use Rattle.journal_model.specs.declared.answer.Answer.{Answer}
@@ -21,12 +19,11 @@ use Rattle.journal_model.proofs.Testing.{all-join}
 use Rattle.task_run.specs.declared.setup.Setup.{Setup}
 use Rattle.task_run.specs.declared.turn.TaskTurn.{TaskTurn}
 use Rattle.task_run.specs.Askings.{closing}
-use Rattle.fetch_copy.proofs.CopyLaws.{gained_nothing, gained_more}
 use Rattle.lone_work.specs.Servings.{by_server}
 use Rattle.gathering.specs.Tasks.{claimed_turn, turns_by}
 use Rattle.gathering.proofs.Lasting.{run_stays}
 use Rattle.gathering.proofs.Turning.{turns_by-append}
-use Rattle.lone_work.specs.Works.{AllRan, CausedInTurn, LoneDoes, RanFor, TaskDone, Worked, all_calls, by_worker, ends_closed, is_closing, turns_of}
+use Rattle.lone_work.specs.Works.{AllRan, CausedInTurn, RanFor, TaskDone, all_calls, by_worker, ends_closed, is_closing, turns_of}
 use Rattle.std.proofs.lemmas.Bool.{and_parts as both, eqb-true as same_number}
 use Rattle.ann_key.proofs.Booleans.{left_false as either_left, right_false as either_right, or_neither as neither}
 use Rattle.ann_key.proofs.Numbers.{same_number as same}
@@ -71,7 +68,7 @@ ends_behind [] y ys h = h
 ends_behind (x ∷ []) y ys h = h
 ends_behind (x ∷ z ∷ xs) y ys h = ends_behind (z ∷ xs) y ys h
 
-ends_both : (xs ys : List Entry) → ends_closed xs ≡ true → ends_closed ys ≡ true → ends_closed (xs ++ ys) ≡ true
+pub ends_both : (xs ys : List Entry) → ends_closed xs ≡ true → ends_closed ys ≡ true → ends_closed (xs ++ ys) ≡ true
 ends_both xs [] h k = ap ends_closed (append-nil xs) ∙ h
 ends_both xs (y ∷ ys) h k = ends_behind xs y ys k
 
@@ -99,42 +96,10 @@ runs_last o setup n c past more (r ∷ runs) h = (
   runs_last o setup n c past more runs h.1,
 )
 
--- ---- one thing after another
-
-module _ (o : Opening) (setup : Setup) (n c : ℕ) where
-  pub worked_still : (seen : List Entry) (desk : DeskTold) → Worked o setup n c seen seen desk desk
-  worked_still seen desk = record {
-    more = [];
-    is = sym (append-nil seen);
-    only = refl;
-    own = refl;
-    last = refl;
-    done = [];
-    claimed = refl;
-    ran = tt;
-    log_is = gained_nothing desk.log;
-    caused = refl;
-  }
-
-  pub worked_both : (x y z : List Entry) (a b d : DeskTold) → Worked o setup n c x y a b → Worked o setup n c y z b d → Worked o setup n c x z a d
-  worked_both x y z a b d s k = record {
-    more = s.more ++ k.more;
-    is = k.is ∙ ap (λ (l : List Entry). l ++ k.more) s.is ∙ append_assoc x s.more k.more;
-    only = all-join (λ (e : Entry). by_worker c e.what) s.more k.more s.only k.only;
-    own = all-join (λ (e : Entry). e.by == n) s.more k.more s.own k.own;
-    last = ends_both s.more k.more s.last k.last;
-    done = s.done ++ k.done;
-    claimed = turns_both s.done k.done ∙ ap (λ (l : List (ℕ × ℕ)). l ++ turns_of k.done) s.claimed
-        ∙ ap (λ (l : List (ℕ × ℕ)). turns_by n x s.more ++ l) (k.claimed ∙ ap (λ (p : List Entry). turns_by n p k.more) s.is) ∙ sym (turns_by-append n x s.more k.more);
-    ran = ran_both o setup n c z s.done k.done (subst (λ (j : List Entry). AllRan o setup n c j s.done) (sym k.is) (runs_last o setup n c y k.more s.done s.ran)) k.ran;
-    log_is = subst (Gained a.log d.log) (sym (calls_both s.done k.done)) (gained_more a.log b.log d.log (all_calls s.done) (all_calls k.done) s.log_is k.log_is);
-    caused = caused_both a.counts b.counts d.counts s.done k.done s.caused k.caused;
-  }
-
 -- ---- one task
 
 -- who serves a task that is one works
-server_works : (c t : ℕ) → (t == 0) ≡ false → (w : What) → by_server c t w ≡ true → by_worker c w ≡ true
+pub server_works : (c t : ℕ) → (t == 0) ≡ false → (w : What) → by_server c t w ≡ true → by_worker true c w ≡ true
 server_works c t some (Ask child job task line) h =
     let s = both (child == c) (task == t) h in
     let e : (task == 0) ≡ false = ap (λ (k : ℕ). k == 0) (same_number task t s.1) ∙ some in
@@ -149,7 +114,7 @@ server_works c t some (Answered task answer) h = absurd cc
 server_works c t some (Again task answer) h = absurd cc
 server_works c t some w h = h
 
-all_made : (makes p : What → Bool) → ((w : What) → makes w ≡ true → p w ≡ true) → (n : ℕ) (more : List Entry) → makes_only makes n more ≡ true → are_by n more ≡ true → list_all (λ (e : Entry). p e.what) more ≡ true
+pub all_made : (makes p : What → Bool) → ((w : What) → makes w ≡ true → p w ≡ true) → (n : ℕ) (more : List Entry) → makes_only makes n more ≡ true → are_by n more ≡ true → list_all (λ (e : Entry). p e.what) more ≡ true
 all_made makes p wide n [] own by = refl
 all_made makes p wide n (e ∷ more) own by =
     let s : ((not (e.by == n) || makes e.what) ≡ true) × (makes_only makes n more ≡ true) = both (not (e.by == n) || makes e.what) (makes_only makes n more) own in
@@ -164,44 +129,17 @@ pub server_claims_none : (c t : ℕ) (past : List Entry) (w : What) → by_serve
 server_claims_none c t past (Claim task child) h = absurd cc
 server_claims_none c t past w h = refl
 
-closing_works : (c : ℕ) (renewed : Bool) (t : ℕ) (answer : Answer) → by_worker c (closing renewed t answer) ≡ true
-closing_works c true t answer = refl
-closing_works c false t answer = refl
+pub closing_works : (owns : Bool) (c : ℕ) (renewed : Bool) (t : ℕ) (answer : Answer) → by_worker owns c (closing renewed t answer) ≡ true
+closing_works owns c true t answer = refl
+closing_works owns c false t answer = refl
 
-closing_closes : (renewed : Bool) (t : ℕ) (answer : Answer) → is_closing (closing renewed t answer) ≡ true
+pub closing_closes : (renewed : Bool) (t : ℕ) (answer : Answer) → is_closing (closing renewed t answer) ≡ true
 closing_closes true t answer = refl
 closing_closes false t answer = refl
 
 pub closing_claims : (past : List Entry) (renewed : Bool) (t : ℕ) (answer : Answer) → claimed_turn past (closing renewed t answer) ≡ None
 closing_claims past true t answer = refl
 closing_claims past false t answer = refl
-
-module _ (o : Opening) (setup : Setup) (n c : ℕ) (u : TaskTurn) (past old new : List Entry) (desk desk' : DeskTold) where
-  pub worked_one : (u.task == 0) ≡ false → turn_of_task past u.task ≡ u.turn → old ≡ past ++ entry n (Claim u.task c) ∷ [] → LoneDoes o setup n c u old new desk desk' → Worked o setup n c past new desk desk'
-  worked_one some turn is d = record {
-    more = one ++ (d.within ++ last);
-    is = d.is ∙ ap (λ (x : List Entry). (x ++ d.within) ++ last) is ∙ append_assoc (past ++ one) d.within last ∙ append_assoc past one (d.within ++ last);
-    only = rw (same c) (all-join (λ (e : Entry). by_worker c e.what) d.within last (all_made (by_server c u.task) (by_worker c) (server_works c u.task some) n d.within d.only d.own) (rw (closing_works c d.renewed u.task d.answer) refl));
-    own = rw (same n) (all-join (λ (e : Entry). e.by == n) d.within last d.own (rw (same n) refl));
-    last = ends_behind (one ++ d.within) (entry n (closing d.renewed u.task d.answer)) [] (closing_closes d.renewed u.task d.answer);
-    done = record { task = u.task; turn = u.turn; calls = d.calls; answer = d.answer; counts = desk'.counts } ∷ [];
-    claimed = sym (rw (same n) (ap (λ (k : ℕ). (u.task, k) ∷ turns_by n (past ++ one) (d.within ++ last)) turn ∙ ap (λ (l : List (ℕ × ℕ)). (u.task, u.turn) ∷ l) none_later));
-    ran = (d.run, tt);
-    log_is = subst (Gained desk.log desk'.log) (sym (append-nil d.calls)) d.log_is;
-    caused = (d.caused, refl);
-  }
-    where
-      one : List Entry
-      one = entry n (Claim u.task c) ∷ []
-
-      last : List Entry
-      last = entry n (closing d.renewed u.task d.answer) ∷ []
-
-      none_later : turns_by n (past ++ one) (d.within ++ last) ≡ []
-      none_later =
-          turns_by-append n (past ++ one) d.within last
-          ∙ ap (λ (l : List (ℕ × ℕ)). l ++ turns_by n ((past ++ one) ++ d.within) last) (turns_by-none (by_server c u.task) (server_claims_none c u.task) n (past ++ one) d.within d.only)
-          ∙ (rw (same n, closing_claims ((past ++ one) ++ d.within) d.renewed u.task d.answer) refl)
 
 -- ---- fewer claims are left
 

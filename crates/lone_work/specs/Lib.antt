@@ -4,3 +4,4 @@ pub mod Noting
 pub mod Servings
 pub mod ServingLaws
 pub mod KnownLayouts
+pub mod WayLaws

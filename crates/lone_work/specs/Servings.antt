@@ -1,5 +1,5 @@
 -- How a number stands that serves a task over a child, and what serving makes.
-use Rattle.std.specs.Prelude.{ℕ, ◌≡◌, ◌==◌, ◌&&◌, Bool, true, List, [], Option, Some, None}
+use Rattle.std.specs.Prelude.{ℕ, ◌≡◌, ◌==◌, ◌&&◌, Bool, true, false, List, [], Option, Some, None}
 use Rattle.std.specs.Str.{is_utf8}
 use Rattle.annex_model.specs.Messages.{HostMessage, Transfer, Transferexport, Renameexport}
 use Rattle.journal_model.specs.declared.entry.What.{What}
@@ -37,6 +37,14 @@ by_server c t (Ask child job task line) = child == c && task == t
 by_server c t (Lost child task) = child == c && task == t
 by_server c t (Note task chunk count) = task == t
 by_server c t w = by_link c w
+
+-- requests for t of c, with the names before them, which may be lost, and notes of t
+abbrev pub by_jobs : ℕ → ℕ → What → Bool
+by_jobs c t (Lead child job line) = child == c
+by_jobs c t (Ask child job task line) = child == c && task == t
+by_jobs c t (Lost child task) = child == c && task == t
+by_jobs c t (Note task chunk count) = task == t
+by_jobs c t w = false
 
 -- it serves the task still, and made nothing else
 pub record ServesOn (o : Opening) (number : ℕ) (alone : Bool) (c t : ℕ) (old new : List Entry) (Before After : Type 0) : Type 0 where

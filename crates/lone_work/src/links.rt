@@ -31,7 +31,8 @@ pub fn ask_by_link<I: Sink, O: Source, D: Door>(
     ensures asked { AskedFor (D.view door.old).opening (D.view door.old).number task (D.view door.old).seen (D.view door.new).seen (name_of request.now) (message_of request.now) result }
     ensures named { IfOk result (IsNamed (message_of request.now)) }
     ensures turn { (D.view door.old).alone ≡ true → HasTurn (D.view door.old).seen link.old.ear.child task → HasTurn (D.view door.new).seen link.old.ear.child task }
-    ensures moved { Moved (D.view door.old).number (D.view door.old).alone (by_server link.old.ear.child task) (is_of_child link.old.ear.child) (D.view door.old).seen (D.view door.new).seen (LoneWired (D.view door.old).seen link.old.ear link.old.mouth) (LoneWired (D.view door.new).seen link.new.ear link.new.mouth) }
+    ensures moved { Moved (D.view door.old).number (D.view door.old).alone (by_server link.old.ear.child task) (is_of_child link.old.ear.child) (D.view door.old).seen (D.view door.new).seen
+        (LoneWired (D.view door.old).seen link.old.ear link.old.mouth) (LoneWired (D.view door.new).seen link.new.ear link.new.mouth) }
     ensures same { IsSameLink link.old.ear link.new.ear link.old.mouth link.new.mouth }
     ensures door { IsSameDoor (D.view door.old) (D.view door.new) }
 {

@@ -69,7 +69,8 @@ impl<'l, 'd, I: Sink, O: Source, D: Door> Asker for LoneAsker<'l, 'd, I, O, D> {
 
     ghost is_ready = { λ a b s. goes_ready (D.view a.door.now) (D.view b.door.now) a.link.now.ear b.link.now.ear a.link.now.mouth b.link.now.mouth a.task b.task s };
 
-    ghost goes_both = { λ a b d s r. goes_behind (D.view a.door.now) (D.view b.door.now) a.link.now.ear b.link.now.ear a.link.now.mouth b.link.now.mouth a.task b.task (D.view d.door.now) d.link.now.ear d.link.now.mouth d.task s r };
+    ghost goes_both = { λ a b d s r. goes_behind (D.view a.door.now) (D.view b.door.now) a.link.now.ear b.link.now.ear a.link.now.mouth b.link.now.mouth a.task b.task
+        (D.view d.door.now) d.link.now.ear d.link.now.mouth d.task s r };
 
     fn ask(&mut self, alloc: Global, number: u32, request: &Request) -> Result<Verdict, NoMemory> {
         let _file = file_of(request);

@@ -1,72 +1,75 @@
-// The worker: it claims, runs and answers, until there is nothing more to do.
-ghost use Rattle.std.specs.Prelude.{◌≡◌, ◌<◌, IsTrue, IsFalse, true, false};
+// The worker: it claims, runs and answers. One turn of it, which every worker takes, and the whole of one that is alone.
+ghost use Rattle.std.specs.Prelude.{◌≡◌, true, false};
 ghost use Rattle.annex_model.specs.Lines.{has_newline};
 ghost use Rattle.journal_model.specs.Room.{claims_left};
 ghost use Rattle.gathering.specs.Tasks.{IsThrough};
-ghost use Rattle.link_roles.specs.Alone.{KeepsLink};
-ghost use Rattle.link_roles.specs.Doors.{IsSameDoor};
-ghost use Rattle.lone_work.specs.Works.{AreTasks, CanWork, Worked};
+ghost use Rattle.link_roles.specs.Doors.{Between, IsSameDoor};
+ghost use Rattle.lone_work.specs.Works.{AreTasks, CanClaim, CanWork, GoesOn, WorkedAt};
 
-use crate::events::claim;
+use crate::claims::{Claimed, claim};
 use crate::task::do_task;
-use ann_outside::{Desk, Sink, Source};
-use link_roles::{Door, Lone};
+use crate::way::Way;
+use ann_outside::Desk;
+use link_roles::{Door, Turn};
 use std::alloc::Global;
 use task_run::Setup;
 use task_text::Task;
 
-// One task, where there is one. Whether there was.
-fn turn<I: Sink, O: Source, D: Door, K: Desk>(
+/// One task, where there is one. A worker rests where others hold what is left; one that is alone never does.
+pub fn take_turn<W: Way, D: Door, K: Desk>(
     alloc: Global,
     tasks: &[Task],
     setup: &Setup,
-    link: &mut Lone<I, O>,
+    way: &mut W,
     door: &mut D,
     desk: &mut K,
-) -> bool
-    requires alone { (D.view door.old).alone ≡ true }
+) -> Turn
     requires tasks { ((D.view door.old).opening.tasks ≡ tasks.now) × AreTasks tasks.now }
     requires folder { has_newline setup.now.work ≡ false }
-    requires can { CanWork (D.view door.old).opening link.old.ear.child (D.view door.old).seen }
-    ensures worked { Worked (D.view door.old).opening setup.now (D.view door.old).number link.old.ear.child (D.view door.old).seen (D.view door.new).seen (K.told desk.old) (K.told desk.new) }
-    ensures can { CanWork (D.view door.new).opening link.new.ear.child (D.view door.new).seen }
-    ensures fewer { IsTrue result → claims_left (D.view door.new).opening (D.view door.new).seen < claims_left (D.view door.old).opening (D.view door.old).seen }
-    ensures through { IsFalse result → IsThrough (D.view door.old).opening (D.view door.new).seen link.old.ear.child }
-    ensures link { KeepsLink (D.view door.old).seen (D.view door.new).seen link.old.ear link.new.ear link.old.mouth link.new.mouth }
+    requires owns { (D.view door.old).alone ≡ true → W.owns way.old ≡ true }
+    requires can { CanClaim (D.view door.old) (W.serves way.old) }
+    ensures worked { WorkedAt setup.now (W.owns way.old) (W.serves way.old) (D.view door.old) (D.view door.new) (W.wired way.old) (W.wired way.new) (K.told desk.old) (K.told desk.new) }
+    ensures can { CanClaim (D.view door.new) (W.serves way.new) }
+    ensures on { Between GoesOn (D.view door.old) (D.view door.new) (W.serves way.old) result }
+    ensures way { (W.serves way.new ≡ W.serves way.old) × (W.owns way.new ≡ W.owns way.old) × W.same way.old way.new }
     ensures door { IsSameDoor (D.view door.old) (D.view door.new) }
 {
-    let child = link.child();
+    let child = way.child();
     match claim(door, child) {
-        Some(turn) => {
-            do_task(alloc, tasks, turn, setup, link, door, desk);
-            true
+        Claimed::Task(turn) => {
+            do_task(alloc, tasks, turn, setup, way, door, desk);
+            Turn::Again
         }
-        None => false,
+        Claimed::Wait => Turn::Rest,
+        Claimed::Over => Turn::Over,
     }
 }
 
-/// Does tasks over the child's link, one after the other, until all are claimed or the child is gone.
-pub fn work<I: Sink, O: Source, D: Door, K: Desk>(
+/// Does tasks for a child that the worker has for itself, over a core that nobody else steps, one after the other, until all are
+/// claimed or the child is gone.
+pub fn work_alone<W: Way, D: Door, K: Desk>(
     alloc: Global,
     tasks: &[Task],
     setup: &Setup,
-    link: &mut Lone<I, O>,
+    way: &mut W,
     door: &mut D,
     desk: &mut K,
 )
-    requires alone { (D.view door.old).alone ≡ true }
+    requires alone { ((D.view door.old).alone ≡ true) × (W.owns way.old ≡ true) }
     requires tasks { ((D.view door.old).opening.tasks ≡ tasks.now) × AreTasks tasks.now }
     requires folder { has_newline setup.now.work ≡ false }
-    requires can { CanWork (D.view door.old).opening link.old.ear.child (D.view door.old).seen }
-    ensures worked { Worked (D.view door.old).opening setup.now (D.view door.old).number link.old.ear.child (D.view door.old).seen (D.view door.new).seen (K.told desk.old) (K.told desk.new) }
-    ensures can { CanWork (D.view door.new).opening link.new.ear.child (D.view door.new).seen }
-    ensures through { IsThrough (D.view door.old).opening (D.view door.new).seen link.old.ear.child }
-    ensures link { KeepsLink (D.view door.old).seen (D.view door.new).seen link.old.ear link.new.ear link.old.mouth link.new.mouth }
+    requires can { CanWork (D.view door.old).opening (W.serves way.old) (D.view door.old).seen }
+    ensures worked { WorkedAt setup.now (W.owns way.old) (W.serves way.old) (D.view door.old) (D.view door.new) (W.wired way.old) (W.wired way.new) (K.told desk.old) (K.told desk.new) }
+    ensures can { CanWork (D.view door.new).opening (W.serves way.new) (D.view door.new).seen }
+    ensures through { IsThrough (D.view door.old).opening (D.view door.new).seen (W.serves way.old) }
+    ensures way { (W.serves way.new ≡ W.serves way.old) × (W.owns way.new ≡ W.owns way.old) × W.same way.old way.new }
     ensures door { IsSameDoor (D.view door.old) (D.view door.new) }
 {
     'turns: loop {
-        if !turn(alloc, tasks, setup, link, door, desk) {
-            return;
+        match take_turn(alloc, tasks, setup, way, door, desk) {
+            Turn::Again => {}
+            Turn::Rest => unreachable!(),
+            Turn::Over => return,
         }
     }
 }

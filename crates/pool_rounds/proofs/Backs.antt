@@ -14,8 +14,8 @@ use Rattle.gathering.specs.Pairs.{Pairwise}
 use Rattle.gathering.specs.Rounds.{CorePass, LinkValue}
 use Rattle.gathering.specs.Tasks.{IsThrough}
 use Rattle.task_run.specs.declared.setup.Setup.{Setup}
-use Rattle.crew_work.specs.Crews.{Worked}
-use Rattle.crew_work.proofs.Working.{passed_none, worked_still}
+use Rattle.lone_work.specs.Works.{Worked}
+use Rattle.lone_work.proofs.Turning.{passed_none, worked_still}
 use Rattle.crew_round.specs.declared.back.Back.{Back}
 use Rattle.crew_round.specs.declared.back.Back.TheVariants.{Stayed, Ran}
 use Rattle.crew_round.specs.Back.{CameBack}

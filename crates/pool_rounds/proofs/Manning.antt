@@ -18,7 +18,7 @@ use Rattle.gathering.proofs.Halls.{drop_start}
 use Rattle.task_run.specs.declared.setup.Setup.{Setup}
 use Rattle.gathering.specs.JournalRuns.{HasJournalRun}
 use Rattle.lone_work.specs.Works.{TaskDone}
-use Rattle.crew_work.specs.Crews.{calls_of}
+use Rattle.crew_work.specs.Runs.{calls_of}
 use Rattle.crew_work.proofs.Ending.{lone_ends}
 use Rattle.crew_rounds.specs.Crewing.{DesksDid}
 use Rattle.crew_rounds.proofs.Crewing.{Agree, Own, agree_here, agree_later, desk_did}

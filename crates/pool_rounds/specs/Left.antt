@@ -10,7 +10,7 @@ use Rattle.gathering.specs.Pairs.{Pairwise}
 use Rattle.gathering.specs.Rounds.{CorePass, LinkValue, since}
 use Rattle.gathering.specs.Tasks.{IsThrough, IsThroughAfterAgain}
 use Rattle.task_run.specs.declared.setup.Setup.{Setup}
-use Rattle.crew_work.specs.Crews.{Worked}
+use Rattle.lone_work.specs.Works.{Worked}
 use Rattle.crew_rounds.specs.Coming.{IsFresh}
 use Rattle.crew_rounds.specs.declared.outcome.Outcome.{Outcome}
 use Rattle.crew_rounds.specs.declared.outcome.Outcome.TheVariants.{Done, NoMemory, NoThreads}

@@ -13,8 +13,7 @@ use Rattle.gathering.specs.Rounds.{LinkValue, IsAtRest, Round}
 use Rattle.gathering.specs.Laws.{Distinct, children_of}
 use Rattle.task_run.specs.declared.setup.Setup.{Setup}
 use Rattle.gathering.specs.JournalRuns.{HasJournalRun}
-use Rattle.lone_work.specs.Works.{TaskDone}
-use Rattle.crew_work.specs.Crews.{CanServe}
+use Rattle.lone_work.specs.Works.{CanServe, TaskDone}
 use Rattle.crew_rounds.specs.Crewing.{DesksDid, calls_from}
 
 -- each link is that of the child, and of the start, of the link at its place

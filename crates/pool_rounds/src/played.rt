@@ -149,7 +149,9 @@ pub(crate) fn play<
     requires tasks { (site.now.hall.now.fixed.tasks ≡ site.now.tasks.now) × AreTasks site.now.tasks.now }
     requires folder { has_newline site.now.setup.now.work ≡ false }
     ensures own { All (IsPassOf site.now.hall.now) result.0.passes.items × (length result.0.passes.items ≡ length kit.passes.items) }
-    ensures left { IfDone result.1 (PoolLeft site.now.hall.now site.now.setup.now (map (λ l. link_of l.ear l.mouth) kit.links.items) (map (λ l. link_of l.ear l.mouth) result.0.links.items) result.0.passes.items (map K.told kit.desks.items) (map K.told result.0.desks.items)) }
+    ensures left { IfDone result.1 (PoolLeft site.now.hall.now site.now.setup.now
+        (map (λ l. link_of l.ear l.mouth) kit.links.items) (map (λ l. link_of l.ear l.mouth) result.0.links.items)
+        result.0.passes.items (map K.told kit.desks.items) (map K.told result.0.desks.items)) }
     ensures kept { IfKept result.1 ((result.0.passes.items ≡ kit.passes.items) × AreAsBefore kit.links.items result.0.links.items kit.desks.items result.0.desks.items) }
     ensures same { AreSameLinks (map (λ l. link_of l.ear l.mouth) kit.links.items) (map (λ l. link_of l.ear l.mouth) result.0.links.items) × (vec_len result.0.desks ≡ vec_len kit.desks) }
 {

@@ -53,7 +53,9 @@ pub fn round_pool_some<
     requires can { PoolCan core.opening core.journal (map (λ l. link_of l.ear l.mouth) links.items) }
     requires tasks { (core.opening.tasks ≡ tasks.now) × AreTasks tasks.now }
     requires folder { has_newline setup.now.work ≡ false }
-    ensures round { IfDone result.outcome (GoesOn core.journal result.core.journal (λ rest. PoolLeaves core.opening setup.now (range_with_len 1 (1 + vec_len desks)) core.journal rest (map (λ l. link_of l.ear l.mouth) links.items) (map (λ l. link_of l.ear l.mouth) result.links.items) (map K.told desks.items) (map K.told result.desks.items))) }
+    ensures round { IfDone result.outcome (GoesOn core.journal result.core.journal
+        (λ rest. PoolLeaves core.opening setup.now (range_with_len 1 (1 + vec_len desks)) core.journal rest
+        (map (λ l. link_of l.ear l.mouth) links.items) (map (λ l. link_of l.ear l.mouth) result.links.items) (map K.told desks.items) (map K.told result.desks.items))) }
     ensures kept { IfKept result.outcome ((result.core.journal ≡ core.journal) × AreAsBefore links.items result.links.items desks.items result.desks.items) }
     ensures opening { result.core.opening ≡ core.opening }
     ensures same { AreSameLinks (map (λ l. link_of l.ear l.mouth) links.items) (map (λ l. link_of l.ear l.mouth) result.links.items) × (vec_len result.desks ≡ vec_len desks) }
@@ -114,7 +116,9 @@ pub fn round_pool<
     requires can { PoolCan core.opening core.journal (map (λ l. link_of l.ear l.mouth) links.items) }
     requires tasks { (core.opening.tasks ≡ tasks.now) × AreTasks tasks.now }
     requires folder { has_newline setup.now.work ≡ false }
-    ensures round { IfDone result.outcome (GoesOn core.journal result.core.journal (λ rest. PoolLeaves core.opening setup.now (range_with_len 1 (1 + vec_len desks)) core.journal rest (map (λ l. link_of l.ear l.mouth) links.items) (map (λ l. link_of l.ear l.mouth) result.links.items) (map K.told desks.items) (map K.told result.desks.items))) }
+    ensures round { IfDone result.outcome (GoesOn core.journal result.core.journal
+        (λ rest. PoolLeaves core.opening setup.now (range_with_len 1 (1 + vec_len desks)) core.journal rest
+        (map (λ l. link_of l.ear l.mouth) links.items) (map (λ l. link_of l.ear l.mouth) result.links.items) (map K.told desks.items) (map K.told result.desks.items))) }
     ensures kept { IfKept result.outcome ((result.core.journal ≡ core.journal) × AreAsBefore links.items result.links.items desks.items result.desks.items) }
     ensures opening { result.core.opening ≡ core.opening }
     ensures same { AreSameLinks (map (λ l. link_of l.ear l.mouth) links.items) (map (λ l. link_of l.ear l.mouth) result.links.items) × (vec_len result.desks ≡ vec_len desks) }

@@ -42,7 +42,7 @@ module _ (o : Opening) (new : List Entry) (e : EarValue) (m : MouthValue) (legal
   shut d j = by_either (e.child == d) own other
     where
       own : (e.child == d) ≡ true → is_open new d j ≡ false
-      own is = subst (λ (n : ℕ). is_open new n j ≡ false) (same_number e.child d is) (unopened (works.idle))
+      own is = subst (λ (n : ℕ). is_open new n j ≡ false) (same_number e.child d is) (unopened (works.rests.idle))
         where
           unopened : open_jobs new e.child ≡ [] → is_open new e.child j ≡ false
           unopened none = rw none refl
@@ -71,9 +71,9 @@ module _ (o : Opening) (new : List Entry) (e : EarValue) (m : MouthValue) (legal
 
   pub greeted_can : is_tagged new e.child ≡ true → LoneWired new e m → TaggedCan o new (link_of e m)
   greeted_can tagged wired = record {
-    calm = record { idle = works.rest; shut = shut };
-    begins = record { started = works.started; tagged = tagged; turn = wired.link.turn; unclosed = unclosed };
-    serves = record { legal = works.legal; number = works.number; started = works.started; prepared = works.prepared; book = works.book };
+    calm = record { idle = works.rests.rest; shut = shut };
+    begins = record { started = works.serves.started; tagged = tagged; turn = wired.link.turn; unclosed = unclosed };
+    serves = works.serves;
     ear = wired.link.ear;
     mouth = wired.link.mouth;
   }

@@ -62,7 +62,7 @@ returns-in-Whole-clause-served g c =
     c.args.wires.now.items c.settle.new.wires.items jobs c.serve_links-links.result.2 c.in-Whole.ensures.gathers.0 c.requires.can c.requires.last_child
     (subst (λ (w : Opening). MatchResult c.serve_links-links.result.2 (λ _. ServesLinks w c.args.plan.now.setup c.gather.new.core.journal new (map (λ l. link_of l.ear l.mouth) c.in-Whole.field-0.links.items) (map (λ l. link_of l.ear l.mouth) c.serve_links-links.result.0.items) (map g.K.Desk.told c.args.bench.desks.items) (map g.K.Desk.told c.serve_links-links.result.1.desks.items)) (λ _. StarvedLinks c.gather.new.core.journal new (map (λ l. link_of l.ear l.mouth) c.in-Whole.field-0.links.items) (map (λ l. link_of l.ear l.mouth) c.serve_links-links.result.0.items) (map g.K.Desk.told c.args.bench.desks.items) (map g.K.Desk.told c.serve_links-links.result.1.desks.items)))
     c.gather.ensures.core.opening c.serve_links-links.ensures.serves)
-    (subst (λ (w : Opening). Legal w new) (c.serve_links-links.ensures.core.opening ∙ c.gather.ensures.core.opening) (c.serve_links-links.ensures.core.legal (c.gather.ensures.core.legal c.requires.can.can.legal)))
+    (subst (λ (w : Opening). Legal w new) (c.serve_links-links.ensures.core.opening ∙ c.gather.ensures.core.opening) (c.serve_links-links.ensures.core.legal (c.gather.ensures.core.legal c.requires.can.can.serves.legal)))
     c.serve_links-links.ensures.same (if_ok c.serve_links-links.result.2 (λ h. All-map (λ (l : LinkValue). IsHeld new l.ear l.mouth) (λ l. link_of l.ear l.mouth) c.serve_links-links.result.0.items h) c.serve_links-links.ensures.held)
     (all_mapped (λ (l : LinkValue). l.mouth.child ≡ l.ear.child) (λ l. link_of l.ear l.mouth) (λ l. l.one_child) c.serve_links-links.result.0.items) c.settle.ensures.laid c.settle.ensures.starts c.settle.ensures.later)
 
@@ -80,7 +80,7 @@ returns-in-NoMemory-clause-served g c =
     (map seat_value c.in-NoMemory.field-0.seats.items) (map (λ l. link_of l.ear l.mouth) c.in-NoMemory.field-0.links.items) (map g.K.Desk.told c.args.bench.desks.items)
     c.args.wires.now.items c.settle-in-NoMemory.new.wires.items jobs (λ w. refl) c.in-NoMemory.ensures.gathers.0 c.requires.can c.requires.last_child
     (subst (λ xs. ClosesAll (children_of (map (λ l. link_of l.ear l.mouth) xs)) c.gather.new.core.journal new) c.deref.ensures.value c.close_links.ensures.closes)
-    (subst (λ (w : Opening). Legal w new) (c.close_links.ensures.core.opening ∙ c.gather.ensures.core.opening) (c.close_links.ensures.core.legal (c.gather.ensures.core.legal c.requires.can.can.legal)))
+    (subst (λ (w : Opening). Legal w new) (c.close_links.ensures.core.opening ∙ c.gather.ensures.core.opening) (c.close_links.ensures.core.legal (c.gather.ensures.core.legal c.requires.can.can.serves.legal)))
     (all_mapped (λ (l : LinkValue). l.mouth.child ≡ l.ear.child) (λ l. link_of l.ear l.mouth) (λ l. l.one_child) c.in-NoMemory.field-0.links.items) c.settle-in-NoMemory.ensures.laid c.settle-in-NoMemory.ensures.starts c.settle-in-NoMemory.ensures.later)
 
 pub returns-in-NoMemory-clause-room : goal.returns-in-NoMemory-clause-room
@@ -104,6 +104,6 @@ returns-in-NoRoom-clause-served g c =
     _ _ (map g.K.Desk.told c.args.bench.desks.items) c.args.wires.now.items c.finish.new.wires.items jobs (λ w. absurd w)
     (roomless_pool o c.len-jobs.result c.view-program.result.now c.args.bench.core.journal c.gather.new.core.journal (link_of c.args.link.ear c.args.link.mouth) link (g.P.Programs.told c.args.programs.now) (g.P.Programs.told c.gather.new.programs) c.requires.can c.in-NoRoom.ensures.gathers) c.requires.can c.requires.last_child
     (closes_alone link c.gather.new.core.journal new c.close_child.ensures.closes)
-    (subst (λ (w : Opening). Legal w new) (c.close_child.ensures.core.opening ∙ c.gather.ensures.core.opening) (c.close_child.ensures.core.legal (c.gather.ensures.core.legal c.requires.can.can.legal)))
+    (subst (λ (w : Opening). Legal w new) (c.close_child.ensures.core.opening ∙ c.gather.ensures.core.opening) (c.close_child.ensures.core.legal (c.gather.ensures.core.legal c.requires.can.can.serves.legal)))
     (all_mapped (λ (l : LinkValue). l.mouth.child ≡ l.ear.child) (λ l. link_of l.ear l.mouth) (λ l. l.one_child) (c.in-NoRoom.link ∷ []))
     (laid_alone link c.args.wires.now.items c.finish.new.wires.items c.finish.ensures.laid) c.finish.ensures.starts c.finish.ensures.later)

@@ -13,7 +13,7 @@ pub close_child-requires-clause-started : goal.close_child-requires-clause-start
 close_child-requires-clause-started g c =
     round_started c.args.bench.core.opening c.args.setup.now _ c.args.bench.core.journal c.round_tagged-core.result.core.journal (link_of c.round_tagged-core.result.link.ear c.round_tagged-core.result.link.mouth) _ _
     (by_done c.round_tagged-core.result.outcome c.in-Done.is c.round_tagged-core.ensures.round) c.round_tagged-core.result.link.ear.child
-    (subst (λ (k : ℕ). is_started c.args.bench.core.journal k ≡ true) (sym c.round_tagged-core.ensures.same.0.0) c.requires.can.can.started)
+    (subst (λ (k : ℕ). is_started c.args.bench.core.journal k ≡ true) (sym c.round_tagged-core.ensures.same.0.0) c.requires.can.can.serves.started)
 
 pub close_child-requires-clause-idle : goal.close_child-requires-clause-idle
 close_child-requires-clause-idle g c =

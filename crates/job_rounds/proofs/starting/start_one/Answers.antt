@@ -5,7 +5,7 @@ use Rattle.std.proofs.lemmas.List.{length-map}
 use Rattle.ann_outside.specs.Causes.{AddsOne}
 use Rattle.ann_outside.specs.Desks.{no_counts}
 use Rattle.journal_model.specs.declared.answer.Answer.{Answer}
-use Rattle.journal_model.specs.declared.answer.Answer.TheVariants.{Ended, StartFault, Unsent}
+use Rattle.journal_model.specs.declared.answer.Answer.TheVariants.{StartFault}
 use Rattle.journal_model.specs.declared.entry.What.TheVariants.{Start, NoStart}
 use Rattle.journal_model.specs.declared.opening.Opening.{Opening}
 use Rattle.journal_model.specs.Legality.{Legal}
@@ -15,7 +15,8 @@ use Rattle.lone_work.specs.KnownLayouts.{IsBook}
 use Rattle.lone_rounds.specs.Stints.{AnswersOne, TurnsAway, next_child}
 use Rattle.lone_rounds.proofs.Leaving.{starts_child, starts_none}
 use Rattle.lone_rounds.proofs.Stinting.{greeting_rests, greeting_started}
-use Rattle.lone_rounds.proofs.Unready.{away_stint, fault_rests, fault_stint, unready_ended, unready_refused, unready_unsent}
+use Rattle.lone_rounds.proofs.Meeting.{came_ready, came_some, came_unready}
+use Rattle.lone_rounds.proofs.Unready.{IsUnready, away_stint, fault_rests, fault_stint}
 use Rattle.job_rounds.specs.Servings.{FirstServed}
 use Rattle.job_rounds.specs.Starts.{OneJobStart}
 use Rattle.job_rounds.proofs.Firsts.{first_err, first_ok}
@@ -27,49 +28,40 @@ use Rattle.ann_key.proofs.Numbers.{ok_no_err}
 
 pub serve_child-bench-requires-clause-can : goal.serve_child-bench-requires-clause-can
 serve_child-bench-requires-clause-can g c = λ κs fresh.
-    can_be_served c.greet.new.core.opening c.args.bench.core.journal c.greet.new.core.journal c.args.offer c.in-Ready.link.ear.child c.in-Ready.ensures.tells.0
+    can_be_served c.greet.new.core.opening c.args.bench.core.journal c.greet.new.core.journal c.args.offer c.in-Child.link.ear.child c.in-Child.ensures.tells.0
     (subst (λ (w : Opening). Legal w c.args.bench.core.journal) (sym c.greet.ensures.core.opening) c.requires.legal) (c.greet.ensures.core.legal c.requires.legal)
-    c.in-Ready.link.ear c.in-Ready.link.mouth c.in-Ready.tagged refl c.in-Ready.ensures.tells.1 c.in-Ready.ensures.tells.2
-    (subst (λ (w : Opening). IsBook w.notes) c.opening.ensures c.know_book.ensures) c.requires.calm c.in-Ready.ensures.wired
+    c.in-Child.link.ear c.in-Child.link.mouth c.in-Some.tagged refl (came_ready c.greet.new.core.journal c.in-Child.link.ear.child c.in-Child.came c.in-Some.tagged (sym c.in-Some.ensures) c.in-Child.ensures.tells.1).0 (came_ready c.greet.new.core.journal c.in-Child.link.ear.child c.in-Child.came c.in-Some.tagged (sym c.in-Some.ensures) c.in-Child.ensures.tells.1).1
+    (subst (λ (w : Opening). IsBook w.notes) c.opening.ensures c.know_book.ensures) c.requires.calm c.in-Child.ensures.wired
 
 pub serve_child-bench-requires-clause-few : goal.serve_child-bench-requires-clause-few
 serve_child-bench-requires-clause-few g c = λ κs fresh. (
-    let one = greeted_count c.args.bench.core.opening c.args.bench.core.journal c.greet.new.core.journal c.args.offer c.in-Ready.link.ear.child c.in-Ready.ensures.tells.0 in
+    let one = greeted_count c.args.bench.core.opening c.args.bench.core.journal c.greet.new.core.journal c.args.offer c.in-Child.link.ear.child c.in-Child.ensures.tells.0 in
     let few = c.requires.few in
     omega (arith, one, few))
 
 pub serve_child-bench-requires-clause-pool : goal.serve_child-bench-requires-clause-pool
 serve_child-bench-requires-clause-pool g c = λ κs fresh plain.
-    greeted_pool c.args.bench.core.opening c.args.bench.core.journal c.greet.new.core.journal c.args.offer c.in-Ready.link.ear.child c.in-Ready.ensures.tells.0 c.in-Ready.ensures.tells.1 (sym c.in-Ready.ensures.tells.2 ∙ plain)
+    greeted_pool c.args.bench.core.opening c.args.bench.core.journal c.greet.new.core.journal c.args.offer c.in-Child.link.ear.child c.in-Child.ensures.tells.0 (came_ready c.greet.new.core.journal c.in-Child.link.ear.child c.in-Child.came c.in-Some.tagged (sym c.in-Some.ensures) c.in-Child.ensures.tells.1).0 (sym (came_ready c.greet.new.core.journal c.in-Child.link.ear.child c.in-Child.came c.in-Some.tagged (sym c.in-Some.ensures) c.in-Child.ensures.tells.1).1 ∙ plain)
 
 pub serve_child-bench-requires-clause-last : goal.serve_child-bench-requires-clause-last
-serve_child-bench-requires-clause-last g c = λ κs fresh. greeted_slot c.args.bench.core.opening c.args.bench.core.journal c.greet.new.core.journal c.args.offer c.in-Ready.link.ear.child c.in-Ready.ensures.tells.0
+serve_child-bench-requires-clause-last g c = λ κs fresh. greeted_slot c.args.bench.core.opening c.args.bench.core.journal c.greet.new.core.journal c.args.offer c.in-Child.link.ear.child c.in-Child.ensures.tells.0
 
 pub serve_child-bench-requires-clause-since : goal.serve_child-bench-requires-clause-since
-serve_child-bench-requires-clause-since g c = λ κs fresh. greeted_unclaimed c.args.bench.core.opening c.args.bench.core.journal c.greet.new.core.journal c.args.offer c.in-Ready.link.ear.child c.in-Ready.ensures.tells.0
+serve_child-bench-requires-clause-since g c = λ κs fresh. greeted_unclaimed c.args.bench.core.opening c.args.bench.core.journal c.greet.new.core.journal c.args.offer c.in-Child.link.ear.child c.in-Child.ensures.tells.0
 
 pub serve_child-bench-requires-clause-last_child : goal.serve_child-bench-requires-clause-last_child
 serve_child-bench-requires-clause-last_child g c = λ κs fresh. (
-    c.in-Ready.ensures.tells.0.next
-    ∙ sym (greeted_count c.args.bench.core.opening c.args.bench.core.journal c.greet.new.core.journal c.args.offer c.in-Ready.link.ear.child c.in-Ready.ensures.tells.0))
+    c.in-Child.ensures.tells.0.next
+    ∙ sym (greeted_count c.args.bench.core.opening c.args.bench.core.journal c.greet.new.core.journal c.args.offer c.in-Child.link.ear.child c.in-Child.ensures.tells.0))
 
 pub turn_away-requires-clause-rest : goal.turn_away-requires-clause-rest
-turn_away-requires-clause-rest g c = greeting_rests c.args.bench.core.journal c.greet.new.core.journal c.args.offer c.in-Refused.link.ear.child c.in-Refused.ensures.tells.0 c.requires.calm.idle
+turn_away-requires-clause-rest g c = greeting_rests c.args.bench.core.journal c.greet.new.core.journal c.args.offer c.in-Child.link.ear.child c.in-Child.ensures.tells.0 c.requires.calm.idle
 
 pub turn_away-requires-clause-started : goal.turn_away-requires-clause-started
-turn_away-requires-clause-started g c = greeting_started c.args.bench.core.journal c.greet.new.core.journal c.args.offer c.in-Refused.link.ear.child c.in-Refused.ensures.tells.0
+turn_away-requires-clause-started g c = greeting_started c.args.bench.core.journal c.greet.new.core.journal c.args.offer c.in-Child.link.ear.child c.in-Child.ensures.tells.0
 
-pub turn_away-requires-in-Ended-clause-rest : goal.turn_away-requires-in-Ended-clause-rest
-turn_away-requires-in-Ended-clause-rest g c = greeting_rests c.args.bench.core.journal c.greet.new.core.journal c.args.offer c.in-Ended.link.ear.child c.in-Ended.ensures.tells.0 c.requires.calm.idle
-
-pub turn_away-requires-in-Ended-clause-started : goal.turn_away-requires-in-Ended-clause-started
-turn_away-requires-in-Ended-clause-started g c = greeting_started c.args.bench.core.journal c.greet.new.core.journal c.args.offer c.in-Ended.link.ear.child c.in-Ended.ensures.tells.0
-
-pub turn_away-requires-in-Unsent-clause-rest : goal.turn_away-requires-in-Unsent-clause-rest
-turn_away-requires-in-Unsent-clause-rest g c = greeting_rests c.args.bench.core.journal c.greet.new.core.journal c.args.offer c.in-Unsent.link.ear.child c.in-Unsent.ensures.tells.0 c.requires.calm.idle
-
-pub turn_away-requires-in-Unsent-clause-started : goal.turn_away-requires-in-Unsent-clause-started
-turn_away-requires-in-Unsent-clause-started g c = greeting_started c.args.bench.core.journal c.greet.new.core.journal c.args.offer c.in-Unsent.link.ear.child c.in-Unsent.ensures.tells.0
+pub unready_answer-requires : goal.unready_answer-requires
+unready_answer-requires g c = came_some c.greet.new.core.journal c.in-Child.link.ear.child c.in-Child.came (sym c.in-None.ensures) c.in-Child.ensures.tells.1
 
 pub answer_one-requires-clause-rest : goal.answer_one-requires-clause-rest
 answer_one-requires-clause-rest g c =
@@ -89,12 +81,12 @@ returns-in-Ok-clause-starts g c =
     let wires : List WireValue = c.args.wires.now.items in
     let wires' : List WireValue = c.serve_child-bench.new.wires.items in
     let r = c.serve_child-bench.result.1 in
-    let served = subst (λ (w : Opening). FirstServed (IsErr r) w c.args.plan.now.setup c.args.plan.now.starts c.args.plan.now.program mid new desks desks' (is_ok r) c.in-Ready.link.ear c.in-Ready.link.mouth between after wires wires') c.greet.ensures.core.opening c.serve_child-bench.ensures.served in
-    let adds : AddsOne before.starts between.starts (c.args.plan.now.program, true) = subst (λ (p : List ℕ). AddsOne before.starts between.starts (p, true)) c.view-program.ensures c.in-Ready.ensures.starts in
+    let served = subst (λ (w : Opening). FirstServed (IsErr r) w c.args.plan.now.setup c.args.plan.now.starts c.args.plan.now.program mid new desks desks' (is_ok r) c.in-Child.link.ear c.in-Child.link.mouth between after wires wires') c.greet.ensures.core.opening c.serve_child-bench.ensures.served in
+    let adds : AddsOne before.starts between.starts (c.args.plan.now.program, true) = subst (λ (p : List ℕ). AddsOne before.starts between.starts (p, true)) c.view-program.ensures c.in-Child.ensures.starts in
     let legal' : Legal o mid = subst (λ (w : Opening). Legal w mid) c.greet.ensures.core.opening (c.greet.ensures.core.legal c.requires.legal) in
     subst (λ (next : Bool). OneJobStart o c.args.plan.now.setup c.args.plan.now.starts c.args.offer next true c.args.plan.now.program old new desks desks' before after wires wires') (sym c.is_offered.ensures)
-    (first_ok o c.args.plan.now.setup c.args.plan.now.starts c.args.offer c.in-Ready.tagged old mid new desks desks' (IsErr r) c.args.plan.now.program c.in-Ready.link.ear c.in-Ready.link.mouth before between after wires wires'
-    c.requires.legal c.requires.left c.in-Ready.ensures.tells.0 legal' c.in-Ready.ensures.tells.1 c.in-Ready.ensures.tells.2 adds c.in-Ready.ensures.later c.in-Ready.ensures.numbers (is_ok r) (ap is_ok c.in-Ok.is) (ok_no_err r _ c.in-Ok.is) served)
+    (first_ok o c.args.plan.now.setup c.args.plan.now.starts c.args.offer c.in-Some.tagged old mid new desks desks' (IsErr r) c.args.plan.now.program c.in-Child.link.ear c.in-Child.link.mouth before between after wires wires'
+    c.requires.legal c.requires.left c.in-Child.ensures.tells.0 legal' (came_ready c.greet.new.core.journal c.in-Child.link.ear.child c.in-Child.came c.in-Some.tagged (sym c.in-Some.ensures) c.in-Child.ensures.tells.1).0 (came_ready c.greet.new.core.journal c.in-Child.link.ear.child c.in-Child.came c.in-Some.tagged (sym c.in-Some.ensures) c.in-Child.ensures.tells.1).1 adds c.in-Child.ensures.later c.in-Child.ensures.numbers (is_ok r) (ap is_ok c.in-Ok.is) (ok_no_err r _ c.in-Ok.is) served)
 
 pub returns-in-Err-clause-starts : goal.returns-in-Err-clause-starts
 returns-in-Err-clause-starts g c =
@@ -110,83 +102,36 @@ returns-in-Err-clause-starts g c =
     let wires : List WireValue = c.args.wires.now.items in
     let wires' : List WireValue = c.serve_child-bench.new.wires.items in
     let r = c.serve_child-bench.result.1 in
-    let served = subst (λ (w : Opening). FirstServed (IsErr r) w c.args.plan.now.setup c.args.plan.now.starts c.args.plan.now.program mid new desks desks' (is_ok r) c.in-Ready.link.ear c.in-Ready.link.mouth between after wires wires') c.greet.ensures.core.opening c.serve_child-bench.ensures.served in
-    let adds : AddsOne before.starts between.starts (c.args.plan.now.program, true) = subst (λ (p : List ℕ). AddsOne before.starts between.starts (p, true)) c.view-program.ensures c.in-Ready.ensures.starts in
+    let served = subst (λ (w : Opening). FirstServed (IsErr r) w c.args.plan.now.setup c.args.plan.now.starts c.args.plan.now.program mid new desks desks' (is_ok r) c.in-Child.link.ear c.in-Child.link.mouth between after wires wires') c.greet.ensures.core.opening c.serve_child-bench.ensures.served in
+    let adds : AddsOne before.starts between.starts (c.args.plan.now.program, true) = subst (λ (p : List ℕ). AddsOne before.starts between.starts (p, true)) c.view-program.ensures c.in-Child.ensures.starts in
     let legal' : Legal o mid = subst (λ (w : Opening). Legal w mid) c.greet.ensures.core.opening (c.greet.ensures.core.legal c.requires.legal) in
-    first_err o c.args.plan.now.setup c.args.plan.now.starts c.args.offer c.in-Ready.tagged old mid new desks desks' (IsErr r) c.args.plan.now.program c.in-Ready.link.ear c.in-Ready.link.mouth before between after wires wires'
-    c.requires.legal c.requires.left c.in-Ready.ensures.tells.0 legal' c.in-Ready.ensures.tells.1 c.in-Ready.ensures.tells.2 adds c.in-Ready.ensures.later c.in-Ready.ensures.numbers (is_ok r) (ap is_ok c.in-Err.is) served
+    first_err o c.args.plan.now.setup c.args.plan.now.starts c.args.offer c.in-Some.tagged old mid new desks desks' (IsErr r) c.args.plan.now.program c.in-Child.link.ear c.in-Child.link.mouth before between after wires wires'
+    c.requires.legal c.requires.left c.in-Child.ensures.tells.0 legal' (came_ready c.greet.new.core.journal c.in-Child.link.ear.child c.in-Child.came c.in-Some.tagged (sym c.in-Some.ensures) c.in-Child.ensures.tells.1).0 (came_ready c.greet.new.core.journal c.in-Child.link.ear.child c.in-Child.came c.in-Some.tagged (sym c.in-Some.ensures) c.in-Child.ensures.tells.1).1 adds c.in-Child.ensures.later c.in-Child.ensures.numbers (is_ok r) (ap is_ok c.in-Err.is) served
 
-pub returns-in-Refused-clause-starts : goal.returns-in-Refused-clause-starts
-returns-in-Refused-clause-starts g c =
+pub returns-in-None-clause-starts : goal.returns-in-None-clause-starts
+returns-in-None-clause-starts g c =
     let o = c.args.bench.core.opening in
     let old = c.args.bench.core.journal in
     let mid = c.greet.new.core.journal in
     let new = c.turn_away.new.core.journal in
-    let child = c.in-Refused.link.ear.child in
-    let answer : Answer = c.not_prepared-answer.result in
+    let child = c.in-Child.link.ear.child in
+    let answer : Answer = c.unready_answer.result in
     let desks : List DeskTold = map g.K.Desk.told c.args.bench.desks.items in
     let away : TurnsAway o child mid new answer = subst (λ (w : Opening). TurnsAway w child mid new answer) c.greet.ensures.core.opening c.turn_away.ensures.away in
     let some : 0 < length desks = subst (λ (n : ℕ). 0 < n) (sym (length-map c.args.bench.desks.items _ ∙ sym c.args.bench.desks.ok.0)) c.requires.desks.0 in
-    let quiet = away_quiet o c.args.offer old mid new child answer c.in-Refused.ensures.tells.1.undone c.in-Refused.ensures.tells.0 away in
+    let unready : IsUnready mid child answer = came_unready mid child c.in-Child.came answer c.in-Child.ensures.tells.1 c.unready_answer.ensures in
+    let quiet = away_quiet o c.args.offer old mid new child answer unready.undone c.in-Child.ensures.tells.0 away in
     job_start quiet.more quiet.is
     (one_all quiet.more (quiet_none quiet)
     (starts_child c.args.plan.now.program new child c.args.offer (g.P.Programs.told c.args.programs.now) (g.P.Programs.told c.greet.new.programs).starts
     (g.P.Programs.told c.finish.new.programs) (g.P.Programs.told c.greet.new.programs).faults
-    c.in-Refused.link.ear c.in-Refused.link.mouth _ _ (subst (λ (p : List ℕ). AddsOne (g.P.Programs.told c.args.programs.now).starts (g.P.Programs.told c.greet.new.programs).starts (p, true)) c.view-program.ensures c.in-Refused.ensures.starts)
-    c.finish.ensures.starts c.in-Refused.ensures.later c.finish.ensures.later c.in-Refused.ensures.numbers refl c.in-Refused.link.one_child
-    (lone_held new c.in-Refused.link.ear c.in-Refused.link.mouth (c.turn_away.ensures.wired c.in-Refused.ensures.wired)) c.finish.ensures.laid))
+    c.in-Child.link.ear c.in-Child.link.mouth _ _ (subst (λ (p : List ℕ). AddsOne (g.P.Programs.told c.args.programs.now).starts (g.P.Programs.told c.greet.new.programs).starts (p, true)) c.view-program.ensures c.in-Child.ensures.starts)
+    c.finish.ensures.starts c.in-Child.ensures.later c.finish.ensures.later c.in-Child.ensures.numbers refl c.in-Child.link.one_child
+    (lone_held new c.in-Child.link.ear c.in-Child.link.mouth (c.turn_away.ensures.wired c.in-Child.ensures.wired)) c.finish.ensures.laid))
     (stint_any o c.args.plan.now.setup c.args.plan.now.starts c.args.offer c.args.offer (Start child 0 c.args.offer) old new desks some
-    (λ d. away_stint o c.args.plan.now.setup (more_than new) c.args.offer old mid new child answer d c.requires.left c.requires.calm.idle c.in-Refused.ensures.tells.0 (unready_refused mid child c.in-Refused.verdict answer c.in-Refused.ensures.tells.1 c.not_prepared-answer.ensures) away)
+    (λ d. away_stint o c.args.plan.now.setup (more_than new) c.args.offer old mid new child answer d c.requires.left c.requires.calm.idle c.in-Child.ensures.tells.0 unready away)
     true quiet
-    (λ shut. away_idle o child (next_child old) mid new answer c.in-Refused.ensures.tells.0.next c.in-Refused.ensures.tells.0.idle away))
-
-pub returns-in-Ended-clause-starts : goal.returns-in-Ended-clause-starts
-returns-in-Ended-clause-starts g c =
-    let o = c.args.bench.core.opening in
-    let old = c.args.bench.core.journal in
-    let mid = c.greet.new.core.journal in
-    let new = c.turn_away-in-Ended.new.core.journal in
-    let child = c.in-Ended.link.ear.child in
-    let answer : Answer = Ended c.in-Ended.why in
-    let desks : List DeskTold = map g.K.Desk.told c.args.bench.desks.items in
-    let away : TurnsAway o child mid new answer = subst (λ (w : Opening). TurnsAway w child mid new answer) c.greet.ensures.core.opening c.turn_away-in-Ended.ensures.away in
-    let some : 0 < length desks = subst (λ (n : ℕ). 0 < n) (sym (length-map c.args.bench.desks.items _ ∙ sym c.args.bench.desks.ok.0)) c.requires.desks.0 in
-    let quiet = away_quiet o c.args.offer old mid new child answer c.in-Ended.ensures.tells.1.undone c.in-Ended.ensures.tells.0 away in
-    job_start quiet.more quiet.is
-    (one_all quiet.more (quiet_none quiet)
-    (starts_child c.args.plan.now.program new child c.args.offer (g.P.Programs.told c.args.programs.now) (g.P.Programs.told c.greet.new.programs).starts
-    (g.P.Programs.told c.finish-in-Ended.new.programs) (g.P.Programs.told c.greet.new.programs).faults
-    c.in-Ended.link.ear c.in-Ended.link.mouth _ _ (subst (λ (p : List ℕ). AddsOne (g.P.Programs.told c.args.programs.now).starts (g.P.Programs.told c.greet.new.programs).starts (p, true)) c.view-program.ensures c.in-Ended.ensures.starts)
-    c.finish-in-Ended.ensures.starts c.in-Ended.ensures.later c.finish-in-Ended.ensures.later c.in-Ended.ensures.numbers refl c.in-Ended.link.one_child
-    (lone_held new c.in-Ended.link.ear c.in-Ended.link.mouth (c.turn_away-in-Ended.ensures.wired c.in-Ended.ensures.wired)) c.finish-in-Ended.ensures.laid))
-    (stint_any o c.args.plan.now.setup c.args.plan.now.starts c.args.offer c.args.offer (Start child 0 c.args.offer) old new desks some
-    (λ d. away_stint o c.args.plan.now.setup (more_than new) c.args.offer old mid new child answer d c.requires.left c.requires.calm.idle c.in-Ended.ensures.tells.0 (unready_ended mid child c.in-Ended.why c.in-Ended.ensures.tells.1) away)
-    true quiet
-    (λ shut. away_idle o child (next_child old) mid new answer c.in-Ended.ensures.tells.0.next c.in-Ended.ensures.tells.0.idle away))
-
-pub returns-in-Unsent-clause-starts : goal.returns-in-Unsent-clause-starts
-returns-in-Unsent-clause-starts g c =
-    let o = c.args.bench.core.opening in
-    let old = c.args.bench.core.journal in
-    let mid = c.greet.new.core.journal in
-    let new = c.turn_away-in-Unsent.new.core.journal in
-    let child = c.in-Unsent.link.ear.child in
-    let answer : Answer = Unsent in
-    let desks : List DeskTold = map g.K.Desk.told c.args.bench.desks.items in
-    let away : TurnsAway o child mid new answer = subst (λ (w : Opening). TurnsAway w child mid new answer) c.greet.ensures.core.opening c.turn_away-in-Unsent.ensures.away in
-    let some : 0 < length desks = subst (λ (n : ℕ). 0 < n) (sym (length-map c.args.bench.desks.items _ ∙ sym c.args.bench.desks.ok.0)) c.requires.desks.0 in
-    let quiet = away_quiet o c.args.offer old mid new child answer c.in-Unsent.ensures.tells.1.undone c.in-Unsent.ensures.tells.0 away in
-    job_start quiet.more quiet.is
-    (one_all quiet.more (quiet_none quiet)
-    (starts_child c.args.plan.now.program new child c.args.offer (g.P.Programs.told c.args.programs.now) (g.P.Programs.told c.greet.new.programs).starts
-    (g.P.Programs.told c.finish-in-Unsent.new.programs) (g.P.Programs.told c.greet.new.programs).faults
-    c.in-Unsent.link.ear c.in-Unsent.link.mouth _ _ (subst (λ (p : List ℕ). AddsOne (g.P.Programs.told c.args.programs.now).starts (g.P.Programs.told c.greet.new.programs).starts (p, true)) c.view-program.ensures c.in-Unsent.ensures.starts)
-    c.finish-in-Unsent.ensures.starts c.in-Unsent.ensures.later c.finish-in-Unsent.ensures.later c.in-Unsent.ensures.numbers refl c.in-Unsent.link.one_child
-    (lone_held new c.in-Unsent.link.ear c.in-Unsent.link.mouth (c.turn_away-in-Unsent.ensures.wired c.in-Unsent.ensures.wired)) c.finish-in-Unsent.ensures.laid))
-    (stint_any o c.args.plan.now.setup c.args.plan.now.starts c.args.offer c.args.offer (Start child 0 c.args.offer) old new desks some
-    (λ d. away_stint o c.args.plan.now.setup (more_than new) c.args.offer old mid new child answer d c.requires.left c.requires.calm.idle c.in-Unsent.ensures.tells.0 (unready_unsent mid child c.in-Unsent.ensures.tells.1) away)
-    true quiet
-    (λ shut. away_idle o child (next_child old) mid new answer c.in-Unsent.ensures.tells.0.next c.in-Unsent.ensures.tells.0.idle away))
+    (λ shut. away_idle o child (next_child old) mid new answer c.in-Child.ensures.tells.0.next c.in-Child.ensures.tells.0.idle away))
 
 pub returns-in-StartFault-clause-starts : goal.returns-in-StartFault-clause-starts
 returns-in-StartFault-clause-starts g c =

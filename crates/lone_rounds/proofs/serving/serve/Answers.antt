@@ -8,7 +8,7 @@ use Rattle.lone_rounds.proofs.serving.serve.Goals as goal
 pub close_child-requires-clause-idle : goal.close_child-requires-clause-idle
 close_child-requires-clause-idle g c =
     ap (λ (k : ℕ). may_stop c.work_over.new.core.journal k Closed) c.work_over.ensures.link.same_ear.0
-    ∙ may_close c.work_over.new.core.journal c.args.link.now.ear.child c.work_over.ensures.can.idle c.work_over.ensures.can.rest
+    ∙ may_close c.work_over.new.core.journal c.args.link.now.ear.child c.work_over.ensures.can.rests.idle c.work_over.ensures.can.rests.rest
 
 pub returns-clause-serves : goal.returns-clause-serves
 returns-clause-serves g c = record {

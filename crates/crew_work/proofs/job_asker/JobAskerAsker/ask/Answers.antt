@@ -2,7 +2,7 @@ use Rattle.std.proofs.Common.{ℕ, sym, subst, refl}
 use Rattle.talk_serial.specs.Requests.{message_of, name_of}
 use Rattle.lone_work.specs.AtTasks.{AtTask}
 use Rattle.lone_work.proofs.Knowing.{known_asked}
-use Rattle.crew_work.proofs.Doing.{jobs_within}
+use Rattle.lone_work.proofs.Doing.{jobs_within}
 use Rattle.crew_work.proofs.Asking.{jobs_on_asked}
 use Rattle.crew_work.proofs.job_asker.JobAskerAsker.ask.Goals as goal
 

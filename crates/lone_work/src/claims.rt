@@ -1,8 +1,8 @@
 // The events of a worker: a claim, and an answer.
 ghost use Rattle.std.specs.Prelude.{◌≡◌};
-ghost use Rattle.link_roles.specs.Doors.{IsSameDoor};
+ghost use Rattle.link_roles.specs.Doors.{Between, IsSameDoor};
 ghost use Rattle.lone_work.specs.AtTasks.{AtTask};
-ghost use Rattle.crew_work.specs.Crews.{CanServe, Given, HasClaimed, claimed_of};
+ghost use Rattle.lone_work.specs.Works.{CanClaim, Given, HasClaimed, claimed_of};
 
 use ann_key::NoMemory;
 use host_core::{Event, Reply};
@@ -31,8 +31,8 @@ fn claimed_of(reply: Reply) -> Claimed
 
 /// Claims the next task for the child, for the turn of it that comes next.
 pub(crate) fn claim<D: Door>(door: &mut D, child: u32) -> Claimed
-    requires { CanServe (D.view door.old).opening child (D.view door.old).seen }
-    ensures claims { HasClaimed (D.view door.old).opening (D.view door.old).number (D.view door.old).alone child (D.view door.old).seen (D.view door.new).seen result }
+    requires { CanClaim (D.view door.old) child }
+    ensures claims { Between HasClaimed (D.view door.old) (D.view door.new) child result }
     ensures door { IsSameDoor (D.view door.old) (D.view door.new) }
 {
     match door.step(Event::Claim { child }) {
@@ -44,7 +44,7 @@ pub(crate) fn claim<D: Door>(door: &mut D, child: u32) -> Claimed
 /// Gives the answer of a task that the door's number holds, which may be run again in its place.
 pub(crate) fn give<D: Door>(door: &mut D, task: u32, answer: Answer)
     requires { AtTask (D.view door.old).opening (D.view door.old).number task (D.view door.old).seen }
-    ensures given { Given (D.view door.old).opening (D.view door.old).number (D.view door.old).alone task answer (D.view door.old).seen (D.view door.new).seen }
+    ensures given { Between Given (D.view door.old) (D.view door.new) task answer }
     ensures door { IsSameDoor (D.view door.old) (D.view door.new) }
 {
     let _done = door.step(Event::Answer { task, answer });

@@ -6,24 +6,22 @@ use Rattle.journal_model.specs.declared.entry.What.{What}
 use Rattle.journal_model.specs.declared.entry.What.TheVariants.{Lead, Ask, Lost, Note}
 use Rattle.journal_model.specs.declared.entry.Entry.{Entry}
 use Rattle.journal_model.specs.Journal.{any}
-use Rattle.journal_model.specs.Shares.{Moved, are_by, are_own, by_link, is_of_child, makes_only}
+use Rattle.journal_model.specs.Shares.{Moved, are_by, are_own, is_of_child, makes_only}
 use Rattle.journal_model.proofs.Looks.{any-append, entry}
 use Rattle.journal_model.proofs.Testing.{all-join, all-split, only_others as others_make}
 use Rattle.link_roles.specs.Asks.{never}
 use Rattle.link_roles.specs.Doors.{Passed}
 use Rattle.link_roles.proofs.Roles.{others_none}
-use Rattle.lone_work.specs.Servings.{by_server}
-use Rattle.gathering.specs.Posts.{makes, works}
+use Rattle.lone_work.specs.Servings.{by_jobs, by_server}
+use Rattle.lone_work.specs.Works.{Did, by_task, by_worker}
 use Rattle.gathering.specs.Tasks.{claimed_turn, turns_by}
 use Rattle.gathering.proofs.Turning.{turns_by-append}
 use Rattle.journal_model.proofs.Unbounded.{Within}
 use Rattle.lone_work.proofs.Serving.{server_within, wider as wider_made}
-use Rattle.lone_work.proofs.Working.{turns_by-none, server_claims_none as server_claims}
-use Rattle.crew_work.specs.Crews.{Did, by_task, post_of}
-use Rattle.crew_work.specs.Jobs.{by_jobs}
-use Rattle.std.proofs.lemmas.Bool.{and_parts as both}
+use Rattle.lone_work.proofs.Working.{server_claims_none as server_claims, server_works, turns_by-none}
+use Rattle.std.proofs.lemmas.Bool.{and_parts as both, eqb-true as same_number}
 use Rattle.ann_key.proofs.Numbers.{same_number as same}
-use Rattle.ann_key.proofs.Booleans.{or_left, or_right, or_neither as neither}
+use Rattle.ann_key.proofs.Booleans.{or_neither as neither}
 
 -- ---- the kinds
 
@@ -43,29 +41,23 @@ pub task_serves : (owns : Bool) (c t : ℕ) (w : What) → by_task owns c t w �
 task_serves true c t w h = h
 task_serves false c t w h = jobs_serve c t w h
 
--- what is made for a task is what the worker's post makes
-server_posted : (c t : ℕ) (w : What) → by_server c t w ≡ true → (by_link c w || works c w) ≡ true
-server_posted c t (Lead child job line) h = h
-server_posted c t (Ask child job task line) h = (both (child == c) (task == t) h).0
-server_posted c t (Lost child task) h = (both (child == c) (task == t) h).0
-server_posted c t (Note task chunk count) h = refl
-server_posted c t w h = or_left (by_link c w) (works c w) h
+-- who serves a task that is one works
+jobs_work : (c t : ℕ) → (t == 0) ≡ false → (w : What) → by_jobs c t w ≡ true → by_worker false c w ≡ true
+jobs_work c t some (Lead child job line) h = h
+jobs_work c t some (Ask child job task line) h =
+    let s = both (child == c) (task == t) h in
+    let e : (task == 0) ≡ false = ap (λ (k : ℕ). k == 0) (same_number task t s.1) ∙ some in
+    rw (s.0, e) refl
+jobs_work c t some (Lost child task) h =
+    let s = both (child == c) (task == t) h in
+    let e : (task == 0) ≡ false = ap (λ (k : ℕ). k == 0) (same_number task t s.1) ∙ some in
+    rw (s.0, e) refl
+jobs_work c t some (Note task chunk count) h = refl
+jobs_work c t some w h = absurd cc
 
-jobs_posted : (c t : ℕ) (w : What) → by_jobs c t w ≡ true → works c w ≡ true
-jobs_posted c t (Lead child job line) h = h
-jobs_posted c t (Ask child job task line) h = (both (child == c) (task == t) h).0
-jobs_posted c t (Lost child task) h = (both (child == c) (task == t) h).0
-jobs_posted c t (Note task chunk count) h = refl
-jobs_posted c t w h = absurd cc
-
-task_posted : (owns : Bool) (c t : ℕ) (w : What) → by_task owns c t w ≡ true → makes (post_of owns c) w ≡ true
-task_posted true c t w h = server_posted c t w h
-task_posted false c t w h = jobs_posted c t w h
-
--- and what a worker makes its post makes
-pub works_posted : (owns : Bool) (c : ℕ) (w : What) → works c w ≡ true → makes (post_of owns c) w ≡ true
-works_posted true c w h = or_right (by_link c w) (works c w) h
-works_posted false c w h = h
+task_works : (owns : Bool) (c t : ℕ) → (t == 0) ≡ false → (w : What) → by_task owns c t w ≡ true → by_worker owns c w ≡ true
+task_works true c t some w h = server_works c t some w h
+task_works false c t some w h = jobs_work c t some w h
 
 -- ---- what one number made of a list
 
@@ -87,7 +79,7 @@ module _ {owns : Bool} {n : ℕ} {a : Bool} {c : ℕ} where
     moved = record {
       more = s.moved.more ++ k.moved.more;
       is = k.moved.is ∙ ap (λ (l : List Entry). l ++ k.moved.more) s.moved.is ∙ append_assoc x s.moved.more k.moved.more;
-      own = all-join (λ (e : Entry). not (e.by == n) || makes (post_of owns c) e.what) s.moved.more k.moved.more s.moved.own k.moved.own;
+      own = all-join (λ (e : Entry). not (e.by == n) || by_worker owns c e.what) s.moved.more k.moved.more s.moved.own k.moved.own;
       lone = λ h. all-join (λ (e : Entry). e.by == n) s.moved.more k.moved.more (s.moved.lone h) (k.moved.lone h);
       kept = λ h p. k.moved.kept (all-split (λ (e : Entry). not (is_of_child c e.what) || e.by == n) s.moved.more k.moved.more h).1
           (s.moved.kept (all-split (λ (e : Entry). not (is_of_child c e.what) || e.by == n) s.moved.more k.moved.more h).0 p);
@@ -98,9 +90,9 @@ module _ {owns : Bool} {n : ℕ} {a : Bool} {c : ℕ} where
   }
 
   -- what it made for a task claims nothing
-  pub did_run : {x y : List Entry} {P Q : Type 0} (t : ℕ) → Moved n a (by_task owns c t) (is_of_child c) x y P Q → Did owns n a c x y P Q []
-  did_run {x} t s = record {
-    moved = record { more = s.more; is = s.is; own = wider_made (by_task owns c t) (makes (post_of owns c)) (task_posted owns c t) n s.more s.own; lone = s.lone; kept = s.kept };
+  pub did_run : {x y : List Entry} {P Q : Type 0} (t : ℕ) → (t == 0) ≡ false → Moved n a (by_task owns c t) (is_of_child c) x y P Q → Did owns n a c x y P Q []
+  did_run {x} t some s = record {
+    moved = record { more = s.more; is = s.is; own = wider_made (by_task owns c t) (by_worker owns c) (task_works owns c t some) n s.more s.own; lone = s.lone; kept = s.kept };
     claimed = turns_by-none (by_task owns c t) (λ past w h. server_claims c t past w (task_serves owns c t w h)) n x s.more s.own;
   }
 
@@ -110,7 +102,7 @@ module _ {owns : Bool} {n : ℕ} {a : Bool} {c : ℕ} where
       moved = record {
         more = s.others;
         is = s.is;
-        own = others_make (makes (post_of owns c)) n s.others s.apart;
+        own = others_make (by_worker owns c) n s.others s.apart;
         lone = λ h. subst (λ (l : List Entry). are_by n l ≡ true) (sym (s.none h)) refl;
         kept = λ h p. subst X (sym s.is) (stays x s.others (others_none (is_of_child c) n s.others s.apart h) p);
       };
@@ -118,14 +110,14 @@ module _ {owns : Bool} {n : ℕ} {a : Bool} {c : ℕ} where
     }
 
     -- after others, an entry that a worker makes, and that isn't the child's
-    pub did_make : {x p y : List Entry} (w : What) → Passed n a x p → y ≡ p ++ entry n w ∷ [] → works c w ≡ true → is_of_child c w ≡ false
+    pub did_make : {x p y : List Entry} (w : What) → Passed n a x p → y ≡ p ++ entry n w ∷ [] → by_worker owns c w ≡ true → is_of_child c w ≡ false
         → Did owns n a c x y (X x) (X y) (cons_option (claimed_turn p w) [])
     did_make {x} {p} {y} w s is works_so apart = record {
       moved = record {
         more = s.others ++ one;
         is = whole;
-        own = all-join (λ (e : Entry). not (e.by == n) || makes (post_of owns c) e.what) s.others one (others_make (makes (post_of owns c)) n s.others s.apart)
-            (rw (works_posted owns c w works_so, same n) refl);
+        own = all-join (λ (e : Entry). not (e.by == n) || by_worker owns c e.what) s.others one (others_make (by_worker owns c) n s.others s.apart)
+            (rw (works_so, same n) refl);
         lone = λ h. subst (λ (l : List Entry). are_by n (l ++ one) ≡ true) (sym (s.none h)) (rw (same n) refl);
         kept = λ h q. subst X (sym whole) (stays x (s.others ++ one) (none h) q);
       };
