@@ -1,10 +1,11 @@
 -- What a child that was greeted came to, and what is done with it.
 use Rattle.ann_outside.specs.Told.{DeskTold}
 use Rattle.std.proofs.Common.{◌≡◌, ℕ, List, refl, sym, subst, ◌∙◌, Bool, true, false, Some, None, Option}
-use Rattle.std.specs.Prelude.{◌&&◌, is_some}
+use Rattle.std.specs.Prelude.{◌&&◌, is_some, option_map}
 use Rattle.std.proofs.lemmas.Option.{same_Some as same_some}
+use Rattle.journal_model.specs.declared.verdict.Verdict.{Verdict}
 use Rattle.journal_model.specs.declared.answer.Answer.{Answer}
-use Rattle.journal_model.specs.declared.answer.Answer.TheVariants.{Ended as EndedAnswer, Unsent as UnsentAnswer}
+use Rattle.journal_model.specs.declared.answer.Answer.TheVariants.{Ended as EndedAnswer, NotPrepared, Unsent as UnsentAnswer}
 use Rattle.journal_model.specs.declared.entry.What.TheVariants.{Start}
 use Rattle.journal_model.specs.declared.entry.Entry.{Entry}
 use Rattle.journal_model.specs.declared.opening.Opening.{Opening}
@@ -12,10 +13,11 @@ use Rattle.journal_model.specs.Journal.{is_tagged}
 use Rattle.journal_model.specs.Legality.{Legal, is_busy}
 use Rattle.host_core.specs.Steps.{are_all_claimed}
 use Rattle.task_run.specs.declared.setup.Setup.{Setup}
+use Rattle.task_run.specs.TaskRuns.{refused_at}
 use Rattle.child_start.specs.declared.greeting.Came.{Came}
 use Rattle.child_start.specs.declared.greeting.Came.TheVariants.{Ready, Refused, Ended, Unsent}
 use Rattle.child_start.specs.declared.greeting.Mode.TheVariants.{Serve}
-use Rattle.child_start.specs.Greetings.{CameTo, Greeted, IsReady}
+use Rattle.child_start.specs.Greetings.{CameTo, Greeted, IsReady, IsRefused}
 use Rattle.lone_work.specs.KnownLayouts.{IsBook}
 use Rattle.lone_work.specs.Works.{CanWork}
 use Rattle.lone_rounds.specs.Stints.{CanMeet, HasServed, IsIdle, Meets, Stint, TurnsAway, came_answer, tagged_of}
@@ -57,10 +59,18 @@ came_ready g c (Refused v) tagged e h = absurd cc
 came_ready g c (Ended why) tagged e h = absurd cc
 came_ready g c Unsent tagged e h = absurd cc
 
--- and one that isn't
+-- one that refused has its answer
+refused_has : (g : List Entry) (c : ℕ) (v : Verdict) → IsRefused g c v → is_some (came_answer (Refused v)) ≡ true
+refused_has g c v h = go (refused_at v) (refused_some g c v h)
+  where
+    go : (at : Option ℕ) → is_some at ≡ true → is_some (option_map NotPrepared at) ≡ true
+    go None e = absurd cc
+    go (Some at) e = refl
+
+-- and so has each that isn't ready
 pub came_some : (g : List Entry) (c : ℕ) (came : Came) → tagged_of came ≡ None → CameTo Serve g c came → is_some (came_answer came) ≡ true
 came_some g c (Ready t) e h = absurd cc
-came_some g c (Refused v) e h = refused_some g c v h
+came_some g c (Refused v) e h = refused_has g c v h
 came_some g c (Ended why) e h = refl
 came_some g c Unsent e h = refl
 
@@ -79,7 +89,7 @@ module _ (o : Opening) (old g : List Entry) (offer : Bool) (c : ℕ) (greeted : 
 
   pub can_meet : IsBook o.notes → (came : Came) → CameTo Serve g c came → CanMeet o c g came
   can_meet book (Ready t) h = greeting_works old g offer c greeted o legal h.0 book rest
-  can_meet book (Refused v) h = (greeted_idle, refused_some g c v h)
+  can_meet book (Refused v) h = (greeted_idle, refused_has g c v h)
   can_meet book (Ended why) h = (greeted_idle, refl)
   can_meet book Unsent h = (greeted_idle, refl)
 

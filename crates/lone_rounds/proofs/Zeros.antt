@@ -24,11 +24,10 @@ use Rattle.host_core.specs.declared.event.Reply.{Reply}
 use Rattle.host_core.specs.declared.event.Reply.TheVariants.{NoTask}
 use Rattle.host_core.specs.Steps.{Step, are_all_claimed, claim, closing as closing_of, may_answer, only, step_of}
 use Rattle.task_run.specs.declared.turn.TaskTurn.{TaskTurn}
-use Rattle.lone_work.specs.Works.{task_in}
 use Rattle.lone_work.proofs.Claiming.{claimed_all}
 use Rattle.lone_work.proofs.Working.{fewer_left}
 use Rattle.lone_rounds.specs.Rounds.{again_of, ends_for_memory, last_again, left_answer, or_unserved, unserved_answer}
-use Rattle.lone_rounds.specs.Stints.{AnswersLeft, AnswersOne, ClaimsZero, answered_so, main_entry}
+use Rattle.lone_rounds.specs.Stints.{AnswersLeft, AnswersOne, ClaimsZero, answered_so, main_entry, task_in}
 use Rattle.std.proofs.lemmas.Bool.{and_parts as both}
 use Rattle.ann_key.proofs.Numbers.{same_number as same}
 use Rattle.ann_key.proofs.Booleans.{or_false, or_true}

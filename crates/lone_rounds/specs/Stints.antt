@@ -16,6 +16,8 @@ use Rattle.journal_model.specs.Journal.{any, is_ended, is_started}
 use Rattle.journal_model.specs.Legality.{Legal, count, is_busy, is_start, least_free, turn_of_task}
 use Rattle.journal_model.specs.Shares.{are_by}
 use Rattle.journal_model.specs.Halves.{EarValue, MouthValue}
+use Rattle.host_core.specs.declared.event.Reply.{Reply}
+use Rattle.host_core.specs.declared.event.Reply.TheVariants.{Task as TaskReply}
 use Rattle.host_core.specs.Steps.{are_all_claimed}
 use Rattle.link_roles.specs.Alone.{Closes}
 use Rattle.gathering.specs.Tasks.{IsThrough, turns_by}
@@ -36,6 +38,11 @@ abbrev pub main_entry : What → Entry
 main_entry w = record { by = 0; what = w }
 
 -- ---- a task that is claimed without a child
+
+-- the task that the core claimed, and the turn of it that begins
+abbrev pub task_in : Reply → Option TaskTurn
+task_in (TaskReply task turn) = Some (record { task = task; turn = turn })
+task_in reply = None
 
 -- the least free task was claimed so; or nothing was done, and all are claimed
 abbrev pub ClaimsZero : Opening → List Entry → List Entry → Option TaskTurn → Type 0

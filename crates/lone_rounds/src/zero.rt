@@ -4,9 +4,8 @@ ghost use Rattle.journal_model.specs.declared.entry.What.TheVariants.{Answer as 
 ghost use Rattle.journal_model.specs.Legality.{Legal, holder, is_busy, is_held_over_child, turn_of_task};
 ghost use Rattle.host_core.specs.Steps.{may_answer};
 ghost use Rattle.child_start.specs.Cores.{IsSameCore};
-ghost use Rattle.lone_work.specs.Works.{task_in};
 ghost use Rattle.lone_rounds.specs.Rounds.{left_answer, unserved_answer};
-ghost use Rattle.lone_rounds.specs.Stints.{AnswersLeft, AnswersOne, ClaimsZero, main_entry};
+ghost use Rattle.lone_rounds.specs.Stints.{AnswersLeft, AnswersOne, ClaimsZero, main_entry, task_in};
 
 use crate::renewed::last_again;
 use crate::starved::is_starved;
