@@ -348,22 +348,22 @@ pub alone_only : {o : Opening} {setup : Setup} {owns : Bool} {n : ℕ} {a : Bool
 alone_only {owns = owns} {n = n} {c = c} w lone = all_made (by_worker owns c) (by_worker owns c) (λ z h. h) n w.did.moved.more w.did.moved.own (w.did.moved.lone lone)
 
 -- it is so whatever is known of its link
-pub alone_worked : {o : Opening} {setup : Setup} {n : ℕ} {c : ℕ} {x y : List Entry} {P Q : Type 0} {d e : DeskTold} → Worked o setup true n true c x y P Q d e → WorkedAlone o setup n c x y d e
-alone_worked w = record {
+pub alone_worked : {o : Opening} {setup : Setup} {n : ℕ} {a : Bool} {c : ℕ} {x y : List Entry} {P Q : Type 0} {d e : DeskTold} → a ≡ true → Worked o setup true n a c x y P Q d e → WorkedAlone o setup n c x y d e
+alone_worked {n = n} lone w = record {
   done = w.done;
-  did = record { moved = record { more = w.did.moved.more; is = w.did.moved.is; own = w.did.moved.own; lone = w.did.moved.lone; kept = λ h u. u }; claimed = w.did.claimed };
+  did = record { moved = record { more = w.did.moved.more; is = w.did.moved.is; own = w.did.moved.own; lone = λ h. w.did.moved.lone lone; kept = λ h u. u }; claimed = w.did.claimed };
   rests = w.rests;
   ran = w.ran;
   log_is = w.log_is;
   caused = w.caused;
-  last = w.last;
+  last = λ h. w.last lone;
 }
 
 -- the link stays wired
-pub alone_keeps : {o : Opening} {setup : Setup} {n : ℕ} {c : ℕ} {x y : List Entry} {d d' : DeskTold} (e f : EarValue) (m v : MouthValue) → IsSameLink e f m v
-    → Worked o setup true n true c x y (LoneWired x e m) (LoneWired y f v) d d' → KeepsLink x y e f m v
-alone_keeps {n = n} {c = c} e f m v same w = record {
-  wired = λ before. w.did.moved.kept (by_own (is_of_child c) n w.did.moved.more (w.did.moved.lone refl)) before;
+pub alone_keeps : {o : Opening} {setup : Setup} {n : ℕ} {a : Bool} {c : ℕ} {x y : List Entry} {d d' : DeskTold} (e f : EarValue) (m v : MouthValue) → a ≡ true → IsSameLink e f m v
+    → Worked o setup true n a c x y (LoneWired x e m) (LoneWired y f v) d d' → KeepsLink x y e f m v
+alone_keeps {n = n} {c = c} e f m v lone same w = record {
+  wired = λ before. w.did.moved.kept (by_own (is_of_child c) n w.did.moved.more (w.did.moved.lone lone)) before;
   same_ear = same.0;
   same_mouth = same.1;
 }

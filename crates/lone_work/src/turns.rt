@@ -3,14 +3,15 @@ ghost use Rattle.std.specs.Prelude.{◌≡◌, true, false};
 ghost use Rattle.annex_model.specs.Lines.{has_newline};
 ghost use Rattle.journal_model.specs.Room.{claims_left};
 ghost use Rattle.gathering.specs.Tasks.{IsThrough};
+ghost use Rattle.link_roles.specs.Alone.{KeepsLink};
 ghost use Rattle.link_roles.specs.Doors.{Between, IsSameDoor};
-ghost use Rattle.lone_work.specs.Works.{AreTasks, CanClaim, CanWork, GoesOn, WorkedAt};
+ghost use Rattle.lone_work.specs.Works.{AreTasks, CanClaim, CanWork, GoesOn, WorkedAlone, WorkedAt};
 
 use crate::claims::{Claimed, claim};
 use crate::task::do_task;
 use crate::way::Way;
-use ann_outside::Desk;
-use link_roles::{Door, Turn};
+use ann_outside::{Desk, Sink, Source};
+use link_roles::{Door, Lone, Turn};
 use std::alloc::Global;
 use task_run::Setup;
 use task_text::Task;
@@ -45,28 +46,28 @@ pub fn take_turn<W: Way, D: Door, K: Desk>(
     }
 }
 
-/// Does tasks for a child that the worker has for itself, over a core that nobody else steps, one after the other, until all are
-/// claimed or the child is gone.
-pub fn work_alone<W: Way, D: Door, K: Desk>(
+/// Does tasks over the child's link, over a core that nobody else steps, one after the other, until all are claimed or the child is
+/// gone.
+pub fn work_alone<I: Sink, O: Source, D: Door, K: Desk>(
     alloc: Global,
     tasks: &[Task],
     setup: &Setup,
-    way: &mut W,
+    link: &mut Lone<I, O>,
     door: &mut D,
     desk: &mut K,
 )
-    requires alone { ((D.view door.old).alone ≡ true) × (W.owns way.old ≡ true) }
+    requires alone { (D.view door.old).alone ≡ true }
     requires tasks { ((D.view door.old).opening.tasks ≡ tasks.now) × AreTasks tasks.now }
     requires folder { has_newline setup.now.work ≡ false }
-    requires can { CanWork (D.view door.old).opening (W.serves way.old) (D.view door.old).seen }
-    ensures worked { WorkedAt setup.now (W.owns way.old) (W.serves way.old) (D.view door.old) (D.view door.new) (W.wired way.old) (W.wired way.new) (K.told desk.old) (K.told desk.new) }
-    ensures can { CanWork (D.view door.new).opening (W.serves way.new) (D.view door.new).seen }
-    ensures through { IsThrough (D.view door.old).opening (D.view door.new).seen (W.serves way.old) }
-    ensures way { (W.serves way.new ≡ W.serves way.old) × (W.owns way.new ≡ W.owns way.old) × W.same way.old way.new }
+    requires can { CanWork (D.view door.old).opening link.old.ear.child (D.view door.old).seen }
+    ensures worked { WorkedAlone (D.view door.old).opening setup.now (D.view door.old).number link.old.ear.child (D.view door.old).seen (D.view door.new).seen (K.told desk.old) (K.told desk.new) }
+    ensures can { CanWork (D.view door.new).opening link.new.ear.child (D.view door.new).seen }
+    ensures through { IsThrough (D.view door.old).opening (D.view door.new).seen link.old.ear.child }
+    ensures link { KeepsLink (D.view door.old).seen (D.view door.new).seen link.old.ear link.new.ear link.old.mouth link.new.mouth }
     ensures door { IsSameDoor (D.view door.old) (D.view door.new) }
 {
     'turns: loop {
-        match take_turn(alloc, tasks, setup, way, door, desk) {
+        match take_turn(alloc, tasks, setup, link, door, desk) {
             Turn::Again => {}
             Turn::Rest => unreachable!(),
             Turn::Over => return,

@@ -1,15 +1,17 @@
-use Rattle.std.proofs.Common.{◌≡◌}
+use Rattle.std.proofs.Common.{true}
 use Rattle.journal_model.specs.Room.{claims_left}
 use Rattle.link_roles.specs.Doors.{IsSameDoor}
+use Rattle.link_roles.specs.Moves.{IsSameLink}
+use Rattle.link_roles.specs.Writings.{LoneWired}
 use Rattle.lone_work.specs.Works.{CanClaim, WorkedAt}
 use Rattle.lone_work.proofs.turns.work_alone.Given as goal
 
 abbrev pub invariant-turns : goal.invariant-turns
 invariant-turns g l = record {
-  worked : WorkedAt l.setup (g.W.Way.owns l.initial.way) (g.W.Way.serves l.initial.way) (g.D.Door.view l.initial.door) (g.D.Door.view l.door) (g.W.Way.wired l.initial.way) (g.W.Way.wired l.way)
+  worked : WorkedAt l.setup true l.initial.link.ear.child (g.D.Door.view l.initial.door) (g.D.Door.view l.door) (λ j. LoneWired j l.initial.link.ear l.initial.link.mouth) (λ j. LoneWired j l.link.ear l.link.mouth)
       (g.K.Desk.told l.initial.desk) (g.K.Desk.told l.desk);
-  can : CanClaim (g.D.Door.view l.door) (g.W.Way.serves l.way);
-  way : (g.W.Way.serves l.way ≡ g.W.Way.serves l.initial.way) × (g.W.Way.owns l.way ≡ g.W.Way.owns l.initial.way) × g.W.Way.same l.initial.way l.way;
+  can : CanClaim (g.D.Door.view l.door) l.link.ear.child;
+  same : IsSameLink l.initial.link.ear l.link.ear l.initial.link.mouth l.link.mouth;
   door : IsSameDoor (g.D.Door.view l.initial.door) (g.D.Door.view l.door);
 }
 
