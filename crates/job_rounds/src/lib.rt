@@ -7,6 +7,7 @@ mod pooling;
 pub mod rows;
 mod running;
 mod serving;
+mod setting;
 mod starting;
 
 pub use bench::Bench;

@@ -20,6 +20,7 @@ ghost use Rattle.pool_starts.specs.Pools.{seat_value};
 ghost use Rattle.pool_starts.specs.Slots.{has_pool, is_unclaimed_since, last_slot};
 
 use crate::bench::Bench;
+use crate::setting::Setting;
 use ann_key::NoMemory;
 use ann_outside::{Desk, Programs, Sink, Source};
 use child_end::{close_child, finish};
@@ -27,7 +28,7 @@ use crew_round::Refused;
 use crew_rounds::Outcome;
 use host_core::Core;
 use link_roles::{Lone, Wire};
-use lone_rounds::{Plan, serve};
+use lone_rounds::serve;
 use pool_rounds::{PoolRound, round_pool};
 use pool_starts::{Gathering, Pool, Seat, gather};
 use std::alloc::Global;
@@ -302,11 +303,8 @@ fn serve_links<
 /// `NoMemory` is answered where no memory was found to start a child, or for the round: then no task was done, and those that were
 /// started are closed.
 pub(crate) fn serve_pool<P: Programs, K: Desk + Send + Drop, R: Threads + Wait + Sync>(
-    rt: &R,
-    alloc: Global,
+    setting: &Setting<'_, R>,
     programs: &mut P,
-    plan: &Plan,
-    tasks: &[Task],
     link: Lone<P::Inlet, P::Outlet>,
     stub: P::Stub,
     bench: Bench<K>,
@@ -317,8 +315,8 @@ where
     P::Outlet: Send + Drop,
     P::Stub: Drop,
     requires desks { (1 < vec_len bench.desks) × (vec_len bench.desks ≤ 64) }
-    requires tasks { (bench.core.opening.tasks ≡ tasks.now) × AreTasks tasks.now }
-    requires folder { has_newline plan.now.setup.work ≡ false }
+    requires tasks { (bench.core.opening.tasks ≡ setting.now.tasks.now) × AreTasks setting.now.tasks.now }
+    requires folder { has_newline setting.now.plan.now.setup.work ≡ false }
     requires can { CanBeServed bench.core.opening bench.core.journal link.ear link.mouth false }
     requires few { count is_start bench.core.journal + 64 < 4294967295 }
     requires pool { has_pool bench.core.journal ≡ true }
@@ -326,7 +324,7 @@ where
     requires since { is_unclaimed_since bench.core.journal ≡ true }
     requires last_child { link.ear.child ≡ count is_start bench.core.journal }
     requires room { vec_len wires.old + vec_len bench.desks ≤ vec_capacity wires.old }
-    ensures served { PoolServed (IsErr result.1) bench.core.opening plan.now.setup plan.now.starts plan.now.program bench.core.journal result.0.core.journal
+    ensures served { PoolServed (IsErr result.1) bench.core.opening setting.now.plan.now.setup setting.now.plan.now.starts setting.now.plan.now.program bench.core.journal result.0.core.journal
         (map K.told bench.desks.items) (map K.told result.0.desks.items) (is_ok result.1) link.ear link.mouth
         (P.told programs.old) (P.told programs.new) wires.old.items wires.new.items }
     ensures room { (vec_len wires.new ≤ vec_len wires.old + vec_len bench.desks) × (vec_capacity wires.new ≡ vec_capacity wires.old) }
@@ -334,11 +332,26 @@ where
     ensures desks { vec_len result.0.desks ≡ vec_len bench.desks }
 {
     let mut bench = bench;
-    let program = plan.program.view();
+    let program = setting.plan.program.view();
     let jobs = bench.desks.len() as u32;
-    match gather(alloc, programs, program, jobs, &mut bench.core, link, stub) {
+    match gather(
+        setting.alloc,
+        programs,
+        program,
+        jobs,
+        &mut bench.core,
+        link,
+        stub,
+    ) {
         Gathering::Whole(Pool { links, seats }) => {
-            let (links, bench, served) = serve_links(rt, alloc, tasks, &plan.setup, links, bench);
+            let (links, bench, served) = serve_links(
+                setting.rt,
+                setting.alloc,
+                setting.tasks,
+                &setting.plan.setup,
+                links,
+                bench,
+            );
             settle(programs, links, seats, wires);
             (bench, served)
         }

@@ -7,6 +7,7 @@ ghost use Rattle.lone_rounds.specs.Rounds.{IsWhole};
 ghost use Rattle.lone_work.specs.Works.{AreTasks};
 
 use crate::bench::Bench;
+use crate::setting::Setting;
 use crate::starting::start_children;
 use ann_key::NoMemory;
 use ann_outside::{Desk, Programs};
@@ -50,7 +51,13 @@ where
     ensures core { IsSameCore bench.core result.0.core }
     ensures desks { vec_len result.0.desks ≡ vec_len bench.desks }
 {
-    let (bench, started) = start_children(rt, alloc, programs, plan, tasks, bench, wires);
+    let setting = Setting {
+        rt,
+        alloc,
+        plan,
+        tasks,
+    };
+    let (bench, started) = start_children(&setting, programs, bench, wires);
     let mut bench = bench;
     match started {
         Ok(()) => {

@@ -14,27 +14,23 @@ ghost use Rattle.pool_starts.specs.Slots.{has_pool, is_unclaimed_since, last_slo
 use crate::bench::Bench;
 use crate::pooling::serve_pool;
 use crate::serving::serve_ready;
+use crate::setting::Setting;
 use ann_key::NoMemory;
 use ann_outside::{Desk, Programs};
 use child_end::finish;
 use child_start::{Greeting, Mode, greet};
 use journal_model::Answer;
 use link_roles::{Lone, Wire};
-use lone_rounds::{Plan, answer_one, is_offered, tagged_of, turn_away, unready_answer};
+use lone_rounds::{answer_one, is_offered, tagged_of, turn_away, unready_answer};
 use lone_work::know_book;
-use std::alloc::Global;
 use std::marker::{Send, Sync};
 use std::sync::Wait;
 use std::thread::Threads;
-use task_text::Task;
 
 // Lets a child that is ready do tasks, and closes it. Where it takes no tags and there are several desks, a pool is gathered after it.
 fn serve_child<P: Programs, K: Desk + Send + Drop, R: Threads + Wait + Sync>(
-    rt: &R,
-    alloc: Global,
+    setting: &Setting<'_, R>,
     programs: &mut P,
-    plan: &Plan,
-    tasks: &[Task],
     link: Lone<P::Inlet, P::Outlet>,
     stub: P::Stub,
     tagged: bool,
@@ -46,8 +42,8 @@ where
     P::Outlet: Send + Drop,
     P::Stub: Drop,
     requires desks { (0 < vec_len bench.desks) × (vec_len bench.desks ≤ 64) }
-    requires tasks { (bench.core.opening.tasks ≡ tasks.now) × AreTasks tasks.now }
-    requires folder { has_newline plan.now.setup.work ≡ false }
+    requires tasks { (bench.core.opening.tasks ≡ setting.now.tasks.now) × AreTasks setting.now.tasks.now }
+    requires folder { has_newline setting.now.plan.now.setup.work ≡ false }
     requires can { CanBeServed bench.core.opening bench.core.journal link.ear link.mouth tagged }
     requires few { count is_start bench.core.journal + 64 < 4294967295 }
     requires pool { tagged ≡ false → has_pool bench.core.journal ≡ true }
@@ -55,7 +51,7 @@ where
     requires since { is_unclaimed_since bench.core.journal ≡ true }
     requires last_child { link.ear.child ≡ count is_start bench.core.journal }
     requires room { vec_len wires.old + vec_len bench.desks ≤ vec_capacity wires.old }
-    ensures served { FirstServed (IsErr result.1) bench.core.opening plan.now.setup plan.now.starts plan.now.program bench.core.journal result.0.core.journal
+    ensures served { FirstServed (IsErr result.1) bench.core.opening setting.now.plan.now.setup setting.now.plan.now.starts setting.now.plan.now.program bench.core.journal result.0.core.journal
         (map K.told bench.desks.items) (map K.told result.0.desks.items) (is_ok result.1) link.ear link.mouth
         (P.told programs.old) (P.told programs.new) wires.old.items wires.new.items }
     ensures room { (vec_len wires.new ≤ vec_len wires.old + vec_len bench.desks) × (vec_capacity wires.new ≡ vec_capacity wires.old) }
@@ -63,9 +59,17 @@ where
     ensures desks { vec_len result.0.desks ≡ vec_len bench.desks }
 {
     if !tagged && bench.desks.len() > 1 {
-        return serve_pool(rt, alloc, programs, plan, tasks, link, stub, bench, wires);
+        return serve_pool(setting, programs, link, stub, bench, wires);
     }
-    let (link, bench, served) = serve_ready(rt, alloc, tasks, &plan.setup, link, tagged, bench);
+    let (link, bench, served) = serve_ready(
+        setting.rt,
+        setting.alloc,
+        setting.tasks,
+        &setting.plan.setup,
+        link,
+        tagged,
+        bench,
+    );
     finish(programs, link, stub, wires);
     (bench, served)
 }
@@ -73,11 +77,8 @@ where
 // Starts one child of slot 0 and lets it do tasks. One task is answered by what came of a start that gave no child that is ready. Whether
 // ASYNC is to be offered to the next one.
 fn start_one<P: Programs, K: Desk + Send + Drop, R: Threads + Wait + Sync>(
-    rt: &R,
-    alloc: Global,
+    setting: &Setting<'_, R>,
     programs: &mut P,
-    plan: &Plan,
-    tasks: &[Task],
     offer: bool,
     bench: Bench<K>,
     wires: &mut Vec<Wire<P::Inlet, P::Outlet>>,
@@ -90,16 +91,16 @@ where
     requires calm { IsAtRest bench.core.journal }
     requires few { count is_start bench.core.journal + 65 < 4294967295 }
     requires left { are_all_claimed bench.core.opening bench.core.journal ≡ false }
-    requires tasks { (bench.core.opening.tasks ≡ tasks.now) × AreTasks tasks.now }
-    requires folder { has_newline plan.now.setup.work ≡ false }
+    requires tasks { (bench.core.opening.tasks ≡ setting.now.tasks.now) × AreTasks setting.now.tasks.now }
+    requires folder { has_newline setting.now.plan.now.setup.work ≡ false }
     requires desks { (0 < vec_len bench.desks) × (vec_len bench.desks ≤ 64) }
     requires room { vec_len wires.old + vec_len bench.desks ≤ vec_capacity wires.old }
     ensures starts { MatchResult result.1
-        (λ next. OneJobStart bench.core.opening plan.now.setup plan.now.starts offer next true plan.now.program bench.core.journal result.0.core.journal
+        (λ next. OneJobStart bench.core.opening setting.now.plan.now.setup setting.now.plan.now.starts offer next true setting.now.plan.now.program bench.core.journal result.0.core.journal
         (map K.told bench.desks.items) (map K.told result.0.desks.items)
         (P.told programs.old) (P.told programs.new)
         wires.old.items wires.new.items)
-        (λ _. RunLacksMemory bench.core.opening plan.now.setup plan.now.starts offer plan.now.program bench.core.journal result.0.core.journal
+        (λ _. RunLacksMemory bench.core.opening setting.now.plan.now.setup setting.now.plan.now.starts offer setting.now.plan.now.program bench.core.journal result.0.core.journal
         (map K.told bench.desks.items) (map K.told result.0.desks.items)
         (P.told programs.old) (P.told programs.new)
         wires.old.items wires.new.items) }
@@ -108,9 +109,9 @@ where
     ensures desks { vec_len result.0.desks ≡ vec_len bench.desks }
 {
     let mut bench = bench;
-    let program = plan.program.view();
+    let program = setting.plan.program.view();
     match greet(
-        alloc,
+        setting.alloc,
         programs,
         program,
         &mut bench.core,
@@ -123,7 +124,7 @@ where
             match tagged_of(came) {
                 Some(tagged) => {
                     let (bench, served) = serve_child(
-                        rt, alloc, programs, plan, tasks, link, stub, tagged, bench, wires,
+                        setting, programs, link, stub, tagged, bench, wires,
                     );
                     match served {
                         Ok(()) => (bench, Ok(is_offered(offer, tagged))),
@@ -148,11 +149,8 @@ where
 /// Starts children of slot 0, one after the other, until all starts are made or all tasks claimed, or no memory is found to start one or
 /// for a round.
 pub(crate) fn start_children<P: Programs, K: Desk + Send + Drop, R: Threads + Wait + Sync>(
-    rt: &R,
-    alloc: Global,
+    setting: &Setting<'_, R>,
     programs: &mut P,
-    plan: &Plan,
-    tasks: &[Task],
     bench: Bench<K>,
     wires: &mut Vec<Wire<P::Inlet, P::Outlet>>,
 ) -> (Bench<K>, Result<(), NoMemory>)
@@ -161,25 +159,26 @@ where
     P::Outlet: Send + Drop,
     P::Stub: Drop,
     requires empty { bench.core.journal ≡ [] }
-    requires tasks { (bench.core.opening.tasks ≡ tasks.now) × AreTasks tasks.now }
-    requires starts { (0 < plan.now.starts) × (plan.now.starts ≤ 16) }
-    requires folder { has_newline plan.now.setup.work ≡ false }
+    requires tasks { (bench.core.opening.tasks ≡ setting.now.tasks.now) × AreTasks setting.now.tasks.now }
+    requires starts { (0 < setting.now.plan.now.starts) × (setting.now.plan.now.starts ≤ 16) }
+    requires folder { has_newline setting.now.plan.now.setup.work ≡ false }
     requires desks { (0 < vec_len bench.desks) × (vec_len bench.desks ≤ 64) }
-    requires room { plan.now.starts * vec_len bench.desks ≤ vec_capacity wires.old }
+    requires room { setting.now.plan.now.starts * vec_len bench.desks ≤ vec_capacity wires.old }
     requires none { wires.old.items ≡ [] }
-    ensures started { JobsStarted bench.core.opening plan.now.setup plan.now.offers plan.now.starts result.0.core.journal (map K.told bench.desks.items) (map K.told result.0.desks.items) result.1 }
-    ensures kept { KeptOr plan.now.program result.0.core.journal (P.told programs.old)
+    ensures started { JobsStarted bench.core.opening setting.now.plan.now.setup setting.now.plan.now.offers setting.now.plan.now.starts result.0.core.journal
+        (map K.told bench.desks.items) (map K.told result.0.desks.items) result.1 }
+    ensures kept { KeptOr setting.now.plan.now.program result.0.core.journal (P.told programs.old)
         (P.told programs.new) wires.new.items result.1 }
     ensures core { IsSameCore bench.core result.0.core }
     ensures desks { vec_len result.0.desks ≡ vec_len bench.desks }
 {
     let mut bench = bench;
-    let mut offer = plan.offers;
-    'children: for made in 0..plan.starts {
+    let mut offer = setting.plan.offers;
+    'children: for made in 0..setting.plan.starts {
         if bench.core.unclaimed() == 0 {
             return (bench, Ok(()));
         }
-        let (after, next) = start_one(rt, alloc, programs, plan, tasks, offer, bench, wires);
+        let (after, next) = start_one(setting, programs, offer, bench, wires);
         bench = after;
         match next {
             Ok(next) => offer = next,

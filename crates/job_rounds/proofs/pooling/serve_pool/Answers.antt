@@ -55,12 +55,12 @@ returns-in-Whole-clause-served g c =
     let o = c.args.bench.core.opening in
     let new = c.serve_links-links.result.1.core.journal in
     let jobs : c.len-jobs.result ≡ length (map g.K.Desk.told c.args.bench.desks.items) = c.len-jobs.ensures ∙ c.args.bench.desks.ok.0 ∙ sym (length-map c.args.bench.desks.items g.K.Desk.told) in
-    subst (λ (program : List ℕ). PoolServed (IsErr c.serve_links-links.result.2) o c.args.plan.now.setup c.args.plan.now.starts program c.args.bench.core.journal new (map g.K.Desk.told c.args.bench.desks.items) (map g.K.Desk.told c.serve_links-links.result.1.desks.items) (is_ok c.serve_links-links.result.2)
+    subst (λ (program : List ℕ). PoolServed (IsErr c.serve_links-links.result.2) o c.args.setting.now.plan.now.setup c.args.setting.now.plan.now.starts program c.args.bench.core.journal new (map g.K.Desk.told c.args.bench.desks.items) (map g.K.Desk.told c.serve_links-links.result.1.desks.items) (is_ok c.serve_links-links.result.2)
     c.args.link.ear c.args.link.mouth (g.P.Programs.told c.args.programs.now) (g.P.Programs.told c.settle.new.programs) c.args.wires.now.items c.settle.new.wires.items) c.view-program.ensures
-    (links_end o c.args.plan.now.setup c.args.plan.now.starts c.len-jobs.result c.view-program.result.now c.args.bench.core.journal c.gather.new.core.journal new (link_of c.args.link.ear c.args.link.mouth) (g.P.Programs.told c.args.programs.now) (g.P.Programs.told c.gather.new.programs) (g.P.Programs.told c.settle.new.programs)
+    (links_end o c.args.setting.now.plan.now.setup c.args.setting.now.plan.now.starts c.len-jobs.result c.view-program.result.now c.args.bench.core.journal c.gather.new.core.journal new (link_of c.args.link.ear c.args.link.mouth) (g.P.Programs.told c.args.programs.now) (g.P.Programs.told c.gather.new.programs) (g.P.Programs.told c.settle.new.programs)
     (map seat_value c.in-Whole.field-0.seats.items) (map (λ l. link_of l.ear l.mouth) c.in-Whole.field-0.links.items) (map (λ l. link_of l.ear l.mouth) c.serve_links-links.result.0.items) (map g.K.Desk.told c.args.bench.desks.items) (map g.K.Desk.told c.serve_links-links.result.1.desks.items)
     c.args.wires.now.items c.settle.new.wires.items jobs c.serve_links-links.result.2 c.in-Whole.ensures.gathers.0 c.requires.can c.requires.last_child
-    (subst (λ (w : Opening). MatchResult c.serve_links-links.result.2 (λ _. ServesLinks w c.args.plan.now.setup c.gather.new.core.journal new (map (λ l. link_of l.ear l.mouth) c.in-Whole.field-0.links.items) (map (λ l. link_of l.ear l.mouth) c.serve_links-links.result.0.items) (map g.K.Desk.told c.args.bench.desks.items) (map g.K.Desk.told c.serve_links-links.result.1.desks.items)) (λ _. StarvedLinks c.gather.new.core.journal new (map (λ l. link_of l.ear l.mouth) c.in-Whole.field-0.links.items) (map (λ l. link_of l.ear l.mouth) c.serve_links-links.result.0.items) (map g.K.Desk.told c.args.bench.desks.items) (map g.K.Desk.told c.serve_links-links.result.1.desks.items)))
+    (subst (λ (w : Opening). MatchResult c.serve_links-links.result.2 (λ _. ServesLinks w c.args.setting.now.plan.now.setup c.gather.new.core.journal new (map (λ l. link_of l.ear l.mouth) c.in-Whole.field-0.links.items) (map (λ l. link_of l.ear l.mouth) c.serve_links-links.result.0.items) (map g.K.Desk.told c.args.bench.desks.items) (map g.K.Desk.told c.serve_links-links.result.1.desks.items)) (λ _. StarvedLinks c.gather.new.core.journal new (map (λ l. link_of l.ear l.mouth) c.in-Whole.field-0.links.items) (map (λ l. link_of l.ear l.mouth) c.serve_links-links.result.0.items) (map g.K.Desk.told c.args.bench.desks.items) (map g.K.Desk.told c.serve_links-links.result.1.desks.items)))
     c.gather.ensures.core.opening c.serve_links-links.ensures.serves)
     (subst (λ (w : Opening). Legal w new) (c.serve_links-links.ensures.core.opening ∙ c.gather.ensures.core.opening) (c.serve_links-links.ensures.core.legal (c.gather.ensures.core.legal c.requires.can.can.serves.legal)))
     c.serve_links-links.ensures.same (if_ok c.serve_links-links.result.2 (λ h. All-map (λ (l : LinkValue). IsHeld new l.ear l.mouth) (λ l. link_of l.ear l.mouth) c.serve_links-links.result.0.items h) c.serve_links-links.ensures.held)
@@ -74,9 +74,9 @@ returns-in-NoMemory-clause-served g c =
     let o = c.args.bench.core.opening in
     let new = c.close_links.new.core.journal in
     let jobs : c.len-jobs.result ≡ length (map g.K.Desk.told c.args.bench.desks.items) = c.len-jobs.ensures ∙ c.args.bench.desks.ok.0 ∙ sym (length-map c.args.bench.desks.items g.K.Desk.told) in
-    subst (λ (program : List ℕ). PoolServed (true ≡ true) o c.args.plan.now.setup c.args.plan.now.starts program c.args.bench.core.journal new (map g.K.Desk.told c.args.bench.desks.items) (map g.K.Desk.told c.args.bench.desks.items) false
+    subst (λ (program : List ℕ). PoolServed (true ≡ true) o c.args.setting.now.plan.now.setup c.args.setting.now.plan.now.starts program c.args.bench.core.journal new (map g.K.Desk.told c.args.bench.desks.items) (map g.K.Desk.told c.args.bench.desks.items) false
     c.args.link.ear c.args.link.mouth (g.P.Programs.told c.args.programs.now) (g.P.Programs.told c.settle-in-NoMemory.new.programs) c.args.wires.now.items c.settle-in-NoMemory.new.wires.items) c.view-program.ensures
-    (starved_ends o c.args.plan.now.setup c.args.plan.now.starts c.len-jobs.result c.view-program.result.now c.args.bench.core.journal c.gather.new.core.journal new (link_of c.args.link.ear c.args.link.mouth) (g.P.Programs.told c.args.programs.now) (g.P.Programs.told c.gather.new.programs) (g.P.Programs.told c.settle-in-NoMemory.new.programs)
+    (starved_ends o c.args.setting.now.plan.now.setup c.args.setting.now.plan.now.starts c.len-jobs.result c.view-program.result.now c.args.bench.core.journal c.gather.new.core.journal new (link_of c.args.link.ear c.args.link.mouth) (g.P.Programs.told c.args.programs.now) (g.P.Programs.told c.gather.new.programs) (g.P.Programs.told c.settle-in-NoMemory.new.programs)
     (map seat_value c.in-NoMemory.field-0.seats.items) (map (λ l. link_of l.ear l.mouth) c.in-NoMemory.field-0.links.items) (map g.K.Desk.told c.args.bench.desks.items)
     c.args.wires.now.items c.settle-in-NoMemory.new.wires.items jobs (λ w. refl) c.in-NoMemory.ensures.gathers.0 c.requires.can c.requires.last_child
     (subst (λ xs. ClosesAll (children_of (map (λ l. link_of l.ear l.mouth) xs)) c.gather.new.core.journal new) c.deref.ensures.value c.close_links.ensures.closes)
@@ -98,9 +98,9 @@ returns-in-NoRoom-clause-served g c =
     let new = c.close_child.new.core.journal in
     let jobs : c.len-jobs.result ≡ length (map g.K.Desk.told c.args.bench.desks.items) = c.len-jobs.ensures ∙ c.args.bench.desks.ok.0 ∙ sym (length-map c.args.bench.desks.items g.K.Desk.told) in
     let link = link_of c.in-NoRoom.link.ear c.in-NoRoom.link.mouth in
-    subst (λ (program : List ℕ). PoolServed _ o c.args.plan.now.setup c.args.plan.now.starts program c.args.bench.core.journal new (map g.K.Desk.told c.args.bench.desks.items) (map g.K.Desk.told c.args.bench.desks.items) false
+    subst (λ (program : List ℕ). PoolServed _ o c.args.setting.now.plan.now.setup c.args.setting.now.plan.now.starts program c.args.bench.core.journal new (map g.K.Desk.told c.args.bench.desks.items) (map g.K.Desk.told c.args.bench.desks.items) false
     c.args.link.ear c.args.link.mouth (g.P.Programs.told c.args.programs.now) (g.P.Programs.told c.finish.new.programs) c.args.wires.now.items c.finish.new.wires.items) c.view-program.ensures
-    (starved_ends o c.args.plan.now.setup c.args.plan.now.starts c.len-jobs.result c.view-program.result.now c.args.bench.core.journal c.gather.new.core.journal new (link_of c.args.link.ear c.args.link.mouth) (g.P.Programs.told c.args.programs.now) (g.P.Programs.told c.gather.new.programs) (g.P.Programs.told c.finish.new.programs)
+    (starved_ends o c.args.setting.now.plan.now.setup c.args.setting.now.plan.now.starts c.len-jobs.result c.view-program.result.now c.args.bench.core.journal c.gather.new.core.journal new (link_of c.args.link.ear c.args.link.mouth) (g.P.Programs.told c.args.programs.now) (g.P.Programs.told c.gather.new.programs) (g.P.Programs.told c.finish.new.programs)
     _ _ (map g.K.Desk.told c.args.bench.desks.items) c.args.wires.now.items c.finish.new.wires.items jobs (λ w. absurd w)
     (roomless_pool o c.len-jobs.result c.view-program.result.now c.args.bench.core.journal c.gather.new.core.journal (link_of c.args.link.ear c.args.link.mouth) link (g.P.Programs.told c.args.programs.now) (g.P.Programs.told c.gather.new.programs) c.requires.can c.in-NoRoom.ensures.gathers) c.requires.can c.requires.last_child
     (closes_alone link c.gather.new.core.journal new c.close_child.ensures.closes)

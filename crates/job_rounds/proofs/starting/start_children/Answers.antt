@@ -14,8 +14,8 @@ use Rattle.ann_key.proofs.Numbers.{one_more}
 
 pub children-init : goal.children-init
 children-init g c = record {
-  between = jobs_begin c.args.bench.core.opening c.args.plan.now.setup c.args.plan.now.offers c.args.plan.now.starts c.args.bench.core.journal (map g.K.Desk.told c.args.bench.desks.items) true c.requires.empty;
-  kept = kept_begin c.args.plan.now.program c.args.bench.core.journal (g.P.Programs.told c.args.programs.now) c.args.wires.now.items c.requires.empty c.requires.none;
+  between = jobs_begin c.args.bench.core.opening c.args.setting.now.plan.now.setup c.args.setting.now.plan.now.offers c.args.setting.now.plan.now.starts c.args.bench.core.journal (map g.K.Desk.told c.args.bench.desks.items) true c.requires.empty;
+  kept = kept_begin c.args.setting.now.plan.now.program c.args.bench.core.journal (g.P.Programs.told c.args.programs.now) c.args.wires.now.items c.requires.empty c.requires.none;
   core = record { opening = refl; legal = λ h. h };
   room = ((let none = c.args.wires.now.ok.0 ∙ ap (λ (xs : List _). length xs) c.requires.none in omega (arith, none)), refl);
   desks = refl;
@@ -73,7 +73,7 @@ start_one-after-requires-clause-room g c = λ κs fresh. (
     let room = c.children.invariant.room.1 in
     let same = c.children.invariant.desks in
     let one = one_more c.children.made (vec_len c.args.bench.desks) in
-    let most = mul-le (c.children.made + 1) (vec_len c.args.bench.desks) c.args.plan.now.starts (vec_len c.args.bench.desks) (omega (arith, below, end)) (omega arith) in
+    let most = mul-le (c.children.made + 1) (vec_len c.args.bench.desks) c.args.setting.now.plan.now.starts (vec_len c.args.bench.desks) (omega (arith, below, end)) (omega arith) in
     let all = c.requires.room in
     omega (arith, used, room, same, one, most, all))
 
@@ -93,7 +93,7 @@ returns-in-Err-clause-started g c =
     let after : ProgramsTold = (g.P.Programs.told c.start_one-after.new.programs) in
     let wires : List WireValue = c.children.wires.items in
     let wires' : List WireValue = c.start_one-after.new.wires.items in
-    broken_started o p c.args.plan.now.setup c.args.plan.now.offers c.args.plan.now.starts c.children.made c.children.offer c.args.plan.now.program cur new desks0 desks desks' before after wires wires' same_opening c.children.invariant.between
+    broken_started o p c.args.setting.now.plan.now.setup c.args.setting.now.plan.now.offers c.args.setting.now.plan.now.starts c.children.made c.children.offer c.args.setting.now.plan.now.program cur new desks0 desks desks' before after wires wires' same_opening c.children.invariant.between
     (at_err _ _ c.start_one-after.result.1 c.in-Err.field-0 c.in-Err.is c.start_one-after.ensures.starts) legal
     (let below = c.children-test.true in let end = c.children.auto.made-end in omega (arith, below, end))
 
@@ -113,7 +113,7 @@ returns-in-Err-clause-kept g c =
     let after : ProgramsTold = (g.P.Programs.told c.start_one-after.new.programs) in
     let wires : List WireValue = c.children.wires.items in
     let wires' : List WireValue = c.start_one-after.new.wires.items in
-    broken_kept o p c.args.plan.now.setup c.args.plan.now.offers c.args.plan.now.starts c.children.made c.children.offer c.args.plan.now.program cur new desks0 desks desks' start before after wires wires' same_opening c.children.invariant.between c.children.invariant.kept
+    broken_kept o p c.args.setting.now.plan.now.setup c.args.setting.now.plan.now.offers c.args.setting.now.plan.now.starts c.children.made c.children.offer c.args.setting.now.plan.now.program cur new desks0 desks desks' start before after wires wires' same_opening c.children.invariant.between c.children.invariant.kept
     (at_err _ _ c.start_one-after.result.1 c.in-Err.field-0 c.in-Err.is c.start_one-after.ensures.starts)
 
 pub returns-in-Err-clause-core : goal.returns-in-Err-clause-core
@@ -138,7 +138,7 @@ children-preserved g c =
     let after : ProgramsTold = (g.P.Programs.told c.start_one-after.new.programs) in
     let wires : List WireValue = c.children.wires.items in
     let wires' : List WireValue = c.start_one-after.new.wires.items in
-    let after_one = next_job_start o p c.args.plan.now.setup c.args.plan.now.offers c.args.plan.now.starts c.children.made c.children.offer c.in-Ok.next true c.args.plan.now.program cur new desks0 desks desks' start before after wires wires'
+    let after_one = next_job_start o p c.args.setting.now.plan.now.setup c.args.setting.now.plan.now.offers c.args.setting.now.plan.now.starts c.children.made c.children.offer c.in-Ok.next true c.args.setting.now.plan.now.program cur new desks0 desks desks' start before after wires wires'
     same_opening c.children.invariant.between c.children.invariant.kept (at_ok _ _ c.start_one-after.result.1 c.in-Ok.next c.in-Ok.is c.start_one-after.ensures.starts) legal in
     record {
       between = after_one.0;

@@ -65,7 +65,7 @@ unready_answer-requires g c = came_some c.greet.new.core.journal c.in-Child.link
 
 pub answer_one-requires-clause-rest : goal.answer_one-requires-clause-rest
 answer_one-requires-clause-rest g c =
-    fault_rests c.args.bench.core.opening c.args.plan.now.setup c.args.plan.now.starts c.args.offer c.args.bench.core.journal c.greet.new.core.journal c.greet.new.core.journal (record { counts = no_counts; files = None; log = None }) c.requires.left c.requires.calm.idle c.in-StartFault.ensures.tells
+    fault_rests c.args.bench.core.opening c.args.setting.now.plan.now.setup c.args.setting.now.plan.now.starts c.args.offer c.args.bench.core.journal c.greet.new.core.journal c.greet.new.core.journal (record { counts = no_counts; files = None; log = None }) c.requires.left c.requires.calm.idle c.in-StartFault.ensures.tells
 
 pub returns-in-Ok-clause-starts : goal.returns-in-Ok-clause-starts
 returns-in-Ok-clause-starts g c =
@@ -81,11 +81,11 @@ returns-in-Ok-clause-starts g c =
     let wires : List WireValue = c.args.wires.now.items in
     let wires' : List WireValue = c.serve_child-bench.new.wires.items in
     let r = c.serve_child-bench.result.1 in
-    let served = subst (λ (w : Opening). FirstServed (IsErr r) w c.args.plan.now.setup c.args.plan.now.starts c.args.plan.now.program mid new desks desks' (is_ok r) c.in-Child.link.ear c.in-Child.link.mouth between after wires wires') c.greet.ensures.core.opening c.serve_child-bench.ensures.served in
-    let adds : AddsOne before.starts between.starts (c.args.plan.now.program, true) = subst (λ (p : List ℕ). AddsOne before.starts between.starts (p, true)) c.view-program.ensures c.in-Child.ensures.starts in
+    let served = subst (λ (w : Opening). FirstServed (IsErr r) w c.args.setting.now.plan.now.setup c.args.setting.now.plan.now.starts c.args.setting.now.plan.now.program mid new desks desks' (is_ok r) c.in-Child.link.ear c.in-Child.link.mouth between after wires wires') c.greet.ensures.core.opening c.serve_child-bench.ensures.served in
+    let adds : AddsOne before.starts between.starts (c.args.setting.now.plan.now.program, true) = subst (λ (p : List ℕ). AddsOne before.starts between.starts (p, true)) c.view-program.ensures c.in-Child.ensures.starts in
     let legal' : Legal o mid = subst (λ (w : Opening). Legal w mid) c.greet.ensures.core.opening (c.greet.ensures.core.legal c.requires.legal) in
-    subst (λ (next : Bool). OneJobStart o c.args.plan.now.setup c.args.plan.now.starts c.args.offer next true c.args.plan.now.program old new desks desks' before after wires wires') (sym c.is_offered.ensures)
-    (first_ok o c.args.plan.now.setup c.args.plan.now.starts c.args.offer c.in-Some.tagged old mid new desks desks' (IsErr r) c.args.plan.now.program c.in-Child.link.ear c.in-Child.link.mouth before between after wires wires'
+    subst (λ (next : Bool). OneJobStart o c.args.setting.now.plan.now.setup c.args.setting.now.plan.now.starts c.args.offer next true c.args.setting.now.plan.now.program old new desks desks' before after wires wires') (sym c.is_offered.ensures)
+    (first_ok o c.args.setting.now.plan.now.setup c.args.setting.now.plan.now.starts c.args.offer c.in-Some.tagged old mid new desks desks' (IsErr r) c.args.setting.now.plan.now.program c.in-Child.link.ear c.in-Child.link.mouth before between after wires wires'
     c.requires.legal c.requires.left c.in-Child.ensures.tells.0 legal' (came_ready c.greet.new.core.journal c.in-Child.link.ear.child c.in-Child.came c.in-Some.tagged (sym c.in-Some.ensures) c.in-Child.ensures.tells.1).0 (came_ready c.greet.new.core.journal c.in-Child.link.ear.child c.in-Child.came c.in-Some.tagged (sym c.in-Some.ensures) c.in-Child.ensures.tells.1).1 adds c.in-Child.ensures.later c.in-Child.ensures.numbers (is_ok r) (ap is_ok c.in-Ok.is) (ok_no_err r _ c.in-Ok.is) served)
 
 pub returns-in-Err-clause-starts : goal.returns-in-Err-clause-starts
@@ -102,10 +102,10 @@ returns-in-Err-clause-starts g c =
     let wires : List WireValue = c.args.wires.now.items in
     let wires' : List WireValue = c.serve_child-bench.new.wires.items in
     let r = c.serve_child-bench.result.1 in
-    let served = subst (λ (w : Opening). FirstServed (IsErr r) w c.args.plan.now.setup c.args.plan.now.starts c.args.plan.now.program mid new desks desks' (is_ok r) c.in-Child.link.ear c.in-Child.link.mouth between after wires wires') c.greet.ensures.core.opening c.serve_child-bench.ensures.served in
-    let adds : AddsOne before.starts between.starts (c.args.plan.now.program, true) = subst (λ (p : List ℕ). AddsOne before.starts between.starts (p, true)) c.view-program.ensures c.in-Child.ensures.starts in
+    let served = subst (λ (w : Opening). FirstServed (IsErr r) w c.args.setting.now.plan.now.setup c.args.setting.now.plan.now.starts c.args.setting.now.plan.now.program mid new desks desks' (is_ok r) c.in-Child.link.ear c.in-Child.link.mouth between after wires wires') c.greet.ensures.core.opening c.serve_child-bench.ensures.served in
+    let adds : AddsOne before.starts between.starts (c.args.setting.now.plan.now.program, true) = subst (λ (p : List ℕ). AddsOne before.starts between.starts (p, true)) c.view-program.ensures c.in-Child.ensures.starts in
     let legal' : Legal o mid = subst (λ (w : Opening). Legal w mid) c.greet.ensures.core.opening (c.greet.ensures.core.legal c.requires.legal) in
-    first_err o c.args.plan.now.setup c.args.plan.now.starts c.args.offer c.in-Some.tagged old mid new desks desks' (IsErr r) c.args.plan.now.program c.in-Child.link.ear c.in-Child.link.mouth before between after wires wires'
+    first_err o c.args.setting.now.plan.now.setup c.args.setting.now.plan.now.starts c.args.offer c.in-Some.tagged old mid new desks desks' (IsErr r) c.args.setting.now.plan.now.program c.in-Child.link.ear c.in-Child.link.mouth before between after wires wires'
     c.requires.legal c.requires.left c.in-Child.ensures.tells.0 legal' (came_ready c.greet.new.core.journal c.in-Child.link.ear.child c.in-Child.came c.in-Some.tagged (sym c.in-Some.ensures) c.in-Child.ensures.tells.1).0 (came_ready c.greet.new.core.journal c.in-Child.link.ear.child c.in-Child.came c.in-Some.tagged (sym c.in-Some.ensures) c.in-Child.ensures.tells.1).1 adds c.in-Child.ensures.later c.in-Child.ensures.numbers (is_ok r) (ap is_ok c.in-Err.is) served
 
 pub returns-in-None-clause-starts : goal.returns-in-None-clause-starts
@@ -123,13 +123,13 @@ returns-in-None-clause-starts g c =
     let quiet = away_quiet o c.args.offer old mid new child answer unready.undone c.in-Child.ensures.tells.0 away in
     job_start quiet.more quiet.is
     (one_all quiet.more (quiet_none quiet)
-    (starts_child c.args.plan.now.program new child c.args.offer (g.P.Programs.told c.args.programs.now) (g.P.Programs.told c.greet.new.programs).starts
+    (starts_child c.args.setting.now.plan.now.program new child c.args.offer (g.P.Programs.told c.args.programs.now) (g.P.Programs.told c.greet.new.programs).starts
     (g.P.Programs.told c.finish.new.programs) (g.P.Programs.told c.greet.new.programs).faults
     c.in-Child.link.ear c.in-Child.link.mouth _ _ (subst (λ (p : List ℕ). AddsOne (g.P.Programs.told c.args.programs.now).starts (g.P.Programs.told c.greet.new.programs).starts (p, true)) c.view-program.ensures c.in-Child.ensures.starts)
     c.finish.ensures.starts c.in-Child.ensures.later c.finish.ensures.later c.in-Child.ensures.numbers refl c.in-Child.link.one_child
     (lone_held new c.in-Child.link.ear c.in-Child.link.mouth (c.turn_away.ensures.wired c.in-Child.ensures.wired)) c.finish.ensures.laid))
-    (stint_any o c.args.plan.now.setup c.args.plan.now.starts c.args.offer c.args.offer (Start child 0 c.args.offer) old new desks some
-    (λ d. away_stint o c.args.plan.now.setup (more_than new) c.args.offer old mid new child answer d c.requires.left c.requires.calm.idle c.in-Child.ensures.tells.0 unready away)
+    (stint_any o c.args.setting.now.plan.now.setup c.args.setting.now.plan.now.starts c.args.offer c.args.offer (Start child 0 c.args.offer) old new desks some
+    (λ d. away_stint o c.args.setting.now.plan.now.setup (more_than new) c.args.offer old mid new child answer d c.requires.left c.requires.calm.idle c.in-Child.ensures.tells.0 unready away)
     true quiet
     (λ shut. away_idle o child (next_child old) mid new answer c.in-Child.ensures.tells.0.next c.in-Child.ensures.tells.0.idle away))
 
@@ -145,11 +145,11 @@ returns-in-StartFault-clause-starts g c =
     let quiet = fault_quiet o old mid new StartFault c.answer_one.result c.in-StartFault.ensures.tells one in
     job_start quiet.more quiet.is
     (one_all quiet.more (quiet_none quiet)
-    (starts_none c.args.plan.now.program new (g.P.Programs.told c.args.programs.now)
+    (starts_none c.args.setting.now.plan.now.program new (g.P.Programs.told c.args.programs.now)
     (g.P.Programs.told c.greet.new.programs) _ _
     (subst (λ (p : List ℕ). AddsOne (g.P.Programs.told c.args.programs.now).starts (g.P.Programs.told c.greet.new.programs).starts (p, false)) c.view-program.ensures c.in-StartFault.ensures.starts)
     (c.in-StartFault.ensures.fault refl) c.in-StartFault.ensures.later refl))
-    (stint_any o c.args.plan.now.setup c.args.plan.now.starts c.args.offer c.args.offer (NoStart 0) old new desks some
-    (λ d. fault_stint o c.args.plan.now.setup (more_than new) c.args.offer old mid new d c.requires.left c.requires.calm.idle c.in-StartFault.ensures.tells c.answer_one.result one)
+    (stint_any o c.args.setting.now.plan.now.setup c.args.setting.now.plan.now.starts c.args.offer c.args.offer (NoStart 0) old new desks some
+    (λ d. fault_stint o c.args.setting.now.plan.now.setup (more_than new) c.args.offer old mid new d c.requires.left c.requires.calm.idle c.in-StartFault.ensures.tells c.answer_one.result one)
     true quiet
     (λ shut. fault_idle o (next_child old) old mid new StartFault c.answer_one.result c.in-StartFault.ensures.tells one shut))
