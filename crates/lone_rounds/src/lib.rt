@@ -5,6 +5,7 @@ mod plan;
 mod renewed;
 mod running;
 mod serving;
+mod setting;
 mod starting;
 mod starved;
 mod zero;

@@ -6,6 +6,7 @@ ghost use Rattle.lone_work.specs.Works.{AreTasks};
 ghost use Rattle.lone_rounds.specs.Rounds.{EndsClosed, IsWhole, RanAlone};
 
 use crate::plan::Plan;
+use crate::setting::Setting;
 use crate::starting::start_children;
 use crate::zero::answer_left;
 use ann_key::NoMemory;
@@ -43,7 +44,8 @@ where
         (P.told programs.new) wires.new.items }
     ensures core { IsSameCore core.old core.new }
 {
-    start_children(alloc, programs, plan, tasks, core, desk, wires)?;
+    let setting = Setting { alloc, plan, tasks };
+    start_children(&setting, programs, core, desk, wires)?;
     if core.unclaimed() > 0 {
         answer_left(core);
     }

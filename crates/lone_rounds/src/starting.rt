@@ -10,8 +10,8 @@ ghost use Rattle.link_roles.specs.Alone.{KeepsLink};
 ghost use Rattle.lone_work.specs.Works.{AreTasks};
 ghost use Rattle.lone_rounds.specs.Stints.{CanMeet, HasStarted, KeptOr, Meets, OneStart, Unstarted, came_answer, tagged_of};
 
-use crate::plan::Plan;
 use crate::serving::{serve, turn_away};
+use crate::setting::Setting;
 use crate::zero::answer_one;
 use ann_key::NoMemory;
 use ann_outside::{Desk, Programs, Sink, Source};
@@ -98,10 +98,8 @@ fn meet<I: Sink, O: Source, K: Desk>(
 // Starts one child and lets it do tasks. One task is answered by what came of a start that gave no child that is ready. Whether
 // ASYNC is to be offered to the next one.
 fn start_one<P: Programs, K: Desk>(
-    alloc: Global,
+    setting: &Setting<'_>,
     programs: &mut P,
-    plan: &Plan,
-    tasks: &[Task],
     offer: bool,
     core: &mut Core,
     desk: &mut K,
@@ -114,29 +112,45 @@ where
     requires rest { (t : ℕ) → is_busy core.old.journal t ≡ false }
     requires few { count is_start core.old.journal < 4294967295 }
     requires left { are_all_claimed core.old.opening core.old.journal ≡ false }
-    requires tasks { (core.old.opening.tasks ≡ tasks.now) × AreTasks tasks.now }
-    requires folder { has_newline plan.now.setup.work ≡ false }
+    requires tasks { (core.old.opening.tasks ≡ setting.now.tasks.now) × AreTasks setting.now.tasks.now }
+    requires folder { has_newline setting.now.plan.now.setup.work ≡ false }
     requires room { vec_len wires.old < vec_capacity wires.old }
     ensures starts { MatchResult result
-        (λ next. OneStart core.old.opening plan.now.setup plan.now.starts offer next plan.now.program core.old.journal core.new.journal
+        (λ next. OneStart core.old.opening setting.now.plan.now.setup setting.now.plan.now.starts offer next setting.now.plan.now.program core.old.journal core.new.journal
         (K.told desk.old) (K.told desk.new)
         (P.told programs.old) (P.told programs.new)
         wires.old.items wires.new.items)
-        (λ _. Unstarted plan.now.program core.old.journal core.new.journal (K.told desk.old)
+        (λ _. Unstarted setting.now.plan.now.program core.old.journal core.new.journal (K.told desk.old)
         (K.told desk.new) (P.told programs.old)
         (P.told programs.new) wires.old.items wires.new.items) }
     ensures room { (vec_len wires.new ≤ vec_len wires.old + 1) × (vec_capacity wires.new ≡ vec_capacity wires.old) }
     ensures core { IsSameCore core.old core.new }
 {
-    let program = plan.program.view();
-    match greet(alloc, programs, program, core, 0, offer, Mode::Serve) {
+    let program = setting.plan.program.view();
+    match greet(
+        setting.alloc,
+        programs,
+        program,
+        core,
+        0,
+        offer,
+        Mode::Serve,
+    ) {
         Greeting::Child {
             mut link,
             stub,
             came,
         } => {
             know_book(&core.opening().notes);
-            let tagged = meet(alloc, tasks, &plan.setup, &mut link, came, core, desk);
+            let tagged = meet(
+                setting.alloc,
+                setting.tasks,
+                &setting.plan.setup,
+                &mut link,
+                came,
+                core,
+                desk,
+            );
             finish(programs, link, stub, wires);
             Ok(is_offered(offer, tagged))
         }
@@ -150,10 +164,8 @@ where
 
 /// Starts children, one after the other, until all starts are made or all tasks claimed, or no memory is found to start one.
 pub(crate) fn start_children<P: Programs, K: Desk>(
-    alloc: Global,
+    setting: &Setting<'_>,
     programs: &mut P,
-    plan: &Plan,
-    tasks: &[Task],
     core: &mut Core,
     desk: &mut K,
     wires: &mut Vec<Wire<P::Inlet, P::Outlet>>,
@@ -162,22 +174,22 @@ where
     P::Inlet: Drop,
     P::Outlet: Drop,
     requires empty { core.old.journal ≡ [] }
-    requires tasks { (core.old.opening.tasks ≡ tasks.now) × AreTasks tasks.now }
-    requires starts { (0 < plan.now.starts) × (plan.now.starts ≤ 16) }
-    requires folder { has_newline plan.now.setup.work ≡ false }
-    requires room { plan.now.starts ≤ vec_capacity wires.old }
+    requires tasks { (core.old.opening.tasks ≡ setting.now.tasks.now) × AreTasks setting.now.tasks.now }
+    requires starts { (0 < setting.now.plan.now.starts) × (setting.now.plan.now.starts ≤ 16) }
+    requires folder { has_newline setting.now.plan.now.setup.work ≡ false }
+    requires room { setting.now.plan.now.starts ≤ vec_capacity wires.old }
     requires none { wires.old.items ≡ [] }
-    ensures started { HasStarted core.old.opening plan.now.setup plan.now.offers plan.now.starts core.new.journal (K.told desk.old) (K.told desk.new) result }
-    ensures kept { KeptOr plan.now.program core.new.journal (P.told programs.old)
+    ensures started { HasStarted core.old.opening setting.now.plan.now.setup setting.now.plan.now.offers setting.now.plan.now.starts core.new.journal (K.told desk.old) (K.told desk.new) result }
+    ensures kept { KeptOr setting.now.plan.now.program core.new.journal (P.told programs.old)
         (P.told programs.new) wires.new.items result }
     ensures core { IsSameCore core.old core.new }
 {
-    let mut offer = plan.offers;
-    'children: for made in 0..plan.starts {
+    let mut offer = setting.plan.offers;
+    'children: for made in 0..setting.plan.starts {
         if core.unclaimed() == 0 {
             return Ok(());
         }
-        offer = start_one(alloc, programs, plan, tasks, offer, core, desk, wires)?;
+        offer = start_one(setting, programs, offer, core, desk, wires)?;
     }
     Ok(())
 }

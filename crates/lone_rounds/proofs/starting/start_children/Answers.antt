@@ -33,7 +33,7 @@ children-preserved g c =
     let new = c.start_one.new.core.journal in
     let same_opening = c.children.invariant.core.opening in
     let legal : Legal o new = subst (λ (w : Opening). Legal w new) (c.start_one.ensures.core.opening ∙ same_opening) (c.start_one.ensures.core.legal (subst (λ (w : Opening). Legal w cur) (sym same_opening) c.children.invariant.between.spaced.legal)) in
-    let after = next_start o c.children.core.opening c.args.plan.now.setup c.args.plan.now.offers c.args.plan.now.starts c.children.made c.children.offer c.in_ok-offer.offer c.args.plan.now.program cur new
+    let after = next_start o c.children.core.opening c.args.setting.now.plan.now.setup c.args.setting.now.plan.now.offers c.args.setting.now.plan.now.starts c.children.made c.children.offer c.in_ok-offer.offer c.args.setting.now.plan.now.program cur new
     (g.K.Desk.told c.args.desk.now) (g.K.Desk.told c.children.desk) (g.K.Desk.told c.start_one.new.desk)
     (g.P.Programs.told c.args.programs.now) (g.P.Programs.told c.children.programs) (g.P.Programs.told c.start_one.new.programs)
     c.children.wires.items

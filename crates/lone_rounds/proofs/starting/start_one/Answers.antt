@@ -30,11 +30,11 @@ returns-in-Child-clause-starts g c =
     let asked = g.P.Programs.told c.greet.new.programs in
     let link = c.meet-tagged.ensures.link in (
       Start child 0 c.args.offer,
-      subst (λ (next : Bool). Stint o c.args.plan.now.setup c.args.plan.now.starts c.args.offer next (Start child 0 c.args.offer) old new tells tells') (sym c.is_offered.ensures)
-          (met_stint o c.args.plan.now.setup c.args.plan.now.starts c.args.offer old mid new child c.requires.legal c.requires.left c.requires.rest c.in-Child.ensures.tells.0
+      subst (λ (next : Bool). Stint o c.args.setting.now.plan.now.setup c.args.setting.now.plan.now.starts c.args.offer next (Start child 0 c.args.offer) old new tells tells') (sym c.is_offered.ensures)
+          (met_stint o c.args.setting.now.plan.now.setup c.args.setting.now.plan.now.starts c.args.offer old mid new child c.requires.legal c.requires.left c.requires.rest c.in-Child.ensures.tells.0
           (subst (λ (w : Opening). Legal w mid) c.greet.ensures.core.opening (c.greet.ensures.core.legal c.requires.legal)) c.in-Child.came c.meet-tagged.result tells tells' c.in-Child.ensures.tells.1
-          (subst (λ (w : Opening). Meets w c.args.plan.now.setup child mid new c.in-Child.came c.meet-tagged.result tells tells') c.greet.ensures.core.opening c.meet-tagged.ensures.meets)),
-      starts_kept c.args.plan.now.program new child c.args.offer before asked.starts (g.P.Programs.told c.finish.new.programs) asked.faults
+          (subst (λ (w : Opening). Meets w c.args.setting.now.plan.now.setup child mid new c.in-Child.came c.meet-tagged.result tells tells') c.greet.ensures.core.opening c.meet-tagged.ensures.meets)),
+      starts_kept c.args.setting.now.plan.now.program new child c.args.offer before asked.starts (g.P.Programs.told c.finish.new.programs) asked.faults
           c.in-Child.link.ear c.meet-tagged.new.link.ear c.in-Child.link.mouth c.meet-tagged.new.link.mouth _ _
           (subst (λ (p : List ℕ). AddsOne before.starts asked.starts (p, true)) c.view-program.ensures c.in-Child.ensures.starts) c.finish.ensures.starts c.in-Child.ensures.later c.finish.ensures.later c.in-Child.ensures.numbers
           link.same_ear link.same_mouth refl c.meet-tagged.new.link.one_child (lone_held new c.meet-tagged.new.link.ear c.meet-tagged.new.link.mouth (link.wired c.in-Child.ensures.wired)) c.finish.ensures.laid,
@@ -48,9 +48,9 @@ returns-in-StartFault-clause-starts g c =
     let new = c.answer_one.new.core.journal in
     let tells = g.K.Desk.told c.args.desk.now in (
       NoStart 0,
-      fault_stint o c.args.plan.now.setup c.args.plan.now.starts c.args.offer old mid new tells c.requires.left c.requires.rest c.in-StartFault.ensures.tells c.answer_one.result
+      fault_stint o c.args.setting.now.plan.now.setup c.args.setting.now.plan.now.starts c.args.offer old mid new tells c.requires.left c.requires.rest c.in-StartFault.ensures.tells c.answer_one.result
           (subst (λ (w : Opening). AnswersOne w mid new (λ t. StartFault) c.answer_one.result) c.greet.ensures.core.opening c.answer_one.ensures.answers),
-      starts_none c.args.plan.now.program new (g.P.Programs.told c.args.programs.now)
+      starts_none c.args.setting.now.plan.now.program new (g.P.Programs.told c.args.programs.now)
           (g.P.Programs.told c.greet.new.programs) _ _ (subst (λ (p : List ℕ). AddsOne (g.P.Programs.told c.args.programs.now).starts (g.P.Programs.told c.greet.new.programs).starts (p, false)) c.view-program.ensures c.in-StartFault.ensures.starts) (c.in-StartFault.ensures.fault refl) c.in-StartFault.ensures.later refl,
     )
 
@@ -63,4 +63,4 @@ returns-in-NoMemory-clause-starts g c = record {
 }
 
 pub answer_one-requires-clause-rest : goal.answer_one-requires-clause-rest
-answer_one-requires-clause-rest g c = fault_rests c.args.core.now.opening c.args.plan.now.setup c.args.plan.now.starts c.args.offer c.args.core.now.journal c.greet.new.core.journal c.greet.new.core.journal (g.K.Desk.told c.args.desk.now) c.requires.left c.requires.rest c.in-StartFault.ensures.tells
+answer_one-requires-clause-rest g c = fault_rests c.args.core.now.opening c.args.setting.now.plan.now.setup c.args.setting.now.plan.now.starts c.args.offer c.args.core.now.journal c.greet.new.core.journal c.greet.new.core.journal (g.K.Desk.told c.args.desk.now) c.requires.left c.requires.rest c.in-StartFault.ensures.tells
