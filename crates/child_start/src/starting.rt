@@ -8,7 +8,7 @@ ghost use Rattle.link_roles.specs.Alone.{KeepsLink};
 ghost use Rattle.link_roles.specs.Doors.{IsSameDoor};
 ghost use Rattle.child_start.specs.Cores.{IsSameCore};
 ghost use Rattle.child_start.specs.declared.greeting.Mode.{Mode};
-ghost use Rattle.child_start.specs.Greetings.{CameTo, TellsFor, IfHasLink, StartsOnce, AreNumbered};
+ghost use Rattle.child_start.specs.Greetings.{TellsFor, IfHasLink, StartsOnce, AreNumbered};
 ghost use Rattle.child_start.specs.Stages.{asked_as, child_of, is_asked_for, last_request, HasBegun, IsMain, MayAsk, MayGreet, GreetsOn, AsksNext, Prepares, ComesTo, NotesStart, TellsOf};
 
 use crate::greeting::{Came, Greeting, Mode};
@@ -129,24 +129,18 @@ fn greet_link<I: Sink, O: Source>(
     core: &mut Core,
     offer: bool,
     mode: Mode,
-) -> Came
+) -> Option<Came>
     requires legal { Legal core.old.opening core.old.journal }
     requires begun { HasBegun core.old.journal link.old.ear.child offer }
     ensures on { GreetsOn mode core.old.journal core.new.journal link.old.ear.child }
-    ensures comes { CameTo mode core.new.journal link.old.ear.child result }
+    ensures comes { ComesTo mode core.new.journal link.old.ear.child result }
     ensures link { KeepsLink core.old.journal core.new.journal link.old.ear link.new.ear link.old.mouth link.new.mouth }
     ensures core { IsSameCore core.old core.new }
 {
     let mut door = OwnDoor { core };
     let unready = hear_and_ask(link, &mut door, offer, mode);
-    let OwnDoor { core } = door;
-    match unready {
-        Some(came) => came,
-        None => {
-            let tagged = core.tagged(link.child());
-            Came::Ready { tagged }
-        }
-    }
+    let OwnDoor { core: _ } = door;
+    unready
 }
 
 // The greeting of a child that was started, with its link and its stub.
@@ -165,8 +159,14 @@ fn greet_child<I: Sink, O: Source, S>(
     ensures core { IsSameCore core.old core.new }
 {
     let mut link = link;
-    let came = greet_link(&mut link, core, offer, mode);
-    Greeting::Child { link, stub, came }
+    match greet_link(&mut link, core, offer, mode) {
+        Some(came) => Greeting::Child { link, stub, came },
+        None => {
+            let tagged = core.tagged(link.child());
+            let came = Came::Ready { tagged };
+            Greeting::Child { link, stub, came }
+        }
+    }
 }
 
 fn child_of(reply: Reply) -> Option<u32>
