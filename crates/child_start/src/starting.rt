@@ -123,7 +123,7 @@ fn hear_and_ask<I: Sink, O: Source, D: Door>(
     }
 }
 
-// The greeting through the main thread's own door.
+// The same through the main thread's own door.
 fn greet_link<I: Sink, O: Source>(
     link: &mut Lone<I, O>,
     core: &mut Core,
