@@ -10,7 +10,7 @@ use Rattle.child_start.specs.Greetings.{CameTo}
 
 -- the job 1 of a child that isn't ready is not done
 pub unready_undone : (mode : Mode) (journal : List Entry) (c : ℕ) (came : Came) → ((tagged : Bool) → came ≡ Ready tagged → ⊥) → CameTo mode journal c came → is_done (verdict_of journal c 1) ≡ false
-unready_undone mode journal c (Ready tagged) no h = absurd (no tagged refl)
-unready_undone mode journal c (Refused verdict) no h = h.undone
-unready_undone mode journal c (Ended why) no h = h.undone
-unready_undone mode journal c Unsent no h = h.undone
+unready_undone mode journal c (Ready tagged) unready h = absurd (unready tagged refl)
+unready_undone mode journal c (Refused verdict) unready h = h.undone
+unready_undone mode journal c (Ended why) unready h = h.undone
+unready_undone mode journal c Unsent unready h = h.undone

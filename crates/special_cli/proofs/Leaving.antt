@@ -73,8 +73,8 @@ one_laid {ear} {mouth} {old} {new} laid none = go (subst (λ (xs : List WireValu
     go (wire, only, is) = (wire, only, is)
 
 -- a link that is kept keeps its start's number
-pub numbers_kept : {starts : Option Starts} {old new : List Entry} {ear ear' : EarValue} {mouth mouth' : MouthValue} → KeepsLink old new ear ear' mouth mouth' → AreNumbered starts ear mouth → AreNumbered starts ear' mouth'
-numbers_kept {starts} k n = (subst (IsNumbered starts) (sym k.same_mouth.1) n.0, subst (IsNumbered starts) (sym k.same_ear.1) n.1)
+pub numbers_kept : (starts : Option Starts) {old new : List Entry} {ear ear' : EarValue} {mouth mouth' : MouthValue} → KeepsLink old new ear ear' mouth mouth' → AreNumbered starts ear mouth → AreNumbered starts ear' mouth'
+numbers_kept starts k n = (subst (IsNumbered starts) (sym k.same_mouth.1) n.0, subst (IsNumbered starts) (sym k.same_ear.1) n.1)
 
 -- the one child's wire
 one_wire : (old new : Option Starts) (journal : List Entry) (x : List ℕ × Bool) (ear : EarValue) (mouth : MouthValue) (wires : List WireValue) → starts_in journal ≡ Start 1 0 false ∷ []

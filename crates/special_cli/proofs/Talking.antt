@@ -122,10 +122,10 @@ unsent_complete key old journal c none greeted h =
 -- a child that isn't ready has said why
 pub unready_complete : (key : Option (List ℕ)) (journal : List Entry) (c : ℕ) (came : Came) → Greeted [] journal 0 false c → ((tagged : Bool) → came ≡ Ready tagged → ⊥)
     → CameTo Serve journal c came → IsComplete key journal
-unready_complete key journal c (Ready tagged) greeted no h = absurd (no tagged refl)
-unready_complete key journal c (Refused verdict) greeted no h = refused_complete key [] journal c verdict refl greeted h
-unready_complete key journal c (Ended why) greeted no h = ended_complete key [] journal c why refl greeted h
-unready_complete key journal c Unsent greeted no h = unsent_complete key [] journal c refl greeted h
+unready_complete key journal c (Ready tagged) greeted unready h = absurd (unready tagged refl)
+unready_complete key journal c (Refused verdict) greeted unready h = refused_complete key [] journal c verdict refl greeted h
+unready_complete key journal c (Ended why) greeted unready h = ended_complete key [] journal c why refl greeted h
+unready_complete key journal c Unsent greeted unready h = unsent_complete key [] journal c refl greeted h
 
 -- ---- after the questions
 

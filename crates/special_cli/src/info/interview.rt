@@ -1,5 +1,5 @@
 // One start of the program, and what its child says of itself.
-ghost use Rattle.std.specs.Prelude.{◌≡◌, ◌<◌, [], true, IfSome, IfOk, IsErr, option_map, vec_capacity};
+ghost use Rattle.std.specs.Prelude.{◌≡◌, ◌<◌, [], true, false, IfSome, IfOk, IsErr, option_map, vec_capacity};
 ghost use Rattle.ann_key.specs.KeyRefs.{text_of};
 ghost use Rattle.annex_model.specs.Messages.{is_sent_key};
 ghost use Rattle.journal_model.specs.Legality.{Legal};

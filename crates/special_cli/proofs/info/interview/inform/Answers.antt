@@ -1,4 +1,4 @@
-use Rattle.std.proofs.Common.{List, [], ◌∷◌, ◌++◌, ap, refl, subst, ◌∙◌, arith}
+use Rattle.std.proofs.Common.{false, List, [], ◌∷◌, ◌++◌, ap, refl, subst, ◌∙◌, arith}
 use Rattle.journal_model.specs.declared.entry.What.TheVariants.{NoStart}
 use Rattle.journal_model.specs.declared.entry.Entry.{Entry}
 use Rattle.journal_model.proofs.Across.{nothing_legal}
@@ -35,7 +35,7 @@ returns-in-Child-clause-leaves g c =
     leaves_child _ (g.P.Programs.told c.greet.new.programs).starts (g.P.Programs.told c.args.programs.now) (g.P.Programs.told c.finish.new.programs) c.args.program.now
     c.close_child.new.core.journal c.interview-asked.new.link.ear c.interview-asked.new.link.mouth _
     (closed_starts (option_map text_of c.args.key) c.interview-asked.new.core.journal c.close_child.new.core.journal c.interview-asked.new.link.ear.child c.interview-asked.ensures.interviewed.0 c.close_child.ensures.closes)
-    c.in-Child.ensures.starts c.finish.ensures.starts (numbers_kept c.interview-asked.ensures.link c.in-Child.ensures.numbers) c.interview-asked.ensures.interviewed.0.first c.interview-asked.new.link.one_child
+    c.in-Child.ensures.starts c.finish.ensures.starts (numbers_kept _ c.interview-asked.ensures.link c.in-Child.ensures.numbers) c.interview-asked.ensures.interviewed.0.first c.interview-asked.new.link.one_child
     (c.close_child.ensures.wired (c.interview-asked.ensures.link.wired c.in-Child.ensures.wired)) (one_laid c.finish.ensures.laid c.requires.room.0)
     (let a = c.in-Child.ensures.later in let b = c.finish.ensures.later in omega (arith, a, b))
 
