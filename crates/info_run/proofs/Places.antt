@@ -1,6 +1,6 @@
 -- A journal place by place.
-use Rattle.std.proofs.Common.{◌≡◌, ◌∙◌, ℕ, zero, suc, ◌+◌, ◌-◌, ◌<◌, ◌≤◌, List, [], ◌++◌, refl, ap, Option, Some, None, length, arith}
-use Rattle.std.specs.Prelude.{option_and_then, filter_map}
+use Rattle.std.proofs.Common.{◌≡◌, ◌∙◌, ℕ, suc, ◌+◌, ◌-◌, ◌<◌, ◌≤◌, List, [], ◌++◌, refl, ap, Option, Some, None, length, arith}
+use Rattle.std.specs.Prelude.{filter_map}
 use Rattle.std.specs.List.{cons_option, range_with_len}
 use Rattle.annex_model.specs.Messages.{RemoteMessage}
 use Rattle.annex_model.specs.Talks.{said}

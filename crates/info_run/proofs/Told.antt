@@ -1,5 +1,5 @@
 -- The text of what is printed, piece by piece.
-use Rattle.std.proofs.Common.{◌≡◌, ◌∙◌, ℕ, suc, ◌+◌, ◌<◌, List, [], ◌∷◌, ◌++◌, refl, sym, ap, Bool, true, false, cond, Option, Some, None, append_assoc, append-nil, length, take, drop, get_or, arith, drop-cons}
+use Rattle.std.proofs.Common.{◌≡◌, ◌∙◌, ℕ, suc, ◌+◌, ◌<◌, List, [], ◌∷◌, ◌++◌, refl, sym, ap, Bool, true, false, cond, Option, Some, append_assoc, append-nil, length, drop, get_or, arith, drop-cons}
 use Rattle.std.specs.Prelude.{codes, is_some, map}
 use Rattle.std.specs.List.{cons_option}
 use Rattle.journal_model.specs.declared.verdict.Verdict.{Verdict}

@@ -1,16 +1,15 @@
 // What is printed of a run.
-ghost use Rattle.std.specs.Prelude.{◌≡◌, ◌≤◌, ◌+◌, ◌++◌, ◌∷◌, [], length, map, codes, if◌then◌else◌, IfOk, IfSome, List, option_map};
+ghost use Rattle.std.specs.Prelude.{◌≡◌, ◌≤◌, ◌+◌, ◌∷◌, [], length, map, codes, IfOk, IfSome, option_map};
 ghost use Rattle.std.specs.List.{cons_option};
 ghost use Rattle.ann_key.specs.KeyRefs.{text_of};
 ghost use Rattle.annex_model.specs.Lines.{text};
-ghost use Rattle.annex_model.specs.Messages.{HostMessage};
 ghost use Rattle.annex_model.specs.Talks.{said};
 ghost use Rattle.wire_msg.specs.Shown.{host_shown};
 ghost use Rattle.journal_model.specs.Parts.{part, item_at};
 ghost use Rattle.journal_model.specs.Output.{why_words};
 ghost use Rattle.journal_scan.specs.Spans.{IsSpan};
 ghost use Rattle.task_run.specs.TaskRuns.{refusal_of};
-ghost use Rattle.info_run.specs.Infos.{questions, lines_of, job_lines, questions_from, failed_words, gone_lines, unready_lines, child_lines, info_lines};
+ghost use Rattle.info_run.specs.Infos.{questions, lines_of, questions_from, failed_words, gone_lines, unready_lines, child_lines, info_lines};
 ghost use Rattle.info_run.specs.Tellings.{HasTold, HasPrinted, HasAnswered, mute_lines};
 
 use crate::informed::is_final;

@@ -1,7 +1,5 @@
 -- One job, asked through a door that others have too.
-use Rattle.std.specs.Prelude.{ℕ, Bool, List}
-use Rattle.journal_model.specs.declared.entry.Entry.{Entry}
-use Rattle.journal_model.specs.declared.opening.Opening.{Opening}
+use Rattle.std.specs.Prelude.{ℕ}
 use Rattle.journal_model.specs.declared.verdict.Verdict.{Verdict}
 use Rattle.talk_serial.specs.declared.request.Request.{Request}
 use Rattle.talk_serial.specs.Requests.{message_of, name_of}

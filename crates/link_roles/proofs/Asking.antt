@@ -31,7 +31,7 @@ use Rattle.link_roles.specs.declared.events.Asked.{Asked}
 use Rattle.link_roles.specs.declared.events.Asked.TheVariants.{Job, Lost, Odd}
 use Rattle.journal_model.specs.Shares.{Moved, by_asker, by_asking, is_of_child, is_heard, is_said}
 use Rattle.link_roles.specs.Doors.{Passed}
-use Rattle.link_roles.specs.Events.{IsAsked, IsJob}
+use Rattle.link_roles.specs.Events.{IsAsked}
 use Rattle.link_roles.specs.Asks.{HasAsked, lost_as, Grows, never}
 use Rattle.journal_model.specs.Halves.{EarValue, MouthValue, LinkWired}
 use Rattle.link_roles.proofs.Roles.{asked_on, moved_by, moved_on, moved_both, moved_from, moved_wider, moved_still}

@@ -6,7 +6,6 @@ use Rattle.journal_model.specs.declared.entry.What.{What}
 use Rattle.journal_model.specs.declared.entry.Entry.{Entry}
 use Rattle.journal_model.specs.declared.opening.Opening.{Opening}
 use Rattle.journal_model.specs.Journal.{any, starts, is_started, ends, is_ended, asks, asked_jobs}
-use Rattle.journal_model.specs.Legality.{Legal}
 use Rattle.journal_model.specs.Due.{made_by}
 use Rattle.journal_model.proofs.Looks.{any-append, each_of-append}
 use Rattle.std.proofs.lemmas.List.Folds.{list_any-append}

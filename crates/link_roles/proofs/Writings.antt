@@ -1,15 +1,14 @@
 -- What a link does, and what others do, keeps it that requests are written before they are answered.
-use Rattle.std.proofs.Common.{◌≡◌, ℕ, List, [], ◌∷◌, ◌++◌, ◌≤◌, refl, sym, ap, subst, ◌∙◌, Bool, true, false, not, Some, None, Option, append_assoc, append-nil, arith, inl, inr, length}
-use Rattle.std.specs.Prelude.{◌⊎◌, ◌==◌, ◌&&◌, ◌||◌, map}
+use Rattle.std.proofs.Common.{◌≡◌, ℕ, List, [], ◌∷◌, ◌++◌, refl, sym, ap, subst, ◌∙◌, Bool, true, false, not, Some, None, Option, append_assoc, append-nil, inl, inr, length}
+use Rattle.std.specs.Prelude.{◌==◌, ◌&&◌, ◌||◌, map}
 use Rattle.std.specs.List.{list_all, list_any}
 use Rattle.std.proofs.lemmas.List.{append_cancel_left}
 use Rattle.journal_model.specs.declared.verdict.Why.{Why}
-use Rattle.journal_model.specs.declared.verdict.Verdict.{Verdict}
 use Rattle.journal_model.specs.declared.verdict.Verdict.TheVariants.{Ended}
 use Rattle.annex_model.specs.Messages.{HostMessage}
 use Rattle.annex_model.specs.declared.final_line.Final.{Final}
 use Rattle.journal_model.specs.declared.entry.What.{What}
-use Rattle.journal_model.specs.declared.entry.What.TheVariants.{Ask, Got, End, Verdict as Settled}
+use Rattle.journal_model.specs.declared.entry.What.TheVariants.{Got, End, Verdict as Settled}
 use Rattle.journal_model.specs.declared.entry.Entry.{Entry}
 use Rattle.journal_model.specs.declared.opening.Opening.{Opening}
 use Rattle.journal_model.specs.Journal.{any, asked_jobs, is_ended, is_mute, is_unsent, mutes, open_jobs, unsent, verdict_of}
@@ -17,10 +16,9 @@ use Rattle.journal_model.specs.Legality.{Legal}
 use Rattle.journal_model.specs.Due.{due_by, ending, made_by, replying, verdict_at}
 use Rattle.journal_model.specs.Shares.{Moved, are_own, by_asker, by_ear, by_link, by_mouth, is_by_line, is_closed, is_heard, is_of_child, is_said}
 use Rattle.journal_model.specs.Halves.{EarValue, MouthValue, LinkWired, MouthWired}
-use Rattle.journal_model.proofs.Projecting.{invariant}
 use Rattle.journal_model.proofs.Soft.{got_cases}
 use Rattle.journal_model.proofs.Verdicts.{unasked_none}
-use Rattle.host_core.specs.Steps.{group_of, is_gone}
+use Rattle.host_core.specs.Steps.{group_of}
 use Rattle.link_roles.specs.declared.ear.Heard.{Heard}
 use Rattle.link_roles.specs.declared.ear.Heard.TheVariants.{Fed as HeardLine, Read as HeardMore, Over as HeardOver}
 use Rattle.link_roles.specs.declared.events.Asked.{Asked}
@@ -34,7 +32,7 @@ use Rattle.link_roles.proofs.Roles.{moved_by, moved_on, moved_from, moved_still,
 use Rattle.link_roles.proofs.Ears.{ending_by_ear, got_by_ear}
 use Rattle.link_roles.proofs.Linked.{any_narrower, ear_links, heard_of, link_apart, link_mouth, link_on, mouth_links, said_of}
 use Rattle.link_roles.proofs.Asking.{link_asked, asker_asks, none_made_of}
-use Rattle.link_roles.proofs.Settling.{all_kinds, written_more, unsent_same, Untouched}
+use Rattle.link_roles.proofs.Settling.{all_kinds, written_more, unsent_same}
 use Rattle.ann_key.proofs.Booleans.{and_assoc, left_false as either_left, right_false as either_right}
 use Rattle.std.proofs.lemmas.Bool.{and_parts as both}
 use Rattle.ann_key.proofs.Numbers.{same_number as same}

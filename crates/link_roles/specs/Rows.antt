@@ -1,5 +1,5 @@
 -- The journal of the worked check as far as its verdict, and changes of it.
-use Rattle.std.specs.Prelude.{List, [], ◌∷◌, ◌++◌, take, drop}
+use Rattle.std.specs.Prelude.{List, ◌∷◌, ◌++◌, take, drop}
 use Rattle.journal_model.specs.declared.entry.Entry.{Entry}
 use Rattle.journal_model.specs.declared.entry.What.TheVariants.{Mute}
 use Rattle.journal_model.specs.Rows.{check_present, by_main}

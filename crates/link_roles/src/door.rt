@@ -1,9 +1,4 @@
-ghost use Rattle.std.specs.Prelude.{◌≡◌, ℕ, List, [], ◌∷◌, Bool, true, IsOk};
-ghost use Rattle.journal_model.specs.declared.entry.Entry.{Entry};
-ghost use Rattle.journal_model.specs.declared.opening.Opening.{Opening};
-ghost use Rattle.journal_model.specs.Legality.{Legal, may_stop};
-ghost use Rattle.journal_model.specs.declared.verdict.Why.TheVariants.{Closed};
-ghost use Rattle.link_roles.specs.Alone.{Closes};
+ghost use Rattle.std.specs.Prelude.{◌≡◌, [], ◌∷◌, true, IsOk};
 ghost use Rattle.link_roles.specs.Doors.{Between, DoorView, IsSameDoor, Stepped, Waits};
 ghost use Rattle.host_core.specs.Steps.{takes_no_memory};
 

@@ -1,8 +1,8 @@
 // The events of roles, through any door, by what they do to the journal.
-ghost use Rattle.std.specs.Prelude.{◌≡◌, true, false, IsOk, IfOk, OnErr, IfErr};
+ghost use Rattle.std.specs.Prelude.{◌≡◌, true, false, IsOk, IfOk, OnErr};
 ghost use Rattle.annex_model.specs.Lines.{has_newline};
 ghost use Rattle.journal_model.specs.Journal.{is_started, is_ended, why_of, verdict_of};
-ghost use Rattle.journal_model.specs.Legality.{Legal, may_stop};
+ghost use Rattle.journal_model.specs.Legality.{may_stop};
 ghost use Rattle.journal_model.specs.declared.verdict.Why.TheVariants.{Closed};
 ghost use Rattle.link_roles.specs.Alone.{Closes};
 ghost use Rattle.host_core.specs.Steps.{is_asked, takes_no_memory};

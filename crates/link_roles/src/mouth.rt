@@ -1,5 +1,5 @@
 // A mouth writes to a child what the core has for it.
-ghost use Rattle.std.specs.Prelude.{◌≡◌, ◌≢◌, ◌<◌, ◌++◌, ◌∷◌, [], ℕ, true, false, take, None, IsFalse, OnOk, OnErr};
+ghost use Rattle.std.specs.Prelude.{◌≡◌, ◌<◌, ℕ, true, false, take, None, IsFalse, OnOk, OnErr};
 ghost use Rattle.journal_model.specs.declared.verdict.Why.TheVariants.{Memory};
 ghost use Rattle.std.specs.Io.KnownBytes.{Appends};
 ghost use Rattle.host_core.specs.declared.event.Event.TheVariants.{Fetch};

@@ -5,8 +5,8 @@ use Rattle.ann_outside.specs.Starts.{Starts}
 use Rattle.journal_model.specs.declared.entry.Entry.{Entry}
 use Rattle.journal_model.specs.Journal.{any}
 use Rattle.journal_model.specs.Shares.{is_of_child}
-use Rattle.child_end.specs.Programs.{AddsAll, told}
-use Rattle.child_end.specs.Wires.{IsOfStart, came}
+use Rattle.child_end.specs.Programs.{AddsAll}
+use Rattle.child_end.specs.Wires.{IsOfStart}
 use Rattle.gathering.specs.Laws.{Distinct, children_of}
 use Rattle.gathering.specs.Rounds.{LinkValue}
 use Rattle.lone_rounds.specs.Stints.{AreUpTo}

@@ -1,5 +1,5 @@
 -- Starts and claims that stand in their turn, as a journal grows.
-use Rattle.std.proofs.Common.{◌≡◌, ℕ, zero, suc, ◌+◌, ◌<◌, ◌≤◌, List, [], ◌∷◌, ◌++◌, refl, sym, ap, subst, ◌∙◌, append_assoc, append-nil, length, Bool, true, false, not, ◌==◌, cond, Some, None, Option, arith}
+use Rattle.std.proofs.Common.{◌≡◌, ℕ, ◌+◌, ◌<◌, ◌≤◌, List, [], ◌∷◌, ◌++◌, refl, sym, ap, subst, ◌∙◌, append_assoc, append-nil, length, Bool, true, false, not, ◌==◌, cond, Some, None, Option, arith}
 use Rattle.std.specs.Prelude.{◌&&◌, ◌||◌, filter, fold, min, option_and_then, unwrap_or}
 use Rattle.std.specs.List.{last_or}
 use Rattle.std.specs.Option.{option_or}

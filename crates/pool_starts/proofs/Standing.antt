@@ -14,7 +14,7 @@ use Rattle.journal_model.specs.Legality.{Legal, count, is_busy, is_prepared, is_
 use Rattle.journal_model.specs.Shares.{is_of_child}
 use Rattle.journal_model.proofs.Holding.{holder_append}
 use Rattle.journal_model.proofs.Looks.{any-append, each_of-append}
-use Rattle.journal_model.proofs.Testing.{all-each, all-join, by_either}
+use Rattle.journal_model.proofs.Testing.{all-each, all-join}
 use Rattle.host_core.specs.Steps.{unclaimed}
 use Rattle.child_start.proofs.Jobs.{idle_on}
 use Rattle.child_end.specs.Programs.{AddsAll, HaveStarted, RoseBy, is_failed_start, told, told_in}
