@@ -1,5 +1,5 @@
 -- A task that was claimed, run and answered, or left to be run again, has its run in the journal.
-use Rattle.std.proofs.Common.{◌≡◌, ℕ, ◌+◌, List, [], ◌∷◌, ◌++◌, refl, sym, ap, subst, ◌∙◌, Bool, true, false, not, ◌==◌, cond, Some, None, Option, arith, append_assoc, append-nil, length}
+use Rattle.std.proofs.Common.{◌≡◌, ℕ, ◌+◌, List, [], ◌∷◌, ◌++◌, refl, sym, ap, subst, ◌∙◌, Bool, true, false, ◌==◌, cond, Some, None, Option, arith, append_assoc, append-nil, length}
 use Rattle.std.specs.Prelude.{◌||◌, map, Result, Ok, Err, is_some}
 use Rattle.std.specs.List.{cons_option}
 use Rattle.std.proofs.lemmas.List.{append_cancel_left}
@@ -25,7 +25,7 @@ use Rattle.task_run.specs.Askers.{Asking, Noting}
 use Rattle.task_run.specs.declared.setup.Setup.{Setup}
 use Rattle.task_run.specs.Askings.{TaskStretch, asking_of, askings, askings_from, bounds_run, closing, noting_of, notings_from, run_askings, run_notings, run_turn}
 use Rattle.task_run.specs.declared.turn.TaskTurn.{TaskTurn}
-use Rattle.task_run.specs.Ran.{Ran, HasTaskCauses, answered, behind_more}
+use Rattle.task_run.specs.Ran.{HasTaskCauses, answered, behind_more}
 use Rattle.task_run.specs.Runs.{TaskRun}
 use Rattle.task_run.proofs.Askings.{asks_for, askings-append, askings_from-append, askings_from-none, askings-unasked}
 use Rattle.lone_work.specs.AtTasks.{notings}

@@ -1,7 +1,7 @@
 -- What a worker did, task by task.
 use Rattle.ann_outside.specs.Told.{DeskTold}
 use Rattle.std.proofs.Common.{◌≡◌, ℕ, ◌+◌, ◌-◌, List, [], ◌∷◌, ◌++◌, refl, sym, ap, subst, ◌∙◌, Bool, true, false, not, ◌==◌, append_assoc, append-nil, length, ◌<◌, ◌≤◌, arith, zero, suc}
-use Rattle.std.specs.Prelude.{◌||◌, map, slice_get, Result, Ok, Err, Some}
+use Rattle.std.specs.Prelude.{◌||◌, map, slice_get, Result, Ok, Some}
 use Rattle.std.specs.List.{list_all, list_any}
 use Rattle.std.proofs.lemmas.List.{append_cancel_left}
 use Rattle.ann_key.specs.declared.bytes.NoMemory.{NoMemory}
@@ -41,7 +41,7 @@ use Rattle.task_run.specs.Ran.{Ran, HasTaskCauses, answered, behind_more}
 use Rattle.lone_work.specs.AtTasks.{AtTask, SameTask, notings}
 use Rattle.lone_work.specs.KnownLayouts.{known_layouts}
 use Rattle.lone_work.specs.Servings.{HasTurn, by_server}
-use Rattle.lone_work.specs.Works.{AllRan, AreTasks, CanServe, Did, EndsClosing, Given, NoneAtWork, IsHeldUp, RanFor, TaskDone, TurnBegun, TurnDone, Worked, WorkedAlone, all_calls, by_task, by_worker, ends_closed, turns_of}
+use Rattle.lone_work.specs.Works.{AllRan, AreTasks, CanServe, Did, Given, NoneAtWork, IsHeldUp, RanFor, TurnBegun, TurnDone, Worked, WorkedAlone, all_calls, by_task, by_worker, ends_closed, turns_of}
 use Rattle.lone_work.proofs.Claiming.{can_on, found_between}
 use Rattle.lone_work.proofs.Doing.{did_both, did_make, did_pass, did_run, task_serves}
 use Rattle.lone_work.proofs.KeyNotes.{layouts_since_claim}

@@ -1,6 +1,6 @@
 -- What a worker did, task by task.
-use Rattle.std.proofs.Common.{◌≡◌, ℕ, ◌<◌, List, [], ◌∷◌, ◌++◌, refl, sym, ap, subst, ◌∙◌, Bool, true, false, not, ◌==◌, cond, Some, None, Option, arith, append_assoc, append-nil}
-use Rattle.std.specs.Prelude.{◌&&◌, ◌||◌, if◌then◌else◌, map}
+use Rattle.std.proofs.Common.{◌≡◌, ℕ, ◌<◌, List, [], ◌∷◌, ◌++◌, refl, sym, ap, subst, ◌∙◌, Bool, true, false, not, ◌==◌, cond, None, Option, arith, append_assoc, append-nil}
+use Rattle.std.specs.Prelude.{◌&&◌, ◌||◌, if◌then◌else◌}
 use Rattle.std.specs.List.{list_all, list_any, cons_option}
 use Rattle.ann_outside.specs.DeskCauses.{Counts}
 use Rattle.ann_outside.specs.declared.file_desk.Call.{Call}
@@ -9,24 +9,21 @@ use Rattle.journal_model.specs.declared.entry.What.{What}
 use Rattle.journal_model.specs.declared.entry.What.TheVariants.{Claim, Ask, Lost, Note, Answer as Answered, Again}
 use Rattle.journal_model.specs.declared.entry.Entry.{Entry}
 use Rattle.journal_model.specs.declared.opening.Opening.{Opening}
-use Rattle.journal_model.specs.Legality.{Legal, claims, turn_of_task}
+use Rattle.journal_model.specs.Legality.{Legal, claims}
 use Rattle.journal_model.specs.Makers.{is_taken_by}
 use Rattle.journal_model.specs.Room.{claims_left}
 use Rattle.journal_model.specs.Shares.{are_by, makes_only}
 use Rattle.journal_model.proofs.ClaimsLeft.{claims_left_less}
 use Rattle.journal_model.proofs.Looks.{entry}
-use Rattle.journal_model.proofs.Testing.{all-join}
 use Rattle.task_run.specs.declared.setup.Setup.{Setup}
 use Rattle.task_run.specs.declared.turn.TaskTurn.{TaskTurn}
 use Rattle.task_run.specs.Askings.{closing}
 use Rattle.lone_work.specs.Servings.{by_server}
 use Rattle.gathering.specs.Tasks.{claimed_turn, turns_by}
 use Rattle.gathering.proofs.Lasting.{run_stays}
-use Rattle.gathering.proofs.Turning.{turns_by-append}
 use Rattle.lone_work.specs.Works.{AllRan, CausedInTurn, RanFor, TaskDone, all_calls, by_worker, ends_closed, is_closing, turns_of}
 use Rattle.std.proofs.lemmas.Bool.{and_parts as both, eqb-true as same_number}
 use Rattle.ann_key.proofs.Booleans.{left_false as either_left, right_false as either_right, or_neither as neither}
-use Rattle.ann_key.proofs.Numbers.{same_number as same}
 
 -- ---- lists
 

@@ -1,11 +1,11 @@
 // Noting what chunks the remote has, and asking what was noted.
-ghost use Rattle.std.specs.Prelude.{◌≡◌, ◌<◌, true, IfOk, OnErr};
+ghost use Rattle.std.specs.Prelude.{◌≡◌, ◌<◌, true, IfOk};
 ghost use Rattle.host_core.specs.declared.event.Event.TheVariants.{Note};
 ghost use Rattle.journal_model.specs.Legality.{may_note, task_of};
 ghost use Rattle.task_run.specs.Askers.{are_layouts};
-ghost use Rattle.link_roles.specs.Doors.{IsSameDoor, Passed};
+ghost use Rattle.link_roles.specs.Doors.{IsSameDoor};
 ghost use Rattle.link_roles.specs.Asks.{Grows, never};
-ghost use Rattle.lone_work.specs.AtTasks.{AtTask, NotesNow, NotedFor, SameTask};
+ghost use Rattle.lone_work.specs.AtTasks.{AtTask, NotedFor, SameTask};
 ghost use Rattle.lone_work.specs.KnownLayouts.{IsBook, known_in, known_layouts};
 ghost use Rattle.lone_work.specs.Noting.{is_done, by_noting};
 

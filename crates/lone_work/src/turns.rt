@@ -1,7 +1,6 @@
 // The worker: it claims, runs and answers. One turn of it, which every worker takes, and the whole of one that is alone.
 ghost use Rattle.std.specs.Prelude.{◌≡◌, true, false};
 ghost use Rattle.annex_model.specs.Lines.{has_newline};
-ghost use Rattle.journal_model.specs.Room.{claims_left};
 ghost use Rattle.gathering.specs.Tasks.{IsThrough};
 ghost use Rattle.link_roles.specs.Alone.{KeepsLink};
 ghost use Rattle.link_roles.specs.Doors.{Between, IsSameDoor};

@@ -1,5 +1,4 @@
-use Rattle.std.proofs.Common.{◌∙◌, refl, sym, subst, ap, ℕ, Bool, List}
-use Rattle.journal_model.specs.declared.entry.Entry.{Entry}
+use Rattle.std.proofs.Common.{◌∙◌, refl, sym, subst, ap, ℕ, Bool}
 use Rattle.journal_model.specs.declared.opening.Opening.{Opening}
 use Rattle.link_roles.proofs.Roles.{same_both}
 use Rattle.link_roles.proofs.Solo.{still_alone}
