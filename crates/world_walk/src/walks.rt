@@ -152,29 +152,26 @@ fn begin(alloc: Global, seed: u64, tasks: u32) -> Result<World, NoMemory>
     World::new(alloc, opening, files)
 }
 
-// The world in which it ends.
-fn ended(alloc: Global, seed: u64, tasks: u32) -> Result<World, NoMemory>
+// Makes the moves of the walk. Then says how many answers count for each word, and how many tasks got the content of their keys.
+fn walk_in(
+    alloc: Global,
+    world: &mut World,
+    seed: u64,
+    tasks: u32,
+) -> Result<([u64; 7], u64), NoMemory>
     requires seed { seed < 2 ^ 32 }
     requires tasks { tasks ≤ MOST_TASKS }
-    ensures walked { IfOk result (Walked seed tasks) }
-    ensures stands { IfOk result Stands }
-    ensures opening { IfOk result (λ world. world.opening ≡ opening_of seed tasks) }
-    ensures files { IfOk result (ChangesFiles (first_world seed tasks)) }
+    requires few { length world.old.opening.tasks ≤ most_tasks }
+    requires stands { Stands world.old }
+    ensures walks { OnOk result (Walks seed world.old world.new) }
+    ensures opening { OnOk result (world.new.opening ≡ world.old.opening) }
+    ensures stands { OnOk result (Stands world.new) }
+    ensures files { OnOk result (ChangesFiles world.old world.new) }
+    ensures counts { IfOk result (λ n. (n.0 ≡ counts_in world.new) × (n.1 ≡ equal_in seed tasks world.new)) }
 {
-    let mut world = begin(alloc, seed, tasks)?;
-    make_moves(alloc, &mut world, seed)?;
-    Ok(world)
-}
-
-// How many of its answers count for each word, and how many tasks got the content of their keys.
-fn counted(alloc: Global, world: &World, seed: u32, tasks: u32) -> Result<([u64; 7], u64), NoMemory>
-    requires tasks { tasks ≤ MOST_TASKS }
-    requires few { length world.now.opening.tasks ≤ most_tasks }
-    ensures counts { IfOk result (λ n. n.0 ≡ counts_in world.now) }
-    ensures equal { IfOk result (λ n. n.1 ≡ equal_in seed tasks world.now) }
-{
+    make_moves(alloc, world, seed)?;
     let counts = counts_in(alloc, world)?;
-    let equal = equal_in(alloc, world, seed, tasks)?;
+    let equal = equal_in(alloc, world, seed as u32, tasks)?;
     Ok((counts, equal))
 }
 
@@ -192,8 +189,8 @@ pub fn walk(alloc: Global, seed: u64, tasks: u32) -> Result<Walk, NoMemory>
     ensures counts { IfOk result (λ walk. walk.counts ≡ counts_in walk.world) }
     ensures equal { IfOk result (λ walk. walk.equal ≡ equal_in seed tasks walk.world) }
 {
-    let world = ended(alloc, seed, tasks)?;
-    let (counts, equal) = counted(alloc, &world, seed as u32, tasks)?;
+    let mut world = begin(alloc, seed, tasks)?;
+    let (counts, equal) = walk_in(alloc, &mut world, seed, tasks)?;
     Ok(Walk {
         counts,
         equal,
