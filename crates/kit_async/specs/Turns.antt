@@ -1,7 +1,6 @@
 -- What a role of a kit did: by one turn more, by the thread that takes all turns, or since its thread began.
 use Rattle.std.specs.Prelude.{ℕ, ◌≡◌, List, Option}
-use Rattle.ann_outside.specs.declared.Sink.{Ghosts as SinkGhosts}
-use Rattle.ann_outside.specs.declared.Source.{Ghosts as SourceGhosts}
+use Rattle.ann_outside.specs.Told.{SinkTold, SourceTold}
 use Rattle.kit_core.specs.declared.remote.Remote.{Ghosts as RemoteGhosts}
 use Rattle.kit_async_core.specs.Halls.{KitHall, KitPass}
 use Rattle.kit_async_roles.specs.declared.why.Why.{Why}
@@ -30,20 +29,20 @@ abbrev pub WorkerWent : KitHall → ℕ → KitPass → HandValue → KitHall �
 WorkerWent h n p a g k q b = WorkerRan h n p q a b × (g ≡ h) × (k ≡ n)
 
 -- the same of the role that holds the pass
-abbrev pub ReaderGoes : {S R : Type 0} {g : SourceGhosts S} → Reader S R g → Reader S R g → Type 0
-ReaderGoes {g = g} a b = ReaderWent a.hall.now a.pass b.pass (ear_of (g.told a.source) a.splitter.bytes) (ear_of (g.told b.source) b.splitter.bytes) a.why b.why
+abbrev pub ReaderGoes : {S R : Type 0} → (S → SourceTold) → Reader S R → Reader S R → Type 0
+ReaderGoes told a b = ReaderWent a.hall.now a.pass b.pass (ear_of (told a.source) a.splitter.bytes) (ear_of (told b.source) b.splitter.bytes) a.why b.why
 
-abbrev pub WriterGoes : {W R : Type 0} {g : SinkGhosts W} → Writer W R g → Writer W R g → Type 0
-WriterGoes {g = g} a b = WriterWent a.hall.now a.pass b.pass (mouth_of (g.told a.sink)) (mouth_of (g.told b.sink)) a.why b.why
+abbrev pub WriterGoes : {W R : Type 0} → (W → SinkTold) → Writer W R → Writer W R → Type 0
+WriterGoes told a b = WriterWent a.hall.now a.pass b.pass (mouth_of (told a.sink)) (mouth_of (told b.sink)) a.why b.why
 
-abbrev pub WorkerGoes : {K R : Type 0} {g : RemoteGhosts K} → Worker K R g → Worker K R g → Type 0
-WorkerGoes {g = g} a b = WorkerWent a.hall.now a.number a.pass (hand_at g a.remote) b.hall.now b.number b.pass (hand_at g b.remote)
+abbrev pub WorkerGoes : {K R : Type 0} → RemoteGhosts K → Worker K R → Worker K R → Type 0
+WorkerGoes g a b = WorkerWent a.hall.now a.number a.pass (hand_at g a.remote) b.hall.now b.number b.pass (hand_at g b.remote)
 
 -- ---- since its thread began
 
 -- it did what it promises in its hall, from the role as it began to the role as it came back
-abbrev pub ReaderRuns : {S R : Type 0} {g : SourceGhosts S} → Reader S R g → Reader S R g → Type 0
-ReaderRuns {g = g} a b = ReaderRan a.hall.now a.pass b.pass (ear_of (g.told a.source) a.splitter.bytes) (ear_of (g.told b.source) b.splitter.bytes) b.why
+abbrev pub ReaderRuns : {S R : Type 0} → (S → SourceTold) → Reader S R → Reader S R → Type 0
+ReaderRuns told a b = ReaderRan a.hall.now a.pass b.pass (ear_of (told a.source) a.splitter.bytes) (ear_of (told b.source) b.splitter.bytes) b.why
 
-abbrev pub WriterRuns : {W R : Type 0} {g : SinkGhosts W} → Writer W R g → Writer W R g → Type 0
-WriterRuns {g = g} a b = WriterRan a.hall.now a.pass b.pass (mouth_of (g.told a.sink)) (mouth_of (g.told b.sink)) b.why
+abbrev pub WriterRuns : {W R : Type 0} → (W → SinkTold) → Writer W R → Writer W R → Type 0
+WriterRuns told a b = WriterRan a.hall.now a.pass b.pass (mouth_of (told a.sink)) (mouth_of (told b.sink)) b.why

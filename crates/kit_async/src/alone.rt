@@ -13,7 +13,7 @@ use std::sync::Wait;
 // One turn of each worker, and whether one of them did something.
 fn work_once<'a, K: Remote, R: Wait>(workers: &mut [Worker<'a, K, R>]) -> bool
     requires { All (λ w. Stands w.hall.now (w.number + 3) w.pass) workers.old }
-    ensures { Pairwise WorkerGoes workers.old workers.new }
+    ensures { Pairwise (WorkerGoes K.Remote) workers.old workers.new }
 {
     let mut went = false;
     for at in 0..workers.len() {
@@ -31,9 +31,9 @@ fn settle<'a, W: Sink, K: Remote, R: Wait>(
 )
     requires writer { Stands writer.old.hall.now 2 writer.old.pass × ((W.told writer.old.sink).is_open ≡ true) }
     requires workers { All (λ w. Stands w.hall.now (w.number + 3) w.pass) workers.old }
-    ensures wrote { WriterGoes writer.old writer.new }
+    ensures wrote { WriterGoes W.told writer.old writer.new }
     ensures writer { Stands writer.new.hall.now 2 writer.new.pass × ((W.told writer.new.sink).is_open ≡ true) × (writer.new.hall.now ≡ writer.old.hall.now) }
-    ensures workers { Pairwise WorkerGoes workers.old workers.new }
+    ensures workers { Pairwise (WorkerGoes K.Remote) workers.old workers.new }
 {
     let rt = writer.rt;
     for _ in rt.forever() {
@@ -55,9 +55,9 @@ pub(crate) fn serve_alone<'a, S: Source, W: Sink, K: Remote, R: Wait>(
     requires reader { Stands reader.old.hall.now 1 reader.old.pass × ((S.told reader.old.source).is_open ≡ true) × (reader.old.splitter.limit ≡ longest_line) }
     requires writer { Stands writer.old.hall.now 2 writer.old.pass × ((W.told writer.old.sink).is_open ≡ true) }
     requires workers { All (λ w. Stands w.hall.now (w.number + 3) w.pass) workers.old }
-    ensures read { ReaderGoes reader.old reader.new }
-    ensures wrote { WriterGoes writer.old writer.new }
-    ensures workers { Pairwise WorkerGoes workers.old workers.new }
+    ensures read { ReaderGoes S.told reader.old reader.new }
+    ensures wrote { WriterGoes W.told writer.old writer.new }
+    ensures workers { Pairwise (WorkerGoes K.Remote) workers.old workers.new }
 {
     let rt = reader.rt;
     for _ in rt.forever() {

@@ -143,9 +143,9 @@ fn serve_unless<'a, K: Remote, S: Source, W: Sink, R: Wait>(
     requires reader { Stands reader.old.hall.now 1 reader.old.pass × ((S.told reader.old.source).is_open ≡ true) × (reader.old.splitter.limit ≡ longest_line) }
     requires writer { Stands writer.old.hall.now 2 writer.old.pass × ((W.told writer.old.sink).is_open ≡ true) }
     requires workers { All (λ w. Stands w.hall.now (w.number + 3) w.pass) workers.old }
-    ensures read { ReaderGoes reader.old reader.new }
-    ensures wrote { WriterGoes writer.old writer.new }
-    ensures workers { Pairwise WorkerGoes workers.old workers.new }
+    ensures read { ReaderGoes S.told reader.old reader.new }
+    ensures wrote { WriterGoes W.told writer.old writer.new }
+    ensures workers { Pairwise (WorkerGoes K.Remote) workers.old workers.new }
 {
     if !ran {
         serve_alone(reader, writer, workers);
@@ -171,9 +171,9 @@ fn run<
     requires reader { Stands crew.ear.hall.now 1 crew.ear.pass × ((S.told crew.ear.source).is_open ≡ true) × (crew.ear.splitter.limit ≡ longest_line) × (crew.ear.why ≡ None) }
     requires writer { Stands crew.mouth.hall.now 2 crew.mouth.pass × ((W.told crew.mouth.sink).is_open ≡ true) × (crew.mouth.why ≡ None) }
     requires workers { All (λ w. Stands w.hall.now (w.number + 3) w.pass) crew.workers.items }
-    ensures read { ReaderRuns crew.entry.ear result.ear }
-    ensures wrote { WriterRuns crew.entry.mouth result.mouth }
-    ensures worked { Pairwise WorkerGoes crew.entry.workers.items result.workers.items }
+    ensures read { ReaderRuns S.told crew.entry.ear result.ear }
+    ensures wrote { WriterRuns W.told crew.entry.mouth result.mouth }
+    ensures worked { Pairwise (WorkerGoes K.Remote) crew.entry.workers.items result.workers.items }
 {
     let Crew {
         ear,

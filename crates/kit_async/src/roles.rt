@@ -29,7 +29,7 @@ impl<'a, S: Source, R: Wait> Role for Reader<'a, S, R> {
 
     ghost can_run = { λ s. Stands s.hall.now 1 s.pass × ((S.told s.source).is_open ≡ true) × (s.splitter.limit ≡ longest_line) };
 
-    ghost ran = { λ a b. ReaderRuns a b × (b.hall.now ≡ a.hall.now) × (b.splitter.limit ≡ longest_line) };
+    ghost ran = { λ a b. ReaderRuns S.told a b × (b.hall.now ≡ a.hall.now) × (b.splitter.limit ≡ longest_line) };
 
     fn run(self) -> Self {
         let Reader {
@@ -63,7 +63,7 @@ impl<'a, S: Source, R: Wait> Reader<'a, S, R> {
     /// One turn, by the thread that calls it, and whether something was done. Nothing is, once it ended by itself.
     pub(crate) fn turn(&mut self) -> bool
         requires can { Stands self.old.hall.now 1 self.old.pass × ((S.told self.old.source).is_open ≡ true) × (self.old.splitter.limit ≡ longest_line) }
-        ensures went { ReaderGoes self.old self.new }
+        ensures went { ReaderGoes S.told self.old self.new }
         ensures can { Stands self.new.hall.now 1 self.new.pass × ((S.told self.new.source).is_open ≡ true) × (self.new.splitter.limit ≡ longest_line) }
         ensures hall { self.new.hall.now ≡ self.old.hall.now }
     {
@@ -101,7 +101,7 @@ impl<'a, W: Sink, R: Wait> Role for Writer<'a, W, R> {
 
     ghost can_run = { λ s. Stands s.hall.now 2 s.pass × ((W.told s.sink).is_open ≡ true) };
 
-    ghost ran = { λ a b. WriterRuns a b × (b.hall.now ≡ a.hall.now) };
+    ghost ran = { λ a b. WriterRuns W.told a b × (b.hall.now ≡ a.hall.now) };
 
     fn run(self) -> Self {
         let Writer {
@@ -130,7 +130,7 @@ impl<'a, W: Sink, R: Wait> Writer<'a, W, R> {
     /// One turn, by the thread that calls it, and whether something was done. Nothing is, once it ended by itself.
     pub(crate) fn turn(&mut self) -> bool
         requires can { Stands self.old.hall.now 2 self.old.pass × ((W.told self.old.sink).is_open ≡ true) }
-        ensures went { WriterGoes self.old self.new }
+        ensures went { WriterGoes W.told self.old self.new }
         ensures can { Stands self.new.hall.now 2 self.new.pass × ((W.told self.new.sink).is_open ≡ true) }
         ensures hall { self.new.hall.now ≡ self.old.hall.now }
     {
@@ -161,7 +161,7 @@ impl<'a, K: Remote, R: Wait> Role for Worker<'a, K, R> {
 
     ghost can_run = { λ s. Stands s.hall.now (s.number + 3) s.pass };
 
-    ghost ran = { WorkerGoes };
+    ghost ran = { WorkerGoes K.Remote };
 
     fn run(self) -> Self {
         let Worker {
@@ -190,7 +190,7 @@ impl<'a, K: Remote, R: Wait> Worker<'a, K, R> {
     /// One turn, by the thread that calls it, and whether something was done.
     pub(crate) fn turn(&mut self) -> bool
         requires { Stands self.old.hall.now (self.old.number + 3) self.old.pass }
-        ensures { WorkerGoes self.old self.new }
+        ensures { WorkerGoes K.Remote self.old self.new }
     {
         let (rt, hall, number) = (self.rt, self.hall, self.number);
         work_turn(rt, hall, &mut self.pass, number, &mut self.remote).went()
