@@ -7,9 +7,10 @@ use Rattle.info_run.proofs.asking.ask_each.Given as goal
 
 abbrev pub invariant-loop-request : goal.invariant-loop-request
 invariant-loop-request g l =
-    let seen = g.D.Door.seen in
+    let before = g.D.Door.view l.fn.door in
+    let now = g.D.Door.view l.door in
     record {
-      goes : MayGoOn (map message_of (take l.request-index l.requests)) (seen l.fn.door) (seen l.door) l.fn.link.ear.child;
-      link : KeepsLink (seen l.fn.door) (seen l.door) l.fn.link.ear l.link.ear l.fn.link.mouth l.link.mouth;
-      door : IsSameDoor (g.D.Door.view l.fn.door) (g.D.Door.view l.door);
+      goes : MayGoOn (map message_of (take l.request-index l.requests)) before.seen now.seen l.fn.link.ear.child;
+      link : KeepsLink before.seen now.seen l.fn.link.ear l.link.ear l.fn.link.mouth l.link.mouth;
+      door : IsSameDoor before now;
     }
