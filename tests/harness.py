@@ -258,7 +258,7 @@ class Room:
         """Runs `special` in the room."""
         return self.run([SPECIAL, *words], input=input, env=env)
 
-    def run_tasks(self, program, tasks, *words, journal="journal", env=None):
+    def run_command(self, program, tasks, *words, journal="journal", env=None):
         """Does the tasks with `special run`, its journal in a file of the room."""
         words = ["run", "--program", program, "--uuid", UUID, "--work", ".", "--journal", journal, *words]
         return self.special(*words, input=tasks, env=env)

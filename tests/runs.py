@@ -18,7 +18,7 @@ def expect_run(room, program, tasks, out, *words, jobs=4, starts=1, children=1, 
     each task was claimed once and then answered once by the same thread, and
     that each child heard and said what the journal has.
     """
-    done = room.run_tasks(program, tasks, "--jobs", str(jobs), "--starts", str(starts), *words)
+    done = room.run_command(program, tasks, "--jobs", str(jobs), "--starts", str(starts), *words)
     expect(done.out, out, "what is printed")
     expect(done, (status_of(out), out, ""), "the status and the errors")
     expect(audit(room.text("journal")), (0, "legal\n", ""), "the audit")

@@ -32,7 +32,7 @@ def expect_answer(journal, task, answer, right, starts_left):
 
 def expect_agains(room, program, tasks, rights, *words, jobs, starts, again):
     """Does the tasks, and gives the journal. Each answer is the right one or that of the task's last run, and all else is as of any run."""
-    done = room.run_tasks(program, tasks, "--jobs", str(jobs), "--starts", str(starts), "--again", str(again), *words)
+    done = room.run_command(program, tasks, "--jobs", str(jobs), "--starts", str(starts), "--again", str(again), *words)
     expect(done, (status_of(done.out), done.out, ""), "the status and the errors")
     expect(audit(room.text("journal")), (0, "legal\n", ""), "the audit")
     journal = room.journal()

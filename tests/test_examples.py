@@ -46,7 +46,7 @@ def works_on_24_keys_by_eight_workers(room, program, children):
         ("check WORM--{n}", "absent"),
     ]:
         out = "".join(f"{n + 1} {answer}\n" for n in keys)
-        done = room.run_tasks(program, "".join(task.format(n=n) + "\n" for n in keys), "--jobs", "8", env=env)
+        done = room.run_command(program, "".join(task.format(n=n) + "\n" for n in keys), "--jobs", "8", env=env)
         expect(done, (status_of(out), out, ""), task)
         expect(len(room.journal().of("start")), children, "the number of children")
     expect([room.text(f"out {n}") for n in keys], [f"content of {n}" for n in keys], "what was got")

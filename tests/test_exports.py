@@ -339,7 +339,7 @@ require_start(line().decode(), "EXPORT n")
 def a_child_that_goes_between_a_name_and_its_request_is_told_once(room, last_words, answers):
     # What was written whole before it went is the schedule's.
     room.children("remote", HEARS_A_NAME + last_words, "greet()\nserve_exports({'m: REMOVEEXPORT WORM--b': 'REMOVE-SUCCESS WORM--b'})\n")
-    done = room.run_tasks("./remote", "xcheck WORM--a n\nxdrop WORM--b m\n", "--jobs", "1", "--starts", "2")
+    done = room.run_command("./remote", "xcheck WORM--a n\nxdrop WORM--b m\n", "--jobs", "1", "--starts", "2")
     require(done in [Done(1, f"1 {answer}\n2 dropped\n", "") for answer in answers], f"wanted one of {answers}, got {done}")
     expect(audit(room.text("journal")), Done(0, "legal\n", ""), "the audit")
     expect_pairs(room, "remote", room.journal(), 2)
@@ -354,7 +354,7 @@ def a_child_that_goes_between_a_name_and_its_request_is_told_once(room, last_wor
 def a_child_with_tags_ends_and_the_next_does_the_rest(room, body, answers):
     room.write("f", "hi")
     room.children("remote", body, TAGGED + "serve_exports({'z: CHECKPRESENTEXPORT WORM--z': 'CHECKPRESENT-SUCCESS WORM--z'})\n")
-    done = room.run_tasks("./remote", FIVE_TASKS + "xcheck WORM--z z\n", "--jobs", "5", "--starts", "2")
+    done = room.run_command("./remote", FIVE_TASKS + "xcheck WORM--z z\n", "--jobs", "5", "--starts", "2")
     journal = room.journal()
     rename = next((entry.parts[1] for entry in journal.of("lead") if entry.line.endswith(" EXPORT g")), None)
     out = "".join(f"{n} {answer.format(rename=rename)}\n" for n, answer in enumerate([*answers, "present"], 1))
@@ -380,7 +380,7 @@ def case_a_kit_knows_no_exports(room):
     room.write("keep", f"annex-keep 1\nconfig directory {room.mkdir('folder')}\n")
     tasks = "xcheck WORM--a n\n" + FIVE_TASKS + "check WORM--a\n"
     for jobs in ("1", "5"):
-        done = room.run_tasks(ANNEX_REMOTE_DIR, tasks, "--jobs", jobs, "--keep", "keep")
+        done = room.run_command(ANNEX_REMOTE_DIR, tasks, "--jobs", jobs, "--keep", "keep")
         expect(done, Done(1, "".join(f"{n} unsupported\n" for n in range(1, 7)) + "7 absent\n", ""), f"{jobs} jobs")
         expect(audit(room.text("journal")), Done(0, "legal\n", ""), "the audit")
     expect(os.listdir(room.path("folder")), [], "the remote's files")
@@ -389,7 +389,7 @@ def case_a_kit_knows_no_exports(room):
 def export(room, tasks, jobs):
     """Does the tasks over the small remote that exports into a folder."""
     env = {"REMOTE_DIR": room.mkdir("site")}
-    done = room.run_tasks(EXPORT, tasks, "--jobs", str(jobs), env=env)
+    done = room.run_command(EXPORT, tasks, "--jobs", str(jobs), env=env)
     expect(audit(room.text("journal")), Done(0, "legal\n", ""), "the audit")
     return done
 

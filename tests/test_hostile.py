@@ -51,7 +51,7 @@ def a_line_of_a_child_without_tags(room, line, answer):
 ])
 def a_line_of_a_child_with_tags(room, lines, answer):
     room.script("child.sh", TAGGED + "".join(map(printed, lines)))
-    done = room.run_tasks("./child.sh", "check WORM--a\n", "--jobs", "1", "--starts", "1")
+    done = room.run_command("./child.sh", "check WORM--a\n", "--jobs", "1", "--starts", "1")
     expect(done, (0 if answer == "present" else 1, f"1 {answer}\n", ""))
     expect(audit(room.text("journal")), (0, "legal\n", ""), "the audit")
 
@@ -95,7 +95,7 @@ def case_a_gibibyte_without_a_line_end(room):
 @limits(240)
 def case_a_child_that_fills_the_journal_is_ended(room):
     room.script("child.sh", ASKED + "yes 'PROGRESS 1' | head -n 7999988\n")
-    done = room.run_tasks("./child.sh", f"check {E}\n", "--jobs", "1", "--starts", "1")
+    done = room.run_command("./child.sh", f"check {E}\n", "--jobs", "1", "--starts", "1")
     expect(done, (1, "1 ended full\n", ""))
     with open(room.path("journal"), "rb") as journal:
         journal.seek(-120, os.SEEK_END)
@@ -291,7 +291,7 @@ class Trial:
         jobs = self.random.randint(1, 8)
         words = ["--jobs", str(jobs), "--starts", str(self.random.randint(1, 4)), "--chunk", self.random.choice(["0", "2"]),
                  "--again", self.random.choice(["0", "1", "8"])]
-        done = self.room.run_tasks(self.program, "".join(task + "\n" for task in tasks), *words, journal=f"journal-{self.seed}")
+        done = self.room.run_command(self.program, "".join(task + "\n" for task in tasks), *words, journal=f"journal-{self.seed}")
         require(done.status in (0, 1) and done.err == "", f"{self}: run gave {done}")
         self.check_answers(done, len(tasks))
         expect(audit(self.room.text(f"journal-{self.seed}")), (0, "legal\n", ""), f"{self}: the audit")

@@ -259,7 +259,7 @@ def mirrored(room):
 
 def tasks(room, words, answer):
     """Does the tasks over the mirror, and expects each to be answered so."""
-    done = room.run_tasks("./mirror", "".join(line + "\n" for line in words), "--keep", "kept")
+    done = room.run_command("./mirror", "".join(line + "\n" for line in words), "--keep", "kept")
     wanted = "".join(f"{n} {answer}\n" for n in range(1, len(words) + 1))
     expect(done.out, wanted, "the answers")
 

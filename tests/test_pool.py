@@ -191,7 +191,7 @@ def case_all_children_of_two_pools_end_one_by_one(room):
     child = 'greet()\nkey = hear().split(" ")[1]\nsay("CHECKPRESENT-SUCCESS " + key)\nhear()\n'
     room.children("remote", *[child] * 6)
     words = ["--jobs", "3", "--starts", "2"]
-    done = room.run_tasks("./remote", checks(*range(14)), *words)
+    done = room.run_command("./remote", checks(*range(14)), *words)
     lines = done.out.splitlines()
     require(done.status == 1 and done.err == "", f"the status is {done.status}, and err has {done.err!r}")
     expect(lines[12:], ["13 nochild", "14 nochild"], "the tasks that are left")

@@ -65,7 +65,7 @@ class Remote:
         """What a run prints that does this with all keys. What the remote writes to standard error is passed over."""
         self.room.write("keep", self.keep)
         words = ["--keep", "keep", "--jobs", str(self.jobs)]
-        return self.room.run_tasks(self.program, keys.tasks(word), *words, env=self.env).out
+        return self.room.run_command(self.program, keys.tasks(word), *words, env=self.env).out
 
     def expect_all_done(self, count):
         """Each key is stored, checked, got and dropped, and then absent."""

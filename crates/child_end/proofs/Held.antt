@@ -13,11 +13,11 @@ use Rattle.journal_model.proofs.Heard.{heard_on}
 use Rattle.journal_model.proofs.Mouths.{mouth_apart}
 use Rattle.journal_model.proofs.Turns.{tagged_on}
 use Rattle.journal_model.proofs.Soft.{IsSoft, soft_stretch}
-use Rattle.link_roles.specs.Alone.{Closes}
-use Rattle.link_roles.specs.Writings.{LoneWired}
-use Rattle.link_roles.proofs.Linked.{any_narrower, heard_of, link_apart, said_of}
-use Rattle.link_roles.proofs.Roles.{all_left}
-use Rattle.link_roles.proofs.Writings.{written_apart, written_on}
+use Rattle.child_link.specs.Alone.{Closes}
+use Rattle.child_link.specs.Writings.{LoneWired}
+use Rattle.child_link.proofs.Linked.{any_narrower, heard_of, link_apart, said_of}
+use Rattle.child_link.proofs.Roles.{all_left}
+use Rattle.child_link.proofs.Writings.{written_apart, written_on}
 use Rattle.child_end.specs.Wires.{IsHeld, is_mains, is_served_alone}
 use Rattle.ann_key.proofs.Booleans.{or_left, or_right}
 

@@ -7,7 +7,7 @@ use Rattle.journal_model.specs.declared.entry.What.TheVariants.{Start, NoStart}
 use Rattle.journal_model.specs.declared.entry.Entry.{Entry}
 use Rattle.journal_model.specs.Journal.{each_of}
 use Rattle.journal_model.specs.Legality.{count}
-use Rattle.link_roles.specs.Wires.{WireValue}
+use Rattle.child_link.specs.Wires.{WireValue}
 use Rattle.child_end.specs.Wires.{AreWires, came}
 
 -- what programs tell of the entry, where it is a start of this program

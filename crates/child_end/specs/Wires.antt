@@ -9,8 +9,8 @@ use Rattle.journal_model.specs.Journal.{each_of, is_tagged}
 use Rattle.journal_model.specs.Wires.{Wired, Caused, is_heard_in_turn}
 use Rattle.journal_model.specs.Halves.{EarValue, MouthValue, LinkWired}
 use Rattle.journal_model.specs.Shares.{is_of_child}
-use Rattle.link_roles.specs.Wires.{IsLeft, WireValue}
-use Rattle.link_roles.specs.Writings.{is_written_first}
+use Rattle.child_link.specs.Wires.{IsLeft, WireValue}
+use Rattle.child_link.specs.Writings.{is_written_first}
 
 -- the child that a start gave, or none
 abbrev pub came_in : What → Option (Option ℕ)

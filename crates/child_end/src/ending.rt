@@ -4,16 +4,16 @@ ghost use Rattle.ann_outside.specs.Causes.{Stays};
 ghost use Rattle.journal_model.specs.declared.verdict.Why.TheVariants.{Closed};
 ghost use Rattle.journal_model.specs.Journal.{is_started};
 ghost use Rattle.journal_model.specs.Legality.{may_stop};
-ghost use Rattle.link_roles.specs.Writings.{LoneWired};
-ghost use Rattle.link_roles.specs.Alone.{Closes};
-ghost use Rattle.link_roles.specs.Doors.{IsSameDoor};
+ghost use Rattle.child_link.specs.Writings.{LoneWired};
+ghost use Rattle.child_link.specs.Alone.{Closes};
+ghost use Rattle.child_link.specs.Doors.{IsSameDoor};
 ghost use Rattle.child_start.specs.Cores.{IsSameCore};
 ghost use Rattle.child_end.specs.Wires.{IsHeld, IsLaid};
 
 use ann_outside::{Programs, Sink, Source};
+use child_link::{Door, Lone, OwnDoor, Wire};
 use child_start::wait_for;
 use host_core::Core;
-use link_roles::{Door, Lone, OwnDoor, Wire};
 
 // The same over any door of the main thread's.
 fn close_over<I: Sink, O: Source, D: Door>(link: &Lone<I, O>, door: &mut D)

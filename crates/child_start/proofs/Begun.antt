@@ -19,8 +19,8 @@ use Rattle.journal_model.proofs.Linking.{Adds, nothing_both, why_is_end}
 use Rattle.journal_model.proofs.Ears.{ear_start}
 use Rattle.journal_model.proofs.Mouths.{mouth_start}
 use Rattle.journal_model.specs.Halves.{EarValue, MouthValue}
-use Rattle.link_roles.specs.Writings.{LoneWired}
-use Rattle.link_roles.proofs.Writings.{written_unasked}
+use Rattle.child_link.specs.Writings.{LoneWired}
+use Rattle.child_link.proofs.Writings.{written_unasked}
 use Rattle.journal_model.proofs.Heard.{heard_on}
 use Rattle.journal_model.proofs.Projecting.{invariant}
 use Rattle.annex_model.specs.Extensions.{names_of}

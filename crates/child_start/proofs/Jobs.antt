@@ -15,7 +15,7 @@ use Rattle.journal_model.specs.Legality.{offered_names}
 use Rattle.journal_model.proofs.Looks.{any-append, each_of-append}
 use Rattle.host_core.specs.Steps.{group_of, next_job}
 use Rattle.journal_model.specs.Shares.{by_link}
-use Rattle.link_roles.specs.Alone.{GoesOn, AskedAlone, IsSettled, IsLost}
+use Rattle.child_link.specs.Alone.{GoesOn, AskedAlone, IsSettled, IsLost}
 use Rattle.ann_key.proofs.Booleans.{or_false}
 use Rattle.std.proofs.lemmas.Bool.{and_parts as both}
 use Rattle.ann_key.proofs.Numbers.{same_number as same}

@@ -16,7 +16,7 @@ use Rattle.journal_model.proofs.Looks.{any-append, each_of-append}
 use Rattle.journal_model.proofs.Linking.{why_alone, why_is_end}
 use Rattle.host_core.specs.Steps.{next_job, may_request}
 use Rattle.journal_model.specs.Shares.{is_closed}
-use Rattle.link_roles.specs.Alone.{GoesOn}
+use Rattle.child_link.specs.Alone.{GoesOn}
 use Rattle.child_start.specs.declared.starting.RequestOutcome.{RequestOutcome}
 use Rattle.child_start.specs.declared.starting.RequestOutcome.TheVariants.{Done, Refused, Gone}
 use Rattle.child_start.specs.declared.greeting.Mode.{Mode}

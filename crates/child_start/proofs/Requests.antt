@@ -25,16 +25,16 @@ use Rattle.talk_serial.specs.Requests.{message_of, name_of}
 use Rattle.talk_serial.proofs.Reading.{unnamed}
 use Rattle.host_core.specs.Steps.{group_of, is_gone, is_named_well, next_job, may_request}
 use Rattle.journal_model.specs.Shares.{are_by, by_link}
-use Rattle.link_roles.specs.Asks.{lost_as}
-use Rattle.link_roles.specs.Alone.{GoesOn, AskedAlone, IsSettled, IsLost}
+use Rattle.child_link.specs.Asks.{lost_as}
+use Rattle.child_link.specs.Alone.{GoesOn, AskedAlone, IsSettled, IsLost}
 use Rattle.child_start.specs.declared.greeting.Mode.{Mode}
 use Rattle.child_start.specs.declared.greeting.Mode.TheVariants.{Serve, Init}
 use Rattle.child_start.specs.Greetings.{is_greeting_line_for, is_of_greeting_for, is_initremote, asks_for, is_refusal, loses}
 use Rattle.child_start.specs.Stages.{asked_as, is_greeting, is_asked_for, GreetsOn, IsGoneNext, AsksNext}
 use Rattle.child_start.proofs.Jobs.{goes_jobs, goes_idle, jobs_settled, jobs_lost, idle_asked}
 use Rattle.child_start.proofs.Losing.{count_behind, count_none, links_unlost, unlost_on}
-use Rattle.link_roles.proofs.Roles.{all-append as all_both, by_append as main_both}
-use Rattle.link_roles.proofs.Settling.{gone_more as gone_on}
+use Rattle.child_link.proofs.Roles.{all-append as all_both, by_append as main_both}
+use Rattle.child_link.proofs.Settling.{gone_more as gone_on}
 use Rattle.std.proofs.lemmas.Bool.{and_parts as both, eqb-true as same_number}
 use Rattle.ann_key.proofs.Numbers.{same_number as same}
 use Rattle.ann_key.proofs.Booleans.{or_true}

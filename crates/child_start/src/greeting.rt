@@ -1,6 +1,6 @@
 use ann_outside::{Sink, Source};
+use child_link::Lone;
 use journal_model::{Verdict, Why};
-use link_roles::Lone;
 
 /// What a child is prepared for.
 #[derive(Clone, Copy, Debug, PartialEq, Eq)]

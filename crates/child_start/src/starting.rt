@@ -2,10 +2,10 @@ ghost use Rattle.std.specs.Prelude.{◌≡◌, ◌≤◌, ◌<◌, ◌++◌, ◌
 ghost use Rattle.ann_outside.specs.Causes.{Rose, Stays};
 ghost use Rattle.journal_model.specs.declared.entry.What.TheVariants.{NoStart};
 ghost use Rattle.journal_model.specs.Legality.{Legal, count, is_start};
-ghost use Rattle.link_roles.specs.Writings.{LoneWired};
+ghost use Rattle.child_link.specs.Writings.{LoneWired};
 ghost use Rattle.talk_serial.specs.Requests.{message_of};
-ghost use Rattle.link_roles.specs.Alone.{KeepsLink};
-ghost use Rattle.link_roles.specs.Doors.{IsSameDoor};
+ghost use Rattle.child_link.specs.Alone.{KeepsLink};
+ghost use Rattle.child_link.specs.Doors.{IsSameDoor};
 ghost use Rattle.child_start.specs.Cores.{IsSameCore};
 ghost use Rattle.child_start.specs.declared.greeting.Mode.{Mode};
 ghost use Rattle.child_start.specs.Greetings.{TellsFor, IfHasLink, StartsOnce, AreNumbered};
@@ -14,9 +14,9 @@ ghost use Rattle.child_start.specs.Stages.{asked_as, child_of, is_asked_for, las
 use crate::greeting::{Came, Greeting, Mode};
 use ann_key::NoMemory;
 use ann_outside::{Programs, Sink, Source, StartError, Started};
+use child_link::{Door, Lone, OwnDoor};
 use host_core::{Core, Event, Reply};
 use journal_model::Verdict;
-use link_roles::{Door, Lone, OwnDoor};
 use std::alloc::Global;
 use talk_serial::Request;
 

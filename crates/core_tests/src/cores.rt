@@ -3,9 +3,9 @@ use crate::openings::{CHECK, opening};
 use crate::{ends, requests, words};
 use ann_key::{Bytes, NoMemory};
 use chunk_log::Layouts;
-use entry_text::{said, text_of};
 use host_core::{Core, Event, Reply};
 use std::alloc::{AllocError, Global};
+use test_entry_text::{said, text_of};
 
 /// Who tells the events that come, and of what.
 #[derive(Clone, Copy)]

@@ -1,4 +1,4 @@
-use crew_round::Role;
+use crew_threads::Role;
 use std::sync::atomic::{AtomicU64, Ordering};
 
 /// A role that counts its run in a number which all share.

@@ -2,7 +2,7 @@ ghost use Rattle.std.specs.Prelude.{◌≡◌, ◌<◌, IfOk, vec_len};
 
 use crate::counting::Counting;
 use ann_key::NoMemory;
-use crew_round::{Back, Crew, Room, run_crew, run_workers};
+use crew_threads::{Back, Crew, Room, run_crew, run_workers};
 use std::alloc::{AllocError, Global};
 use std::sync::Wait;
 use std::sync::atomic::{AtomicU64, Ordering};

@@ -8,7 +8,7 @@ use Rattle.chunk_log.specs.declared.note.Note.{Note}
 use Rattle.keep_text.specs.KeptFiles.{written_line, written_note}
 use Rattle.journal_model.specs.declared.entry.Entry.{Entry}
 use Rattle.journal_model.specs.declared.opening.Opening.{Opening}
-use Rattle.entry_lines.specs.Entries.{entry_line}
+use Rattle.journal_entries.specs.Entries.{entry_line}
 
 -- a word, a space, and a text
 abbrev pub worded : List ℕ → List ℕ → List ℕ

@@ -3,12 +3,12 @@ ghost use Rattle.std.specs.Prelude.{◌≡◌, ◌++◌, ◌∷◌, [], ◌<◌,
 ghost use Rattle.reg_file.specs.RegLines.{line_of, lines_of};
 ghost use Rattle.chunk_log.specs.NoteBooks.{IsNote};
 ghost use Rattle.keep_text.specs.KeptFiles.{written_note};
-ghost use Rattle.entry_lines.specs.Entries.{entry_line};
+ghost use Rattle.journal_entries.specs.Entries.{entry_line};
 ghost use Rattle.journal_lines.specs.JournalTexts.{worded, first_lines, last_lines, task_line, keep_line, kept_lines, journal_lines, told, end_line};
 
 use ann_key::{Bytes, NoMemory};
 use chunk_log::Note;
-use entry_lines::print_lent;
+use journal_entries::print_lent;
 use journal_look::Journal;
 use journal_model::Opening;
 use keep_text::{note_line, register_line};

@@ -5,8 +5,8 @@ use Rattle.task_text.specs.TaskLines.{line_of, IsTask}
 use Rattle.task_text.specs.declared.task.Task.{Task}
 use Rattle.task_text.proofs.Spelled.{at_most_one}
 use Rattle.journal_model.specs.declared.entry.Entry.{Entry}
-use Rattle.entry_lines.specs.Entries.{entry_line, entry_at, IsEntry}
-use Rattle.entry_lines.proofs.EntryBack.{entry_back}
+use Rattle.journal_entries.specs.Entries.{entry_line, entry_at, IsEntry}
+use Rattle.journal_entries.proofs.EntryBack.{entry_back}
 use Rattle.journal_lines.specs.JournalTexts.{Told, worded, head, task_line, end_line}
 use Rattle.journal_reader.specs.Readings.{Reading, Goes, Follows, after_stamp}
 use Rattle.journal_reader.specs.Runs.{Reads}

@@ -14,7 +14,7 @@ use Rattle.keep_text.proofs.WrittenLines.{Written, lines_written, notes_written}
 use Rattle.journal_model.specs.declared.entry.Entry.{Entry}
 use Rattle.journal_model.specs.declared.opening.Identity.{Identity}
 use Rattle.journal_model.specs.declared.opening.Opening.{Opening}
-use Rattle.entry_lines.specs.Entries.{IsEntry}
+use Rattle.journal_entries.specs.Entries.{IsEntry}
 use Rattle.journal_lines.specs.JournalTexts.{told, kept_lines}
 use Rattle.journal_reader.specs.Openings.{IsTellable, IsReadBack}
 use Rattle.journal_reader.specs.RunTexts.{IsTold}

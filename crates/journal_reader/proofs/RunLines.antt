@@ -7,8 +7,8 @@ use Rattle.chunk_log.specs.ChunkLines.{number_in}
 use Rattle.journal_model.specs.declared.answer.Answer.TheVariants.{Unsent}
 use Rattle.journal_model.specs.declared.entry.What.TheVariants.{Again as RunAgain}
 use Rattle.journal_model.specs.declared.entry.Entry.{Entry}
-use Rattle.entry_lines.specs.Entries.{entry_at, entry_line, IsEntry}
-use Rattle.entry_lines.proofs.EntryBack.{entry_back}
+use Rattle.journal_entries.specs.Entries.{entry_at, entry_line, IsEntry}
+use Rattle.journal_entries.proofs.EntryBack.{entry_back}
 use Rattle.journal_lines.specs.JournalTexts.{Told, head, again_line, end_line}
 use Rattle.journal_reader.specs.RunTexts.{may_stand}
 use Rattle.journal_reader.specs.Readings.{Goes, CannotGo, nothing_told}

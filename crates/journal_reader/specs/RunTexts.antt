@@ -8,7 +8,7 @@ use Rattle.task_text.specs.declared.task.Task.{Task}
 use Rattle.journal_model.specs.declared.entry.What.{What}
 use Rattle.journal_model.specs.declared.entry.What.TheVariants.{Again}
 use Rattle.journal_model.specs.declared.entry.Entry.{Entry}
-use Rattle.entry_lines.specs.Entries.{entry_line, IsEntry}
+use Rattle.journal_entries.specs.Entries.{entry_line, IsEntry}
 use Rattle.keep_text.specs.Orders.{is_written_line, comes_before}
 use Rattle.journal_lines.specs.JournalTexts.{Told, told_lines, worded}
 

@@ -7,7 +7,7 @@ use crate::place::Place;
 use crate::reader::Reader;
 use crate::typed::is_entry;
 use ann_key::NoMemory;
-use entry_lines::read_entry;
+use journal_entries::read_entry;
 use journal_model::{Entry, What};
 use std::alloc::Global;
 

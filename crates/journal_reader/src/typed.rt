@@ -2,11 +2,11 @@
 ghost use Rattle.std.specs.Prelude.{◌≡◌, ◌↔◌, IsTrue, not, length};
 ghost use Rattle.hex.specs.Hex.{IsBytes};
 ghost use Rattle.annex_model.specs.Lines.{has_newline};
-ghost use Rattle.entry_lines.specs.Answers.{IsAnswer};
-ghost use Rattle.entry_lines.specs.Digits.{IsDigest};
-ghost use Rattle.entry_lines.specs.Entries.{IsEntry, IsWhat};
-ghost use Rattle.entry_lines.specs.Verdicts.{IsVerdict};
-ghost use Rattle.entry_lines.specs.Whys.{IsWhy};
+ghost use Rattle.journal_entries.specs.Answers.{IsAnswer};
+ghost use Rattle.journal_entries.specs.Digits.{IsDigest};
+ghost use Rattle.journal_entries.specs.Entries.{IsEntry, IsWhat};
+ghost use Rattle.journal_entries.specs.Verdicts.{IsVerdict};
+ghost use Rattle.journal_entries.specs.Whys.{IsWhy};
 
 use crate::fields::has_newline;
 use ann_digest::Digest;

@@ -4,7 +4,7 @@ use Rattle.std.specs.List.{list_any}
 use Rattle.ann_outside.specs.Causes.{Rose}
 use Rattle.ann_outside.specs.Told.{SinkTold, SourceTold}
 use Rattle.hall.specs.Passes.{HasClosed}
-use Rattle.crew_round.proofs.Dealing.{map_map}
+use Rattle.crew_threads.proofs.Dealing.{map_map}
 use Rattle.kit_core.specs.declared.call.Call.{Call}
 use Rattle.kit_async_model.specs.declared.entry.Entry.{Entry}
 use Rattle.kit_async_model.specs.declared.entry.Entry.TheVariants.{Say}

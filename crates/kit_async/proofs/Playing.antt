@@ -4,11 +4,11 @@ use Rattle.std.specs.Prelude.{All, reverse}
 use Rattle.std.proofs.Math.Seq.{append_snoc}
 use Rattle.std.proofs.lemmas.List.{reverse-append, reverse-reverse}
 use Rattle.std.proofs.lemmas.List.Elements.{All-nil, All-cons, All-head, All-tail}
-use Rattle.gathering.specs.Pairs.{Pairwise}
+use Rattle.crew_laws.specs.Pairs.{Pairwise}
 use Rattle.hall.specs.Log.{flat}
 use Rattle.hall.specs.declared.view.Link.{Link}
 use Rattle.hall.specs.Passes.{IsPassOf, seen_of}
-use Rattle.crew_round.proofs.Dealing.{all_reverse}
+use Rattle.crew_threads.proofs.Dealing.{all_reverse}
 use Rattle.kit_async_model.specs.declared.entry.Entry.{Entry}
 use Rattle.kit_async_core.specs.Halls.{KitHall, KitPass}
 use Rattle.kit_async_roles.specs.Calling.{HandValue, WorkerRan}

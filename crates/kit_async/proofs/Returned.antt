@@ -4,9 +4,9 @@ use Rattle.std.specs.Prelude.{All, reverse}
 use Rattle.std.proofs.Math.Seq.{append_snoc}
 use Rattle.std.proofs.lemmas.List.{length-map, length-reverse}
 use Rattle.std.proofs.lemmas.List.Elements.{All-nil, All-cons, All-head, All-tail}
-use Rattle.gathering.specs.Pairs.{Pairwise}
+use Rattle.crew_laws.specs.Pairs.{Pairwise}
 use Rattle.hall.specs.Passes.{IsPassOf}
-use Rattle.crew_round.proofs.Dealing.{all_reverse, map_map, pairwise_length, pairwise_reverse}
+use Rattle.crew_threads.proofs.Dealing.{all_reverse, map_map, pairwise_length, pairwise_reverse}
 use Rattle.kit_async_model.specs.Legality.{Legal}
 use Rattle.kit_async_core.specs.Halls.{KitHall, KitPass}
 use Rattle.kit_async_roles.specs.declared.why.Why.{Why}

@@ -3,11 +3,11 @@ use Rattle.std.proofs.Common.{◌≡◌, ℕ, zero, suc, ◌+◌, List, [], ◌�
 use Rattle.std.specs.Prelude.{All}
 use Rattle.std.proofs.lemmas.List.{take-append-le, take_all}
 use Rattle.std.proofs.lemmas.List.Elements.{All-nil, All-cons, All-head, All-tail}
-use Rattle.crew_round.specs.declared.back.Back.{Back}
-use Rattle.crew_round.specs.declared.back.Back.TheVariants.{Stayed, Ran}
-use Rattle.crew_round.specs.Back.{CameBack}
-use Rattle.crew_round.specs.BackRole.{role_of}
-use Rattle.gathering.specs.Pairs.{Pairwise}
+use Rattle.crew_threads.specs.declared.back.Back.{Back}
+use Rattle.crew_threads.specs.declared.back.Back.TheVariants.{Stayed, Ran}
+use Rattle.crew_threads.specs.Back.{CameBack}
+use Rattle.crew_threads.specs.BackRole.{role_of}
+use Rattle.crew_laws.specs.Pairs.{Pairwise}
 use Rattle.kit_async_core.specs.Halls.{KitHall, KitPass}
 use Rattle.kit_async_roles.specs.Calling.{HandValue, WorkerRan}
 use Rattle.kit_async_roles.specs.Passes.{Stands}

@@ -1,6 +1,6 @@
 // A kit whose threads couldn't be started: the calling thread reads, works and writes, one request after the other.
 ghost use Rattle.std.specs.Prelude.{◌≡◌, ◌+◌, true, All};
-ghost use Rattle.gathering.specs.Pairs.{Pairwise};
+ghost use Rattle.crew_laws.specs.Pairs.{Pairwise};
 ghost use Rattle.kit_serve.specs.Limits.{longest_line};
 ghost use Rattle.kit_async_roles.specs.Passes.{Stands};
 ghost use Rattle.kit_async.specs.Turns.{ReaderGoes, WorkerGoes, WriterGoes};

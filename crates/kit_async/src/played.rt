@@ -1,7 +1,7 @@
 // The roles of a kit: they are made, run in threads or by the calling thread, and taken apart again.
 ghost use Rattle.std.specs.Prelude.{◌≡◌, ◌≤◌, ◌<◌, ◌+◌, ◌^◌, ◌++◌, ℕ, List, [], ◌∷◌, None, true, All, IfSome, length, map, reverse, vec_len, vec_capacity};
-ghost use Rattle.crew_round.specs.BackRole.{role_of};
-ghost use Rattle.gathering.specs.Pairs.{Pairwise};
+ghost use Rattle.crew_threads.specs.BackRole.{role_of};
+ghost use Rattle.crew_laws.specs.Pairs.{Pairwise};
 ghost use Rattle.hall.specs.Passes.{IsPassOf};
 ghost use Rattle.kit_serve.specs.Limits.{longest_line};
 ghost use Rattle.kit_async_roles.specs.Passes.{Stands};
@@ -15,7 +15,7 @@ use crate::alone::serve_alone;
 use crate::dealt::{Site, deal, take_back};
 use crate::roles::{Reader, Worker, Writer};
 use ann_outside::{Sink, Source};
-use crew_round::{Back, Crew, Room, any_ran, run_whole_crew};
+use crew_threads::{Back, Crew, Room, any_ran, run_whole_crew};
 use hall::Pass;
 use kit_async_core::KitCore;
 use kit_async_roles::Why;

@@ -1,6 +1,6 @@
 // The roles of a kit, each with its pass, in a thread or not.
 use ann_outside::{Sink, Source};
-use crew_round::Role;
+use crew_threads::Role;
 use hall::{Hall, Pass};
 use kit_async_core::KitCore;
 use kit_async_roles::{Why, listen, read_turn, speak, toil, work_turn, write_turn};

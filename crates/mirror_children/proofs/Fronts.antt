@@ -12,7 +12,7 @@ use Rattle.journal_model.specs.Due.{replies_at}
 use Rattle.journal_model.specs.Parts.{part}
 use Rattle.journal_model.specs.Projection.{Ends, final_in}
 use Rattle.host_core.specs.Steps.{next_job}
-use Rattle.link_roles.specs.Alone.{AskedAlone}
+use Rattle.child_link.specs.Alone.{AskedAlone}
 use Rattle.kit_core.specs.declared.call.Said.{Said}
 use Rattle.kit_core.specs.declared.call.Said.TheVariants.{Yes, No}
 use Rattle.mirror_children.specs.Children.{ChildValue, AreServing, IsServing}

@@ -20,14 +20,14 @@ use Rattle.talk_serial.specs.declared.request.Request.{Request}
 use Rattle.talk_serial.specs.Requests.{message_of, name_of}
 use Rattle.talk_serial.proofs.Reading.{unnamed}
 use Rattle.host_core.specs.Steps.{group_of, is_named_well, may_request, next_job}
-use Rattle.link_roles.specs.Alone.{AskedAlone, KeepsLink}
+use Rattle.child_link.specs.Alone.{AskedAlone, KeepsLink}
 use Rattle.child_start.proofs.Jobs.{idle_asked}
 use Rattle.mirror_children.specs.Children.{ChildValue, IsLinked, IsServing}
 use Rattle.mirror_children.specs.Rule.{is_mirrored, IsAsked}
 use Rattle.mirror_children.proofs.Told.{asked_told}
 use Rattle.std.proofs.lemmas.Bool.{and_parts as both}
 use Rattle.ann_key.proofs.Booleans.{or_true}
-use Rattle.link_roles.proofs.Roles.{by_append as main_both}
+use Rattle.child_link.proofs.Roles.{by_append as main_both}
 
 -- ---- it may be asked
 

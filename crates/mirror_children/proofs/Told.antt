@@ -24,8 +24,8 @@ use Rattle.journal_model.specs.Shares.{by_asker}
 use Rattle.journal_model.proofs.PartsGrow.{part_from-append}
 use Rattle.journal_model.proofs.Projecting.{asked_parts, invariant, parts_fit}
 use Rattle.host_core.specs.Steps.{next_job}
-use Rattle.link_roles.specs.Alone.{AskedAlone, IsSettled}
-use Rattle.link_roles.specs.Asks.{lost_as}
+use Rattle.child_link.specs.Alone.{AskedAlone, IsSettled}
+use Rattle.child_link.specs.Asks.{lost_as}
 use Rattle.mirror_children.specs.Children.{ChildValue, IsLinked}
 use Rattle.mirror_children.specs.Rule.{IsTold}
 use Rattle.std.proofs.lemmas.Option.{same_Some as same_some}

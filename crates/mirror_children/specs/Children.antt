@@ -10,7 +10,7 @@ use Rattle.journal_model.specs.Shares.{are_by, by_asker}
 use Rattle.journal_model.specs.Halves.{EarValue, MouthValue}
 use Rattle.host_core.specs.CoreValue.{CoreValue}
 use Rattle.host_core.specs.Steps.{next_job}
-use Rattle.link_roles.specs.Writings.{LoneWired}
+use Rattle.child_link.specs.Writings.{LoneWired}
 
 -- the number of its setting; what its core began with, and its journal; and the two halves of its link
 pub record ChildValue : Type 0 where

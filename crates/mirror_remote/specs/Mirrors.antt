@@ -4,7 +4,7 @@ use Rattle.std.specs.Prelude.{ℕ, ◌≡◌, ◌⊎◌, ◌≤◌, List, [], �
 use Rattle.ann_key.specs.declared.bytes.NoMemory.{NoMemory}
 use Rattle.ann_outside.specs.Causes.{Stays}
 use Rattle.journal_model.specs.declared.entry.Entry.{Entry}
-use Rattle.link_roles.specs.Wires.{WireValue}
+use Rattle.child_link.specs.Wires.{WireValue}
 use Rattle.kit_core.specs.declared.call.Said.{Said}
 use Rattle.kit_core.specs.declared.call.Said.TheVariants.{Yes}
 use Rattle.mirror_plan.specs.declared.plan.Plan.{Plan}

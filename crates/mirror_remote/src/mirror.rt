@@ -13,9 +13,9 @@ ghost use Rattle.mirror_remote.specs.Mirrors.{Begins, Finishes, IsSoundMirror, P
 use crate::requests::{check_of, remove_of, transfer_of};
 use ann_key::{KeyRef, NoMemory};
 use ann_outside::Programs;
+use child_link::Wire;
 use journal_look::Journal;
 use kit_core::{Said, Values};
-use link_roles::Wire;
 use mirror_children::{Child, ask_all, ask_any, ask_check, mirror_failure};
 use mirror_plan::{Plan, Plans, read_plans};
 use mirror_starts::{Standing, Stopped, start_all, stop_all};

@@ -5,9 +5,9 @@ use Rattle.std.proofs.lemmas.List.{map-append}
 use Rattle.journal_model.specs.declared.entry.Entry.{Entry}
 use Rattle.journal_model.specs.Legality.{Legal}
 use Rattle.host_core.specs.CoreValue.{CoreValue}
-use Rattle.link_roles.specs.Alone.{Closes}
-use Rattle.link_roles.specs.Writings.{LoneWired}
-use Rattle.link_roles.specs.Wires.{WireValue}
+use Rattle.child_link.specs.Alone.{Closes}
+use Rattle.child_link.specs.Writings.{LoneWired}
+use Rattle.child_link.specs.Wires.{WireValue}
 use Rattle.child_end.specs.Wires.{IsLaid, came}
 use Rattle.mirror_children.specs.Children.{ChildValue, IsLinked}
 use Rattle.mirror_starts.specs.Stops.{LogValue, StoppedValue, AreSoundLogs, AreWired, IsUnwired, Stops, log_of}

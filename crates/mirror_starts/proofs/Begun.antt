@@ -13,7 +13,7 @@ use Rattle.journal_model.specs.declared.entry.Entry.{Entry}
 use Rattle.journal_model.specs.Halves.{EarValue, MouthValue}
 use Rattle.journal_model.specs.Shares.{is_memory}
 use Rattle.host_core.specs.CoreValue.{CoreValue}
-use Rattle.link_roles.specs.Writings.{LoneWired}
+use Rattle.child_link.specs.Writings.{LoneWired}
 use Rattle.child_start.specs.Cores.{IsSameCore}
 use Rattle.child_start.specs.declared.greeting.Came.{Came}
 use Rattle.child_start.specs.declared.greeting.Came.TheVariants.{Ready as CameReady, Refused as CameRefused, Ended as CameEnded, Unsent as CameUnsent}

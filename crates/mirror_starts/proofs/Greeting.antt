@@ -7,7 +7,7 @@ use Rattle.journal_model.specs.declared.entry.What.TheVariants.{NoStart, Lead, A
 use Rattle.journal_model.specs.declared.entry.Entry.{Entry}
 use Rattle.journal_model.specs.Legality.{Legal}
 use Rattle.journal_model.specs.Shares.{by_asker}
-use Rattle.link_roles.specs.Writings.{LoneWired}
+use Rattle.child_link.specs.Writings.{LoneWired}
 use Rattle.child_start.specs.declared.greeting.Mode.TheVariants.{Serve}
 use Rattle.child_start.specs.Greetings.{Greeted, IsReady, is_greeting_line_for, is_of_greeting_for}
 use Rattle.child_end.specs.Wires.{came}

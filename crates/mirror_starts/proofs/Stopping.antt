@@ -15,9 +15,9 @@ use Rattle.journal_model.specs.Shares.{by_asker}
 use Rattle.journal_model.proofs.Ears.{halves_wire}
 use Rattle.journal_model.proofs.Looks.{each_of-append}
 use Rattle.journal_model.proofs.Projecting.{parts_fit}
-use Rattle.link_roles.specs.Alone.{Closes}
-use Rattle.link_roles.specs.Writings.{LoneWired, is_written_first}
-use Rattle.link_roles.specs.Wires.{WireValue, IsLeft}
+use Rattle.child_link.specs.Alone.{Closes}
+use Rattle.child_link.specs.Writings.{LoneWired, is_written_first}
+use Rattle.child_link.specs.Wires.{WireValue, IsLeft}
 use Rattle.child_end.specs.Wires.{AreWires, IsOfStart, IsWire, came, came_in, is_served_alone}
 use Rattle.mirror_children.specs.Children.{ChildValue, AreLinked, AreServing, IsLinked}
 use Rattle.mirror_starts.specs.Stops.{LogValue, StoppedValue, AreSoundChildren, AreSoundLogs, AreWired, IsSound, IsUnwired, Stops, StopsAll}

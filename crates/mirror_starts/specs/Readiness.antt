@@ -6,7 +6,7 @@ use Rattle.journal_model.specs.declared.verdict.Verdict.{Verdict}
 use Rattle.journal_model.specs.declared.entry.What.TheVariants.{NoStart}
 use Rattle.journal_model.specs.declared.entry.Entry.{Entry}
 use Rattle.journal_model.specs.Shares.{is_memory}
-use Rattle.link_roles.specs.Alone.{Closes}
+use Rattle.child_link.specs.Alone.{Closes}
 use Rattle.child_start.specs.Greetings.{Greeted, IsReady, IsRefused, HasEnded, IsUnsent}
 use Rattle.mirror_plan.specs.declared.plan.Plan.{Plan}
 use Rattle.mirror_children.specs.Children.{ChildValue}

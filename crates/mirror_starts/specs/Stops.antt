@@ -6,8 +6,8 @@ use Rattle.journal_model.specs.Due.{replies_at}
 use Rattle.journal_model.specs.Legality.{Legal}
 use Rattle.journal_model.specs.Projection.{JobFits}
 use Rattle.host_core.specs.CoreValue.{CoreValue}
-use Rattle.link_roles.specs.Alone.{Closes}
-use Rattle.link_roles.specs.Wires.{WireValue}
+use Rattle.child_link.specs.Alone.{Closes}
+use Rattle.child_link.specs.Wires.{WireValue}
 use Rattle.child_end.specs.Wires.{IsWire, AreWires, came}
 use Rattle.mirror_children.specs.Children.{ChildValue}
 

@@ -7,9 +7,9 @@ ghost use Rattle.mirror_starts.specs.Stops.{AreSoundLogs, AreWired, IsUnwired, S
 use ann_key::NoMemory;
 use ann_outside::{Programs, Sink, Source};
 use child_end::{close_child, finish};
+use child_link::Wire;
 use host_core::Core;
 use journal_look::Journal;
-use link_roles::Wire;
 use mirror_children::Child;
 use std::alloc::Global;
 use std::marker::Model;

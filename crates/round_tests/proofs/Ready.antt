@@ -13,17 +13,17 @@ use Rattle.journal_model.specs.Legality.{Legal}
 use Rattle.journal_model.proofs.Linking.{unended}
 use Rattle.journal_model.proofs.Looks.{unasked_closed}
 use Rattle.journal_model.proofs.Testing.{all-each, by_either}
-use Rattle.link_roles.specs.Writings.{LoneWired}
+use Rattle.child_link.specs.Writings.{LoneWired}
 use Rattle.child_start.specs.Greetings.{Greeted, IsReady, is_greeting_line_for, is_of_greeting}
 use Rattle.child_start.specs.declared.greeting.Mode.TheVariants.{Serve}
-use Rattle.lone_work.specs.KnownLayouts.{IsBook}
-use Rattle.lone_work.specs.Works.{CanWork}
-use Rattle.lone_rounds.specs.Starting.{is_unclosed}
-use Rattle.lone_rounds.proofs.Apart.{ended_unclosed, is_unclosed_end}
-use Rattle.lone_rounds.proofs.Stinting.{greeting_works}
-use Rattle.lone_rounds.proofs.Tests.{each_none}
-use Rattle.crew_rounds.specs.Tagged.{TaggedCan, link_of}
-use Rattle.lone_rounds.proofs.Served.{greeting_unclosed}
+use Rattle.crew_worker.specs.KnownLayouts.{IsBook}
+use Rattle.crew_worker.specs.Works.{CanWork}
+use Rattle.run_starts.specs.Starting.{is_unclosed}
+use Rattle.run_starts.proofs.Apart.{ended_unclosed, is_unclosed_end}
+use Rattle.run_starts.proofs.Stinting.{greeting_works}
+use Rattle.run_starts.proofs.Tests.{each_none}
+use Rattle.crew_tagged.specs.Tagged.{TaggedCan, link_of}
+use Rattle.run_starts.proofs.Served.{greeting_unclosed}
 use Rattle.std.proofs.lemmas.Bool.{and_parts as both, eqb-true as same_number}
 
 -- a greeting asks its own child alone

@@ -17,7 +17,7 @@ use Rattle.journal_model.proofs.Growing.{Legal-induction}
 use Rattle.journal_model.proofs.Looks.{each_of-append, any-append}
 use Rattle.journal_model.proofs.Soft.{is_soft, soft_got, soft_mute, soft_verdicts}
 use Rattle.child_start.specs.Greetings.{is_greeting_line}
-use Rattle.info_run.specs.Askings.{line_to, asked_lines}
+use Rattle.info_command.specs.Askings.{line_to, asked_lines}
 use Rattle.journal_model.proofs.Closing.{soft_asks as soft_jobs}
 use Rattle.std.proofs.lemmas.Bool.{and_parts as both, eqb-true as same_number}
 use Rattle.ann_key.proofs.Booleans.{left_false as either_left}

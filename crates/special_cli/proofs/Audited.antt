@@ -1,12 +1,12 @@
 -- An audit that found no memory before it began.
 use Rattle.std.proofs.Common.{◌≡◌, ◌∙◌, ℕ, Bool, true, false, List, [], Option, Some, None, Err, sym, ap, subst}
 use Rattle.std.specs.Prelude.{IfSome}
-use Rattle.audit_run.specs.Inputs.{AuditComesTo, audit_limits}
-use Rattle.audit_run.specs.declared.error.AuditError.TheVariants.{NoMemory}
+use Rattle.audit_command.specs.Inputs.{AuditComesTo, audit_limits}
+use Rattle.audit_command.specs.declared.error.AuditError.TheVariants.{NoMemory}
 use Rattle.child_end.specs.Outsides.{OutsideValue}
 use Rattle.cli_words.specs.declared.command.Command.{Command}
 use Rattle.cli_words.specs.declared.command.Command.TheVariants.{Audit as AuditWord}
-use Rattle.run_tasks.specs.Inputs.{InputFlow, IsUnread}
+use Rattle.run_command.specs.Inputs.{InputFlow, IsUnread}
 use Rattle.special_cli.specs.Audits.{IsAuditOf, HasAudited}
 use Rattle.special_cli.specs.Left.{RanValue, IsIdle}
 use Rattle.special_cli.specs.declared.end.End.TheVariants.{Memory}

@@ -5,7 +5,7 @@ use Rattle.journal_model.specs.declared.entry.What.TheVariants.{Start}
 use Rattle.journal_model.specs.declared.entry.Entry.{Entry}
 use Rattle.journal_model.specs.Journal.{is_started}
 use Rattle.child_start.specs.Greetings.{Greeted}
-use Rattle.lone_rounds.specs.Stints.{main_entry}
+use Rattle.run_starts.specs.Stints.{main_entry}
 use Rattle.special_cli.specs.Endings.{start_in, starts_in}
 use Rattle.special_cli.proofs.Looking.{Vanishes, greeting_says_none}
 use Rattle.ann_key.proofs.Numbers.{same_number as same}

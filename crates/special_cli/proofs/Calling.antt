@@ -11,7 +11,7 @@ use Rattle.annex_model.specs.Lines.{text}
 use Rattle.journal_model.specs.declared.answer.Answer.{Answer}
 use Rattle.journal_model.specs.declared.entry.Entry.{Entry}
 use Rattle.journal_model.specs.Output.{answer_line}
-use Rattle.info_run.specs.Infos.{info_lines, is_informed}
+use Rattle.info_command.specs.Infos.{info_lines, is_informed}
 use Rattle.special_cli.specs.declared.end.End.{End}
 use Rattle.special_cli.specs.declared.end.End.TheVariants.{Usage, Shown, Refused, Memory, Answered, Informed, BadKept, KeptTooLarge, FileFailed, InputFailed, SetUp, NotSetUp, Done, Audited, Rehearsed, Walked}
 use Rattle.cli_words.specs.declared.refusals.Reason.{Reason}
@@ -20,13 +20,13 @@ use Rattle.ann_outside.specs.Files.{Files}
 use Rattle.keep_desk.specs.declared.writing.KeptWritten.TheVariants as W
 use Rattle.cli_words.specs.declared.command.InitWords.{InitWords}
 use Rattle.cli_words.specs.declared.command.RunWords.{RunWords}
-use Rattle.run_tasks.specs.Inputs.{InputFlow, IsUnread}
-use Rattle.run_tasks.specs.Runs.{HasDone, AddsMade}
-use Rattle.run_tasks.specs.declared.made.RunEnd.{RunEnd}
-use Rattle.run_tasks.specs.declared.made.RunEnd.TheVariants as R
+use Rattle.run_command.specs.Inputs.{InputFlow, IsUnread}
+use Rattle.run_command.specs.Runs.{HasDone, AddsMade}
+use Rattle.run_command.specs.declared.made.RunEnd.{RunEnd}
+use Rattle.run_command.specs.declared.made.RunEnd.TheVariants as R
 use Rattle.special_cli.specs.Doings.{end_of, made_in, HasRun}
-use Rattle.audit_run.specs.declared.error.AuditError.{AuditError}
-use Rattle.audit_run.specs.declared.error.AuditError.TheVariants as A
+use Rattle.audit_command.specs.declared.error.AuditError.{AuditError}
+use Rattle.audit_command.specs.declared.error.AuditError.TheVariants as A
 use Rattle.journal_audit.specs.declared.found.Audit.{Audit}
 use Rattle.journal_audit.specs.declared.found.Audit.TheVariants.{Legal, Wrong}
 use Rattle.special_cli.specs.Audits.{HasAudited, end_of_audit}
@@ -50,8 +50,8 @@ use Rattle.special_cli.specs.Walks.{EndsWalk, WalksTasks, is_walk_well}
 use Rattle.special_cli.proofs.Walked.{few_walked, nothing_walked}
 use Rattle.rehearse_plan.specs.Tallies.{count_of}
 use Rattle.rehearse_plan.specs.declared.tally.Word.TheVariants.{Other}
-use Rattle.rehearse_run.specs.declared.made.RehearsalEnd.{RehearsalEnd}
-use Rattle.rehearse_run.specs.declared.made.RehearsalEnd.TheVariants as M
+use Rattle.rehearse_command.specs.declared.made.RehearsalEnd.{RehearsalEnd}
+use Rattle.rehearse_command.specs.declared.made.RehearsalEnd.TheVariants as M
 use Rattle.cli_words.specs.Ranges.{HasRanges}
 use Rattle.special_cli.proofs.Informed.{nothing_informed}
 use Rattle.special_cli.proofs.Leaving.{leaves_as, leaves_nothing}

@@ -22,11 +22,11 @@ use Rattle.journal_model.specs.declared.answer.Answer.{Answer}
 use Rattle.journal_model.specs.declared.entry.Entry.{Entry}
 use Rattle.journal_model.specs.declared.opening.Opening.{Opening}
 use Rattle.journal_model.proofs.Projecting.{parts_fit}
-use Rattle.task_run.specs.declared.setup.Setup.{Setup}
-use Rattle.lone_rounds.specs.Rounds.{EndsClosed, HasRun, RanAlone}
-use Rattle.run_tasks.specs.Runs.{AreAnswers, answer_of}
+use Rattle.task_model.specs.declared.setup.Setup.{Setup}
+use Rattle.run_starts.specs.Rounds.{EndsClosed, HasRun, RanAlone}
+use Rattle.run_command.specs.Runs.{AreAnswers, answer_of}
 use Rattle.special_cli.specs.Openings.{check_opening, info_opening}
-use Rattle.lone_rounds.specs.declared.plan.Plan.{Plan}
+use Rattle.run_starts.specs.declared.plan.Plan.{Plan}
 use Rattle.special_cli.specs.declared.check.Ready.{Ready}
 use Rattle.special_cli.specs.declared.end.End.{End}
 use Rattle.special_cli.specs.declared.end.End.TheVariants.{Answered, Memory}
@@ -36,7 +36,7 @@ use Rattle.special_cli.specs.Left.{Left, RanValue}
 use Rattle.special_cli.specs.Commands.{EndsCheck, HasChecked, HasNoDesk, IsPrepared}
 use Rattle.special_cli.proofs.Leaving.{leaves_as}
 use Rattle.special_cli.specs.Endings.{IsAnswered, IsChecked, check_setup}
-use Rattle.run_tasks.proofs.Leaving.{leaves_named}
+use Rattle.run_command.proofs.Leaving.{leaves_named}
 
 -- what a check of a key that isn't refused begins with, and an info
 begins : (o : Opening) → length o.tasks ≤ most_tasks → All IsTask o.tasks → o.identity ≡ nobody → o.again ≤ most_again → MayBegin o

@@ -11,11 +11,11 @@ use Rattle.journal_model.specs.declared.answer.Answer.{Answer}
 use Rattle.journal_model.specs.declared.opening.Opening.{Opening}
 use Rattle.journal_model.specs.Legality.{numbers_of}
 use Rattle.child_end.specs.Outsides.{OutsideValue}
-use Rattle.run_tasks.specs.Inputs.{InputFlow}
-use Rattle.run_tasks.specs.Runs.{MadeValue, HasDone, IsWholeRun, IfUnwhole, EndsRun, answer_of}
-use Rattle.run_tasks.specs.declared.made.RunEnd.{RunEnd}
-use Rattle.run_tasks.specs.declared.made.RunEnd.TheVariants.{Done}
-use Rattle.run_tasks.proofs.Begun.{few_tasks}
+use Rattle.run_command.specs.Inputs.{InputFlow}
+use Rattle.run_command.specs.Runs.{MadeValue, HasDone, IsWholeRun, IfUnwhole, EndsRun, answer_of}
+use Rattle.run_command.specs.declared.made.RunEnd.{RunEnd}
+use Rattle.run_command.specs.declared.made.RunEnd.TheVariants.{Done}
+use Rattle.run_command.proofs.Begun.{few_tasks}
 
 -- ---- a run
 

@@ -15,10 +15,10 @@ use Rattle.journal_model.specs.declared.entry.Entry.{Entry}
 use Rattle.journal_model.specs.declared.opening.Opening.{Opening}
 use Rattle.journal_model.specs.Legality.{Legal}
 use Rattle.journal_model.proofs.Projecting.{parts_fit}
-use Rattle.init_run.specs.declared.beginning.Begun.TheVariants.{Ready}
-use Rattle.init_run.specs.declared.setup.Setup.{Setup}
-use Rattle.init_run.specs.declared.setup.Setup.TheVariants.{Initialized, Stopped}
-use Rattle.init_run.specs.Setups.{Begins, outcome_of}
+use Rattle.init_command.specs.declared.beginning.Begun.TheVariants.{Ready}
+use Rattle.init_command.specs.declared.setup.Setup.{Setup}
+use Rattle.init_command.specs.declared.setup.Setup.TheVariants.{Initialized, Stopped}
+use Rattle.init_command.specs.Setups.{Begins, outcome_of}
 use Rattle.special_cli.specs.declared.end.End.{End}
 use Rattle.special_cli.specs.declared.end.End.TheVariants.{Memory, SetUp, NotSetUp}
 use Rattle.special_cli.specs.Setups.{IsSetup, IsRunOf, InitFilesStay, IsInitKept, EndsInit, EndsKeep}

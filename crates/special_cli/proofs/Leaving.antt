@@ -11,16 +11,16 @@ use Rattle.journal_model.specs.declared.entry.Entry.{Entry}
 use Rattle.journal_model.specs.Legality.{count}
 use Rattle.journal_model.specs.Wires.{Wired, Caused, is_heard_in_turn}
 use Rattle.journal_model.specs.Halves.{EarValue, MouthValue}
-use Rattle.link_roles.specs.Writings.{is_written_first, LoneWired}
+use Rattle.child_link.specs.Writings.{is_written_first, LoneWired}
 use Rattle.journal_model.proofs.Ears.{halves_wire}
 use Rattle.child_start.specs.Greetings.{AreNumbered}
 use Rattle.special_cli.specs.Endings.{start_in, starts_in}
 use Rattle.child_end.specs.Wires.{came_in, came, is_served_alone, IsOfStart, IsWire, AreWires, IsLaid}
 use Rattle.child_end.specs.Programs.{told_in, told, AddsAll, HaveStarted, Leaves, RoseBy, is_failed_start}
-use Rattle.lone_rounds.proofs.Leaving.{rose_still, of_start, adds_stays, stays_none}
+use Rattle.run_starts.proofs.Leaving.{rose_still, of_start, adds_stays, stays_none}
 use Rattle.special_cli.specs.Objects.{OneIsLeft}
-use Rattle.link_roles.specs.Alone.{KeepsLink}
-use Rattle.link_roles.specs.Wires.{WireValue}
+use Rattle.child_link.specs.Alone.{KeepsLink}
+use Rattle.child_link.specs.Wires.{WireValue}
 use Rattle.special_cli.proofs.Looking.{through}
 use Rattle.child_end.proofs.Across.{adds_one as adds_all, adds_none}
 

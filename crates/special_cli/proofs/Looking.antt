@@ -9,7 +9,7 @@ use Rattle.journal_model.specs.declared.entry.What.TheVariants.{Claim, Start, No
 use Rattle.journal_model.specs.declared.entry.Entry.{Entry}
 use Rattle.journal_model.specs.Journal.{any, each_of}
 use Rattle.child_start.specs.Greetings.{is_greeting_line, is_of_greeting}
-use Rattle.lone_rounds.proofs.Tests.{each_none as none_of}
+use Rattle.run_starts.proofs.Tests.{each_none as none_of}
 use Rattle.std.proofs.lemmas.Bool.{and_parts as both, eqb-true as same_number}
 
 -- ---- what links and greetings don't say

@@ -9,9 +9,9 @@ use Rattle.journal_model.specs.declared.entry.Entry.{Entry}
 use Rattle.journal_model.specs.Legality.{numbers_of}
 use Rattle.run_answers.specs.Answers.{answer_of}
 use Rattle.rehearse_plan.specs.Plans.{opening_of, task_of, tasks_of}
-use Rattle.rehearse_run.specs.Rehearsals.{HasRehearsed as HasMade}
-use Rattle.rehearse_run.specs.declared.made.RehearsalEnd.{RehearsalEnd}
-use Rattle.rehearse_run.specs.declared.made.RehearsalEnd.TheVariants.{Memory, Done}
+use Rattle.rehearse_command.specs.Rehearsals.{HasRehearsed as HasMade}
+use Rattle.rehearse_command.specs.declared.made.RehearsalEnd.{RehearsalEnd}
+use Rattle.rehearse_command.specs.declared.made.RehearsalEnd.TheVariants.{Memory, Done}
 use Rattle.special_cli.specs.Left.{RanValue, IsIdle}
 use Rattle.special_cli.specs.Rehearsals.{HasRehearsed}
 use Rattle.special_cli.specs.declared.end.End.TheVariants.{Memory as NoRoom}

@@ -18,24 +18,24 @@ use Rattle.journal_model.proofs.Looks.{any-append, each_of-append, verdict_of-ap
 use Rattle.journal_model.proofs.Linking.{why_of-append, why_is_end}
 use Rattle.journal_scan.specs.Looks.{is_no_start}
 use Rattle.journal_model.specs.Shares.{are_by, is_closed}
-use Rattle.link_roles.specs.Alone.{Closes}
+use Rattle.child_link.specs.Alone.{Closes}
 use Rattle.child_start.specs.declared.greeting.Mode.TheVariants.{Init}
 use Rattle.child_start.specs.declared.greeting.Came.{Came}
 use Rattle.child_start.specs.declared.greeting.Came.TheVariants.{Ready, Refused, Ended, Unsent}
 use Rattle.child_start.specs.Greetings.{CameTo, GreetedFor, IsSetUp, IsRefused, HasEnded, IsUnsent, is_of_greeting_for, is_refusal}
 use Rattle.child_start.proofs.Jobs.{idle_on}
-use Rattle.init_run.specs.declared.setup.Setup.{Setup}
-use Rattle.init_run.specs.declared.setup.Setup.TheVariants.{Initialized, Stopped}
-use Rattle.init_run.specs.Setups.{setup_for, mute_outcome, gone_outcome, verdict_outcome, outcome_of}
+use Rattle.init_command.specs.declared.setup.Setup.{Setup}
+use Rattle.init_command.specs.declared.setup.Setup.TheVariants.{Initialized, Stopped}
+use Rattle.init_command.specs.Setups.{setup_for, mute_outcome, gone_outcome, verdict_outcome, outcome_of}
 use Rattle.special_cli.specs.Endings.{start_in, starts_in}
 use Rattle.special_cli.specs.Informs.{is_of_task}
-use Rattle.lone_rounds.specs.Stints.{main_entry}
+use Rattle.run_starts.specs.Stints.{main_entry}
 use Rattle.special_cli.specs.Setups.{is_of_setup, setup_of, IsSetup, IsTalked}
 use Rattle.special_cli.proofs.Talking.{no_claims, closing_of, closed_so, IsStill, closing_still, over_or}
 use Rattle.ann_key.proofs.Booleans.{or_false as or_none, and_false as off}
 use Rattle.std.proofs.lemmas.Bool.{and_parts as both}
 use Rattle.ann_key.proofs.Numbers.{same_number as same}
-use Rattle.link_roles.proofs.Roles.{by_append as main_both}
+use Rattle.child_link.proofs.Roles.{by_append as main_both}
 use Rattle.journal_model.proofs.Across.{no_why as none_why, all_in as all_weaken, none_so as any_none}
 
 -- ---- the entries

@@ -17,27 +17,27 @@ use Rattle.journal_model.specs.Shares.{are_by}
 use Rattle.journal_model.specs.Legality.{Legal, count, claimed_for, is_busy_with, has_busy_task, may_stop}
 use Rattle.journal_model.proofs.Looks.{any-append, each_of-append, verdict_of-append}
 use Rattle.journal_model.proofs.Linking.{why_of-append}
-use Rattle.task_run.specs.TaskRuns.{refused_at}
-use Rattle.link_roles.specs.Alone.{Closes}
+use Rattle.task_model.specs.TaskRuns.{refused_at}
+use Rattle.child_link.specs.Alone.{Closes}
 use Rattle.child_start.specs.declared.greeting.Mode.TheVariants.{Serve}
 use Rattle.child_start.specs.declared.greeting.Came.{Came}
 use Rattle.child_start.specs.declared.greeting.Came.TheVariants.{Ready, Refused, Ended, Unsent}
 use Rattle.child_start.specs.Greetings.{CameTo, Greeted, IsReady, IsRefused, HasEnded, IsUnsent, is_greeting_line, is_of_greeting, loses}
 use Rattle.child_start.proofs.Jobs.{idle_on}
 use Rattle.child_start.proofs.Losing.{count_behind, count_before}
-use Rattle.info_run.specs.Infos.{questions}
-use Rattle.info_run.specs.Askings.{line_to, asked_lines, is_of_asking, AsksFront, IsAnswered, HasFailed}
+use Rattle.info_command.specs.Infos.{questions}
+use Rattle.info_command.specs.Askings.{line_to, asked_lines, is_of_asking, AsksFront, IsAnswered, HasFailed}
 use Rattle.special_cli.specs.Endings.{start_in, starts_in}
 use Rattle.special_cli.specs.Informs.{info_requests, is_of_task, IsAsked, IsComplete}
 use Rattle.child_end.specs.Programs.{is_failed_start}
-use Rattle.lone_rounds.specs.Stints.{main_entry}
+use Rattle.run_starts.specs.Stints.{main_entry}
 use Rattle.special_cli.specs.Interviews.{IsInterviewed}
 use Rattle.special_cli.proofs.Asked.{greeting_lines, is_early, begins}
 use Rattle.special_cli.proofs.Beginning.{greeted_started, greeted_starts}
 use Rattle.ann_key.proofs.Booleans.{or_neither as either, and_false as off, or_true}
-use Rattle.info_run.proofs.Asked.{greeting_offers as plain_greeting}
+use Rattle.info_command.proofs.Asked.{greeting_offers as plain_greeting}
 use Rattle.std.proofs.lemmas.Bool.{and_parts as both}
-use Rattle.link_roles.proofs.Roles.{by_append as main_both}
+use Rattle.child_link.proofs.Roles.{by_append as main_both}
 use Rattle.journal_model.proofs.Across.{none_so as any_none, all_in as all_weaken}
 
 -- ---- after the greeting

@@ -1,14 +1,14 @@
 -- What comes of an audit of the input.
 use Rattle.std.specs.Prelude.{ℕ, ◌≡◌, List, [], ◌∷◌, ◌++◌, codes, decimal, IfSome, Result, Ok, Err}
-use Rattle.audit_run.specs.Inputs.{AuditComesTo, audit_limits}
-use Rattle.audit_run.specs.Reads.{IsCounted, IsRead}
-use Rattle.audit_run.specs.declared.error.AuditError.{AuditError}
-use Rattle.audit_run.specs.declared.error.AuditError.TheVariants as A
+use Rattle.audit_command.specs.Inputs.{AuditComesTo, audit_limits}
+use Rattle.audit_command.specs.Reads.{IsCounted, IsRead}
+use Rattle.audit_command.specs.declared.error.AuditError.{AuditError}
+use Rattle.audit_command.specs.declared.error.AuditError.TheVariants as A
 use Rattle.child_end.specs.Outsides.{OutsideValue}
 use Rattle.cli_words.specs.declared.refusals.Reason.TheVariants.{Entry as BadEntry, Cut as NoEnd}
 use Rattle.journal_audit.specs.declared.found.Audit.{Audit}
 use Rattle.journal_audit.specs.declared.found.Audit.TheVariants.{Legal, Wrong}
-use Rattle.run_tasks.specs.Inputs.{InputFlow}
+use Rattle.run_command.specs.Inputs.{InputFlow}
 use Rattle.special_cli.specs.Left.{RanValue, IsIdle}
 use Rattle.special_cli.specs.declared.end.End.{End}
 use Rattle.special_cli.specs.declared.end.End.TheVariants.{Refused, Memory, InputFailed, Audited}

@@ -4,7 +4,7 @@ use Rattle.ann_outside.specs.Causes.{Rose}
 use Rattle.ann_outside.specs.Desks.{Made}
 use Rattle.ann_outside.specs.Told.{ProgramsTold, SinkTold, SourceTold}
 use Rattle.journal_model.specs.Legality.{count}
-use Rattle.audit_run.specs.declared.error.AuditError.{AuditError}
+use Rattle.audit_command.specs.declared.error.AuditError.{AuditError}
 use Rattle.journal_audit.specs.declared.found.Audit.{Audit}
 use Rattle.cli_words.specs.declared.command.Command.{Command}
 use Rattle.cli_words.specs.declared.command.Command.TheVariants.{Audit as AuditWord}
@@ -21,11 +21,11 @@ use Rattle.special_cli.specs.Doings.{end_of, made_in}
 use Rattle.special_cli.specs.Audits.{IsAuditOf, end_of_audit}
 use Rattle.special_cli.specs.Rehearsals.{IsUntouched, end_of_rehearsal, rehearsal_in}
 use Rattle.special_cli.specs.Walks.{EndsWalk, walk_in}
-use Rattle.rehearse_run.specs.Rehearsals.{HasRehearsed as HasMade}
-use Rattle.rehearse_run.specs.declared.made.RehearsalEnd.{RehearsalEnd}
-use Rattle.run_tasks.specs.Inputs.{InputFlow, IsUnread, input_flow}
-use Rattle.run_tasks.specs.Runs.{HasDone}
-use Rattle.run_tasks.specs.declared.made.RunEnd.{RunEnd}
+use Rattle.rehearse_command.specs.Rehearsals.{HasRehearsed as HasMade}
+use Rattle.rehearse_command.specs.declared.made.RehearsalEnd.{RehearsalEnd}
+use Rattle.run_command.specs.Inputs.{InputFlow, IsUnread, input_flow}
+use Rattle.run_command.specs.Runs.{HasDone}
+use Rattle.run_command.specs.declared.made.RunEnd.{RunEnd}
 use Rattle.special_cli.specs.Tells.{Flow, IsToldOf, flow}
 use Rattle.special_cli.specs.declared.end.End.{End}
 use Rattle.cli_words.specs.declared.command.InitWords.{InitWords}

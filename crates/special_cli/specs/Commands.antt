@@ -17,7 +17,7 @@ use Rattle.special_cli.specs.Doings.{HasRun}
 use Rattle.special_cli.specs.Audits.{HasAudited}
 use Rattle.special_cli.specs.Rehearsals.{HasRehearsed}
 use Rattle.special_cli.specs.Walks.{WalksTasks}
-use Rattle.run_tasks.specs.Inputs.{InputFlow, IsUnread}
+use Rattle.run_command.specs.Inputs.{InputFlow, IsUnread}
 use Rattle.cli_words.specs.Refusals.{reason_refused, refusal_if}
 use Rattle.cli_words.specs.declared.command.Command.{Command}
 use Rattle.cli_words.specs.declared.command.Command.TheVariants.{Check, Info, Init, Run, Audit, Rehearse, Walk, Show}

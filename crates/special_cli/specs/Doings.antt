@@ -2,10 +2,10 @@
 use Rattle.std.specs.Prelude.{ℕ, ◌≡◌, Option}
 use Rattle.cli_words.specs.declared.command.RunWords.{RunWords}
 use Rattle.child_end.specs.Outsides.{OutsideValue}
-use Rattle.run_tasks.specs.Inputs.{InputFlow}
-use Rattle.run_tasks.specs.Runs.{MadeValue, HasDone}
-use Rattle.run_tasks.specs.declared.made.RunEnd.{RunEnd}
-use Rattle.run_tasks.specs.declared.made.RunEnd.TheVariants as R
+use Rattle.run_command.specs.Inputs.{InputFlow}
+use Rattle.run_command.specs.Runs.{MadeValue, HasDone}
+use Rattle.run_command.specs.declared.made.RunEnd.{RunEnd}
+use Rattle.run_command.specs.declared.made.RunEnd.TheVariants as R
 use Rattle.special_cli.specs.declared.end.End.{End}
 use Rattle.special_cli.specs.declared.end.End.TheVariants.{Refused, Memory, BadKept, KeptTooLarge, FileFailed, InputFailed, Done}
 use Rattle.special_cli.specs.Left.{Left, RanValue}

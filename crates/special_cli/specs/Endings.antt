@@ -12,9 +12,9 @@ use Rattle.journal_model.specs.declared.entry.Entry.{Entry}
 use Rattle.journal_model.specs.Journal.{each_of}
 use Rattle.journal_model.specs.Due.{replies_at}
 use Rattle.journal_model.specs.Projection.{JobFits}
-use Rattle.task_run.specs.declared.setup.Setup.{Setup}
-use Rattle.lone_rounds.specs.Rounds.{EndsClosed, RanAlone}
-use Rattle.run_tasks.specs.Runs.{answer_of}
+use Rattle.task_model.specs.declared.setup.Setup.{Setup}
+use Rattle.run_starts.specs.Rounds.{EndsClosed, RanAlone}
+use Rattle.run_command.specs.Runs.{answer_of}
 use Rattle.cli_words.specs.declared.command.Command.{Command}
 use Rattle.cli_words.specs.declared.command.Command.TheVariants.{Check, Info, Init, Run}
 use Rattle.cli_words.specs.declared.command.InitWords.{InitWords}

@@ -10,11 +10,11 @@ use Rattle.journal_model.specs.Journal.{any, is_live, is_mute, open_jobs, why_of
 use Rattle.journal_model.specs.Due.{replies_at}
 use Rattle.journal_model.specs.Legality.{Legal, count}
 use Rattle.journal_model.specs.Projection.{JobFits}
-use Rattle.task_run.specs.TaskRuns.{refusal_of}
+use Rattle.task_model.specs.TaskRuns.{refusal_of}
 use Rattle.journal_model.specs.Shares.{are_by, is_closed}
 use Rattle.child_start.specs.Greetings.{loses}
-use Rattle.info_run.specs.Infos.{questions, info_lines, is_informed}
-use Rattle.info_run.specs.Askings.{asked_lines}
+use Rattle.info_command.specs.Infos.{questions, info_lines, is_informed}
+use Rattle.info_command.specs.Askings.{asked_lines}
 use Rattle.special_cli.specs.Endings.{starts_in, IsPrinted}
 use Rattle.child_end.specs.Programs.{is_failed_start}
 use Rattle.special_cli.specs.Openings.{info_opening}

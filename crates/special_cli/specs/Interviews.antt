@@ -7,7 +7,7 @@ use Rattle.journal_model.specs.Journal.{any, is_started, open_jobs}
 use Rattle.journal_model.specs.Legality.{count}
 use Rattle.journal_model.specs.Shares.{are_by}
 use Rattle.child_start.specs.Greetings.{loses}
-use Rattle.info_run.specs.Askings.{asked_lines}
+use Rattle.info_command.specs.Askings.{asked_lines}
 use Rattle.special_cli.specs.Endings.{starts_in}
 use Rattle.special_cli.specs.Informs.{info_requests, is_of_task, IsComplete}
 

@@ -3,7 +3,7 @@ use Rattle.ann_outside.specs.Told.{DeskTold}
 use Rattle.std.specs.Prelude.{ℕ, ◌≡◌, List, []}
 use Rattle.journal_model.specs.declared.answer.Answer.{Answer}
 use Rattle.journal_model.specs.declared.entry.Entry.{Entry}
-use Rattle.link_roles.specs.Wires.{WireValue}
+use Rattle.child_link.specs.Wires.{WireValue}
 use Rattle.child_end.specs.Outsides.{OutsideValue}
 use Rattle.special_cli.specs.declared.end.End.{End}
 

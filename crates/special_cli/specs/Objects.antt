@@ -1,7 +1,7 @@
 -- What a run leaves of its one child.
 use Rattle.std.specs.Prelude.{◌≡◌, List, [], ◌∷◌}
 use Rattle.journal_model.specs.Halves.{EarValue, MouthValue}
-use Rattle.link_roles.specs.Wires.{WireValue, IsLeft}
+use Rattle.child_link.specs.Wires.{WireValue, IsLeft}
 
 -- it is the only one
 abbrev pub OneIsLeft : EarValue → MouthValue → List WireValue → Type 0

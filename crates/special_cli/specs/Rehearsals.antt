@@ -7,9 +7,9 @@ use Rattle.journal_audit.specs.declared.found.Audit.{Audit}
 use Rattle.journal_model.specs.declared.answer.Answer.{Answer}
 use Rattle.rehearse_plan.specs.Tallies.{count_lines, count_of}
 use Rattle.rehearse_plan.specs.declared.tally.Word.TheVariants.{Other}
-use Rattle.rehearse_run.specs.Rehearsals.{HasRehearsed as HasMade}
-use Rattle.rehearse_run.specs.declared.made.RehearsalEnd.{RehearsalEnd}
-use Rattle.rehearse_run.specs.declared.made.RehearsalEnd.TheVariants as R
+use Rattle.rehearse_command.specs.Rehearsals.{HasRehearsed as HasMade}
+use Rattle.rehearse_command.specs.declared.made.RehearsalEnd.{RehearsalEnd}
+use Rattle.rehearse_command.specs.declared.made.RehearsalEnd.TheVariants as R
 use Rattle.special_cli.specs.Audits.{found_line, found_status}
 use Rattle.special_cli.specs.Left.{Left, RanValue}
 use Rattle.special_cli.specs.declared.end.End.{End}

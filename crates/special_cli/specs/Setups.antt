@@ -30,9 +30,9 @@ use Rattle.child_start.specs.declared.greeting.Mode.TheVariants.{Init}
 use Rattle.child_start.specs.declared.greeting.Came.{Came}
 use Rattle.child_start.specs.declared.greeting.Came.TheVariants.{Ready, Refused, Ended, Unsent}
 use Rattle.child_start.specs.Greetings.{is_of_greeting_for}
-use Rattle.init_run.specs.Setups.{IsOpening, IsTextOf, outcome_of, setup_for}
-use Rattle.init_run.specs.declared.setup.Setup.{Setup}
-use Rattle.init_run.specs.declared.setup.Setup.TheVariants.{Initialized, Stopped}
+use Rattle.init_command.specs.Setups.{IsOpening, IsTextOf, outcome_of, setup_for}
+use Rattle.init_command.specs.declared.setup.Setup.{Setup}
+use Rattle.init_command.specs.declared.setup.Setup.TheVariants.{Initialized, Stopped}
 use Rattle.special_cli.specs.declared.end.End.{End as Ending}
 use Rattle.special_cli.specs.declared.end.End.TheVariants.{Memory, BadKept, KeptTooLarge, FileFailed, SetUp, NotSetUp}
 use Rattle.special_cli.specs.Endings.{starts_in}

@@ -8,9 +8,9 @@ use Rattle.annex_model.specs.Lines.{text}
 use Rattle.journal_model.specs.declared.answer.Answer.{Answer}
 use Rattle.journal_model.specs.declared.entry.Entry.{Entry}
 use Rattle.journal_model.specs.Output.{answer_line}
-use Rattle.info_run.specs.Infos.{info_lines}
-use Rattle.init_run.specs.Setups.{setup_text}
-use Rattle.init_run.specs.declared.setup.Setup.TheVariants.{Stopped}
+use Rattle.info_command.specs.Infos.{info_lines}
+use Rattle.init_command.specs.Setups.{setup_text}
+use Rattle.init_command.specs.declared.setup.Setup.TheVariants.{Stopped}
 use Rattle.keep_desk.specs.declared.writing.KeptWritten.{KeptWritten}
 use Rattle.keep_desk.specs.declared.writing.KeptWritten.TheVariants as W
 use Rattle.special_cli.specs.Audits.{found_line, found_status}

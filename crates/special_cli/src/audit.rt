@@ -1,13 +1,13 @@
 // The command `audit`: the input is read as the text of a run, and its journal is checked.
 ghost use Rattle.std.specs.Prelude.{◌≡◌, true};
-ghost use Rattle.run_tasks.specs.Inputs.{input_flow};
+ghost use Rattle.run_command.specs.Inputs.{input_flow};
 ghost use Rattle.special_cli.specs.Audits.{HasAudited, end_of_audit};
 
 use crate::end::End;
 use crate::outside::Outside;
 use crate::ran::Ran;
 use ann_outside::{Desks, Programs, Source};
-use audit_run::{AuditError, Limits, audit_input};
+use audit_command::{AuditError, Limits, audit_input};
 use cli_words::Reason;
 use journal_audit::Audit;
 use std::alloc::Global;

@@ -1,7 +1,7 @@
 use ann_outside::{Desks, Programs};
+use child_link::Wire;
 use journal_look::Journal;
 use journal_model::Answer;
-use link_roles::Wire;
 use std::marker::Model;
 
 /// What a call leaves: its status, the programs and the desks that were handed in, the journal that it kept, the answers in

@@ -13,9 +13,9 @@ use crate::outside::Outside;
 use crate::ran::{Ran, journal_of};
 use ann_key::{Key, KeyRef, NoMemory, Text};
 use ann_outside::{Desks, Programs};
+use child_link::Wire;
 use cli_words::refusal;
 use host_core::Core;
-use link_roles::Wire;
 use std::alloc::Global;
 
 // What an info is made with.

@@ -4,7 +4,7 @@ mod asking;
 ghost use Rattle.std.specs.Prelude.{◌≡◌, ◌<◌, [], IfOk, Ok, vec_capacity};
 ghost use Rattle.ann_outside.specs.Desks.{no_counts};
 ghost use Rattle.desk_file.specs.Names.{NamesOnly};
-ghost use Rattle.init_run.specs.Setups.{Begins};
+ghost use Rattle.init_command.specs.Setups.{Begins};
 ghost use Rattle.special_cli.specs.declared.end.End.TheVariants.{Memory};
 ghost use Rattle.child_end.specs.Programs.{Leaves};
 ghost use Rattle.special_cli.specs.Setups.{AreSound, EndsInit, EndsKeep, HasSetUp, IsInitFile};
@@ -14,13 +14,13 @@ use crate::outside::Outside;
 use crate::ran::{Ran, journal_of};
 use ann_key::NoMemory;
 use ann_outside::{Desk, Desks, Programs};
+use child_link::Wire;
 use cli_words::InitWords;
 use host_core::Core;
-use init_run::{Begun, Setup, begin};
+use init_command::{Begun, Setup, begin};
 use journal_look::Journal;
 use journal_model::Opening;
 use keep_desk::write_kept;
-use link_roles::Wire;
 use std::alloc::Global;
 
 // Room for what a setup leaves of its objects.

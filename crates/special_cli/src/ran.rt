@@ -5,10 +5,10 @@ use crate::closing::Closing;
 use crate::end::End;
 use crate::outside::Outside;
 use ann_outside::{Desks, Programs};
+use child_link::Wire;
 use host_core::Core;
 use journal_look::Journal;
 use journal_model::Answer;
-use link_roles::Wire;
 use std::alloc::Global;
 use std::marker::Model;
 

@@ -2,7 +2,7 @@
 use Rattle.std.proofs.Common.{◌≡◌, ℕ, List, [], ◌∷◌, Option, Some, sym, ◌∙◌, inl, inr}
 use Rattle.journal_model.specs.declared.answer.Answer.{Answer}
 use Rattle.journal_model.specs.declared.entry.Entry.{Entry}
-use Rattle.run_tasks.specs.Runs.{answer_of}
+use Rattle.run_command.specs.Runs.{answer_of}
 use Rattle.special_cli.specs.Endings.{IsTold}
 
 -- by the answer that the journal gave, and by no other

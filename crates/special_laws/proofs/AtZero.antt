@@ -1,12 +1,12 @@
 -- An audit that ends with status 0.
 use Rattle.std.proofs.Common.{◌≡◌, ◌∙◌, ◌==◌, ℕ, true, false, List, Ok, Err, refl, ap, inl, inr}
 use Rattle.std.specs.Prelude.{Result}
-use Rattle.audit_run.specs.Inputs.{IsFound, audit_limits}
-use Rattle.audit_run.specs.declared.error.AuditError.{AuditError}
-use Rattle.audit_run.specs.declared.error.AuditError.TheVariants.{Entry, Cut, Failed, NoMemory}
+use Rattle.audit_command.specs.Inputs.{IsFound, audit_limits}
+use Rattle.audit_command.specs.declared.error.AuditError.{AuditError}
+use Rattle.audit_command.specs.declared.error.AuditError.TheVariants.{Entry, Cut, Failed, NoMemory}
 use Rattle.journal_audit.specs.declared.found.Audit.{Audit}
 use Rattle.journal_audit.specs.declared.found.Audit.TheVariants.{Legal, Wrong}
-use Rattle.run_tasks.specs.Inputs.{InputFlow}
+use Rattle.run_command.specs.Inputs.{InputFlow}
 use Rattle.special_cli.specs.Audits.{IsAuditOf, end_of_audit}
 use Rattle.special_cli.specs.Left.{Left}
 use Rattle.special_cli.specs.Tells.{Flow, IsWritten, IsToldOf}

@@ -10,10 +10,10 @@ use Rattle.ann_outside.specs.Causes.{Rose}
 use Rattle.ann_outside.specs.Files.{Files, WhereTold}
 use Rattle.cli_words.specs.Texts.{memory_line}
 use Rattle.cli_words.specs.declared.command.RunWords.{RunWords}
-use Rattle.job_rounds.specs.Completeness.{AreAnsweredWell}
-use Rattle.job_rounds.proofs.Completing.{jobs_complete}
-use Rattle.journal_desk.specs.declared.writing.JournalWritten.{JournalWritten}
-use Rattle.journal_desk.specs.declared.writing.JournalWritten.TheVariants as J
+use Rattle.run_children.specs.Completeness.{AreAnsweredWell}
+use Rattle.run_children.proofs.Completing.{jobs_complete}
+use Rattle.journal_file.specs.declared.writing.JournalWritten.{JournalWritten}
+use Rattle.journal_file.specs.declared.writing.JournalWritten.TheVariants as J
 use Rattle.journal_model.specs.declared.answer.Answer.{Answer}
 use Rattle.journal_model.specs.declared.entry.What.{What}
 use Rattle.journal_model.specs.declared.entry.What.TheVariants.{Answer as Answered}
@@ -23,10 +23,10 @@ use Rattle.journal_model.specs.Journal.{each_of, first_of}
 use Rattle.journal_model.specs.Legality.{task_of}
 use Rattle.keep_desk.specs.declared.writing.KeptWritten.{KeptWritten}
 use Rattle.keep_desk.specs.declared.writing.KeptWritten.TheVariants as W
-use Rattle.run_tasks.specs.Inputs.{InputFlow}
-use Rattle.run_tasks.specs.Runs.{AreWritten, HasFailed, IsJournaled, IsRunKept, IsWholeRun, answer_for, answer_of, told_of}
-use Rattle.run_tasks.specs.declared.made.RunEnd.{RunEnd}
-use Rattle.run_tasks.specs.declared.made.RunEnd.TheVariants.{BadKept, KeptTooLarge, FileFailed, InputFailed, Refused, Memory, Done}
+use Rattle.run_command.specs.Inputs.{InputFlow}
+use Rattle.run_command.specs.Runs.{AreWritten, HasFailed, IsJournaled, IsRunKept, IsWholeRun, answer_for, answer_of, told_of}
+use Rattle.run_command.specs.declared.made.RunEnd.{RunEnd}
+use Rattle.run_command.specs.declared.made.RunEnd.TheVariants.{BadKept, KeptTooLarge, FileFailed, InputFailed, Refused, Memory, Done}
 use Rattle.special_cli.specs.Doings.{end_of, made_in}
 use Rattle.special_cli.specs.Endings.{is_well}
 use Rattle.special_cli.specs.Left.{Left}
@@ -38,7 +38,7 @@ use Rattle.task_text.specs.TaskLines.{IsTask, has_chunk}
 use Rattle.task_text.specs.declared.task.Task.{Task}
 use Rattle.task_text.specs.declared.task.Work.{Work}
 use Rattle.task_text.specs.declared.task.Work.TheVariants.{Store, Get, Check, Drop, XStore, XGet, XCheck, XDrop, XRename}
-use Rattle.run_tasks.proofs.Kept.{rises}
+use Rattle.run_command.proofs.Kept.{rises}
 
 -- ---- what was written
 

@@ -6,16 +6,16 @@ use Rattle.std.specs.List.{concat}
 use Rattle.ann_key.specs.Keys.{Parts}
 use Rattle.ann_outside.specs.Calls.{Log}
 use Rattle.ann_outside.specs.Files.{Files}
-use Rattle.job_rounds.specs.Desks.{DesksDid}
-use Rattle.job_rounds.specs.ToldDesks.{AreBlank, ArePlayedNow, AreToldAt}
-use Rattle.job_rounds.proofs.TaskFiles.{tasks_are_told}
+use Rattle.run_children.specs.Desks.{DesksDid}
+use Rattle.run_children.specs.ToldDesks.{AreBlank, ArePlayedNow, AreToldAt}
+use Rattle.run_children.proofs.TaskFiles.{tasks_are_told}
 use Rattle.journal_model.specs.declared.answer.Answer.{Answer}
 use Rattle.journal_model.specs.declared.entry.Entry.{Entry}
 use Rattle.journal_model.specs.declared.opening.Opening.{Opening}
 use Rattle.journal_model.specs.Legality.{Legal}
-use Rattle.lone_work.specs.Works.{TaskDone}
-use Rattle.run_tasks.specs.Inputs.{run_setup}
-use Rattle.run_tasks.specs.Runs.{AreFresh, ArePlayedAt}
+use Rattle.crew_worker.specs.Works.{TaskDone}
+use Rattle.run_command.specs.Inputs.{run_setup}
+use Rattle.run_command.specs.Runs.{AreFresh, ArePlayedAt}
 use Rattle.special_laws.specs.FilesHold.{AllHold, FilesHold, FilesHoldAt, FilesHoldFrom, GotAnew, RunIsTold, RunKeeps}
 use Rattle.task_laws.specs.Changes.{Request}
 use Rattle.task_laws.specs.Faithful.{IsFaithful, IsPlayed, Told, sent}
@@ -24,10 +24,10 @@ use Rattle.task_laws.specs.ToldDesks.{AreToldFrom, AreToldSo, IsToldAt, turn_don
 use Rattle.task_laws.proofs.FilesStored.{desk_holds, file_keeps_content, file_keeps_stored}
 use Rattle.task_laws.proofs.NoPart.{no_part_is_afresh}
 use Rattle.task_laws.proofs.Retrieving.{ran_in}
-use Rattle.task_run.specs.Askings.{run_askings, run_notings}
-use Rattle.task_run.specs.Runs.{TaskRun}
-use Rattle.task_run.specs.declared.setup.Setup.{Setup}
-use Rattle.task_run.specs.declared.turn.TaskTurn.{TaskTurn}
+use Rattle.task_model.specs.Askings.{run_askings, run_notings}
+use Rattle.task_model.specs.Runs.{TaskRun}
+use Rattle.task_model.specs.declared.setup.Setup.{Setup}
+use Rattle.task_model.specs.declared.turn.TaskTurn.{TaskTurn}
 
 -- ---- what is told
 

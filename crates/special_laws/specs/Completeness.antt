@@ -6,15 +6,15 @@ use Rattle.ann_outside.specs.Causes.{Rose}
 use Rattle.ann_outside.specs.Files.{Files}
 use Rattle.child_end.specs.Outsides.{OutsideValue}
 use Rattle.cli_words.specs.declared.command.RunWords.{RunWords}
-use Rattle.job_rounds.specs.Completeness.{DesksFound}
+use Rattle.run_children.specs.Completeness.{DesksFound}
 use Rattle.journal_model.specs.declared.answer.Answer.{Answer}
 use Rattle.journal_model.specs.declared.answer.Answer.TheVariants.{Memory as MemoryAnswer}
 use Rattle.journal_model.specs.declared.entry.Entry.{Entry}
 use Rattle.keep_desk.specs.declared.writing.KeptWritten.TheVariants as W
-use Rattle.run_tasks.specs.Inputs.{InputFlow, IsTaken, run_setup}
-use Rattle.run_tasks.specs.Runs.{EndsRun, IsAtDesk, IsIdle, IsRunOf, MadeValue}
-use Rattle.run_tasks.specs.declared.made.RunEnd.{RunEnd}
-use Rattle.run_tasks.specs.declared.made.RunEnd.TheVariants.{BadKept, KeptTooLarge, FileFailed, InputFailed, Refused, Memory, Done}
+use Rattle.run_command.specs.Inputs.{InputFlow, IsTaken, run_setup}
+use Rattle.run_command.specs.Runs.{EndsRun, IsAtDesk, IsIdle, IsRunOf, MadeValue}
+use Rattle.run_command.specs.declared.made.RunEnd.{RunEnd}
+use Rattle.run_command.specs.declared.made.RunEnd.TheVariants.{BadKept, KeptTooLarge, FileFailed, InputFailed, Refused, Memory, Done}
 use Rattle.special_cli.specs.Doings.{end_of, made_in}
 use Rattle.special_cli.specs.Left.{Left}
 use Rattle.special_cli.specs.Tells.{Flow, IsToldOf}

@@ -7,16 +7,16 @@ use Rattle.ann_outside.specs.Calls.{Log}
 use Rattle.ann_outside.specs.Files.{Files, content}
 use Rattle.child_end.specs.Outsides.{OutsideValue}
 use Rattle.cli_words.specs.declared.command.RunWords.{RunWords}
-use Rattle.gathering.specs.JournalRuns.{JournalRun}
-use Rattle.job_rounds.specs.Desks.{DesksDid}
-use Rattle.job_rounds.specs.ToldDesks.{AreToldAt}
+use Rattle.crew_laws.specs.JournalRuns.{JournalRun}
+use Rattle.run_children.specs.Desks.{DesksDid}
+use Rattle.run_children.specs.ToldDesks.{AreToldAt}
 use Rattle.journal_model.specs.declared.answer.Answer.TheVariants.{Got}
 use Rattle.journal_model.specs.declared.entry.Entry.{Entry}
 use Rattle.journal_model.specs.declared.opening.Opening.{Opening}
-use Rattle.lone_work.specs.Works.{TaskDone}
-use Rattle.run_tasks.specs.Inputs.{InputFlow, run_setup}
-use Rattle.run_tasks.specs.Runs.{IsAtDesk, IsRunOf}
-use Rattle.run_tasks.specs.declared.made.RunEnd.{RunEnd}
+use Rattle.crew_worker.specs.Works.{TaskDone}
+use Rattle.run_command.specs.Inputs.{InputFlow, run_setup}
+use Rattle.run_command.specs.Runs.{IsAtDesk, IsRunOf}
+use Rattle.run_command.specs.declared.made.RunEnd.{RunEnd}
 use Rattle.special_cli.specs.Doings.{made_in}
 use Rattle.special_cli.specs.Left.{Left}
 use Rattle.task_laws.specs.Changes.{Request}
@@ -24,10 +24,10 @@ use Rattle.task_laws.specs.Faithful.{AreStoredFor, IsFaithful, Told, sent}
 use Rattle.task_laws.specs.FilesKept.{HasNoPart}
 use Rattle.task_laws.specs.Retrieval.{AllLeave, StoredInChunks}
 use Rattle.task_laws.specs.ToldDesks.{turn_done}
-use Rattle.task_run.specs.Askings.{run_askings}
-use Rattle.task_run.specs.Gets.{asked_last}
-use Rattle.task_run.specs.declared.setup.Setup.{Setup}
-use Rattle.task_run.specs.declared.turn.TaskTurn.{TaskTurn}
+use Rattle.task_model.specs.Askings.{run_askings}
+use Rattle.task_model.specs.Gets.{asked_last}
+use Rattle.task_model.specs.declared.setup.Setup.{Setup}
+use Rattle.task_model.specs.declared.turn.TaskTurn.{TaskTurn}
 
 -- ---- one get
 

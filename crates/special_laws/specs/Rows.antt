@@ -6,7 +6,7 @@ use Rattle.journal_model.specs.declared.answer.Answer.TheVariants.{Memory, NoChi
 use Rattle.journal_model.specs.declared.entry.What.TheVariants.{Claim, Mute, Answer as Answered}
 use Rattle.journal_model.specs.declared.entry.Entry.{Entry}
 use Rattle.journal_model.specs.Rows.{sample_key, by_main, greeting, closed, check_present}
-use Rattle.link_roles.specs.Wires.{WireValue}
+use Rattle.child_link.specs.Wires.{WireValue}
 use Rattle.child_end.specs.Wires.{AreWires, came}
 
 -- What the child of a check that found its key was asked and said. Its halves tell the first start, never failed and are

@@ -1,9 +1,9 @@
 // Laws over what is told of an audit, each the contract of a function with nothing to do.
 ghost use Rattle.std.specs.Prelude.{ℕ, ◌≡◌, ◌++◌, List, [], ◌∷◌, codes};
-ghost use Rattle.audit_run.specs.Inputs.{IsFound, audit_limits};
+ghost use Rattle.audit_command.specs.Inputs.{IsFound, audit_limits};
 ghost use Rattle.child_end.specs.Outsides.{OutsideValue};
 ghost use Rattle.journal_audit.specs.declared.found.Audit.TheVariants.{Legal, Wrong};
-ghost use Rattle.run_tasks.specs.Inputs.{InputFlow};
+ghost use Rattle.run_command.specs.Inputs.{InputFlow};
 ghost use Rattle.special_cli.specs.Audits.{found_line};
 ghost use Rattle.special_cli.specs.Calls.{IsAuditCalled};
 ghost use Rattle.special_cli.specs.Left.{Left};

@@ -1,6 +1,6 @@
 // Laws over what is told of an info, each the contract of a function with nothing to do.
 ghost use Rattle.std.specs.Prelude.{◌≡◌, ◌++◌, [], ◌∷◌, Some, None, codes, true};
-ghost use Rattle.info_run.specs.Rows.{foul_cost, not_started};
+ghost use Rattle.info_command.specs.Rows.{foul_cost, not_started};
 ghost use Rattle.special_cli.specs.Informs.{IsInfoTold, IsComplete};
 ghost use Rattle.special_laws.specs.Rows.{unasked};
 

@@ -6,10 +6,10 @@ use Rattle.std.proofs.lemmas.Bool.{and_parts}
 use Rattle.std.proofs.lemmas.List.Sums.{sum_by-cons, sum_by-append}
 use Rattle.annex_model.specs.Messages.{HostMessage}
 use Rattle.ann_key.specs.Keys.{Parts}
-use Rattle.task_run.specs.Askers.{Asking}
-use Rattle.task_run.specs.Stops.{is_done}
-use Rattle.task_run.specs.Requests.{AskInOrder, rounds, RoundsAsk}
-use Rattle.task_run.specs.Gets.{item}
+use Rattle.task_model.specs.Askers.{Asking}
+use Rattle.task_model.specs.Stops.{is_done}
+use Rattle.task_model.specs.Requests.{AskInOrder, rounds, RoundsAsk}
+use Rattle.task_model.specs.Gets.{item}
 use Rattle.ann_key.proofs.Lists.{all_more as list_all-append}
 
 -- ---- one round

@@ -21,12 +21,12 @@ use Rattle.journal_model.specs.declared.answer.Answer.{Answer}
 use Rattle.journal_model.specs.declared.answer.Answer.TheVariants.{Got}
 use Rattle.task_get.specs.declared.get_begin.Begun.{Begun}
 use Rattle.task_get.specs.declared.get_begin.Begun.TheVariants as B
-use Rattle.task_run.specs.Ran.{refusal, tells_of_refusal, HasQuietCauses}
-use Rattle.task_run.specs.Fetching.{if_made}
+use Rattle.task_model.specs.Ran.{refusal, tells_of_refusal, HasQuietCauses}
+use Rattle.task_model.specs.Fetching.{if_made}
 use Rattle.task_get.specs.ChunkFetches.{over_with, answer_in}
 use Rattle.task_get.specs.PartBegins.{Unlooked, Unmade, Made, Uncut, Unread, Resumed, keep_of, unbegun, Begins, answer_begun}
-use Rattle.task_run.specs.Ran.{HasTaskCauses}
-use Rattle.task_run.proofs.Gains.{gained_create, gained_size_refused}
+use Rattle.task_model.specs.Ran.{HasTaskCauses}
+use Rattle.task_model.proofs.Gains.{gained_create, gained_size_refused}
 
 pub begins_unlooked : (part : List ℕ) (size chunk : ℕ) (k : Checker) (a b : Option Log) (e : DeskError) → (e ≡ E.Missing → ⊥) → b ≡ logged a (Size part (Err e))
     → Begins part size chunk k k a b (unbegun (refusal e))

@@ -14,10 +14,10 @@ use Rattle.fetch_copy.specs.Copies.{copy_calls, Copies, EndsCopy, EndsRefused, r
 use Rattle.fetch_copy.proofs.CopyLaws.{gained_more, gained_call}
 use Rattle.task_get.specs.declared.get_chunk.Went.{Went}
 use Rattle.task_get.specs.declared.get_chunk.Went.TheVariants as T
-use Rattle.task_run.specs.Ran.{refusal}
-use Rattle.task_run.specs.Fetching.{Outcome, if_made}
+use Rattle.task_model.specs.Ran.{refusal}
+use Rattle.task_model.specs.Fetching.{Outcome, if_made}
 use Rattle.task_get.specs.ChunkFetches.{over_with, Come, Unmeasured, Misfit, Uncopied, Unremoved, Came, IsOfCopy, copied_calls, come_calls, come_result, CopiesOver, Comes}
-use Rattle.task_run.proofs.Gains.{gained_remove, gained_size_refused}
+use Rattle.task_model.proofs.Gains.{gained_remove, gained_size_refused}
 
 refused_end : (fetch part : List ℕ) (at left : ℕ) (ending : List Call) (e : DeskError) → EndsCopy fetch part at left (refusal_of e) ending → EndsRefused e fetch part at ending
 refused_end fetch part at left ending E.NoMemory h = h

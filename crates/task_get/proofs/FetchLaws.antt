@@ -17,10 +17,10 @@ use Rattle.fetch_copy.specs.declared.copied.Copied.TheVariants.{Done}
 use Rattle.fetch_copy.specs.Copies.{copy_calls, Copies, EndsCopy, EndsRefused, refusal_of}
 use Rattle.fetch_copy.proofs.CopyLaws.{gained_more, gained_call}
 use Rattle.journal_model.specs.declared.answer.Answer.{Answer}
-use Rattle.task_run.specs.Stores.{is_size}
-use Rattle.task_run.specs.Ran.{refusal}
-use Rattle.task_run.proofs.Gains.{gained_create, gained_remove, gained_rename, gained_size_refused}
-use Rattle.task_run.specs.Fetching.{Files3, Outcome, if_made, settled, settling, NotMade, NotCopied, NotRemoved, Settled, move_calls, Moves, NotSized, WrongSize, Moved, fetch_result, Fetches}
+use Rattle.task_model.specs.Stores.{is_size}
+use Rattle.task_model.specs.Ran.{refusal}
+use Rattle.task_model.proofs.Gains.{gained_create, gained_remove, gained_rename, gained_size_refused}
+use Rattle.task_model.specs.Fetching.{Files3, Outcome, if_made, settled, settling, NotMade, NotCopied, NotRemoved, Settled, move_calls, Moves, NotSized, WrongSize, Moved, fetch_result, Fetches}
 
 pub gained_settling : (names : Files3) (fit : Fit) (old new : Option Log) (r : Outcome) → new ≡ logged old (settling names fit r) → Gained old new (if_made r (settling names fit r))
 gained_settling names F.Fits old new r e = gained_rename old new names.part names.file r e

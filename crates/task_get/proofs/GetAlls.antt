@@ -9,27 +9,27 @@ use Rattle.task_text.specs.declared.task.Task.{Task}
 use Rattle.task_text.specs.declared.task.Work.TheVariants as W
 use Rattle.ann_outside.specs.Calls.{Log}
 use Rattle.ann_outside.specs.declared.file_desk.Call.{Call}
-use Rattle.task_run.specs.Askers.{Asking}
-use Rattle.task_run.specs.declared.setup.Setup.{Setup}
-use Rattle.task_run.specs.declared.turn.TaskTurn.{TaskTurn}
+use Rattle.task_model.specs.Askers.{Asking}
+use Rattle.task_model.specs.declared.setup.Setup.{Setup}
+use Rattle.task_model.specs.declared.turn.TaskTurn.{TaskTurn}
 use Rattle.std.proofs.lemmas.List.{drop_all}
 use Rattle.std.proofs.lemmas.List.Folds.{list_all_at}
 use Rattle.std.proofs.lemmas.Bool.Decides.{nat_tests}
-use Rattle.task_run.specs.Askers.{are_layouts}
+use Rattle.task_model.specs.Askers.{are_layouts}
 use Rattle.task_get.specs.declared.get_chunk.Went.{Went}
 use Rattle.task_get.specs.declared.get_chunk.Went.TheVariants as T
 use Rattle.task_get.proofs.GetChunks.{both_grown}
-use Rattle.task_run.specs.Layouts.{chunk_sizes, sizes_tried}
-use Rattle.task_run.specs.Gets.{is_failed}
-use Rattle.task_run.specs.Runs.{RunOf, TaskRun}
-use Rattle.task_run.specs.Ran.{RanGet, answered}
+use Rattle.task_model.specs.Layouts.{chunk_sizes, sizes_tried}
+use Rattle.task_model.specs.Gets.{is_failed}
+use Rattle.task_model.specs.Runs.{RunOf, TaskRun}
+use Rattle.task_model.specs.Ran.{RanGet, answered}
 use Rattle.task_get.specs.Fronts.{Place, Between, Ended}
 use Rattle.task_get.specs.LayoutRuns.{Grown, place_at, LayoutEnd, LayoutRan, TriesEnd, TriesRan, WholeRan, GetRan}
 use Rattle.fetch_copy.proofs.CopyLaws.{gained_nothing}
 use Rattle.task_get.proofs.LastCalls.{after_last-none}
-use Rattle.task_run.proofs.PlainRuns.{of_reading}
+use Rattle.task_model.proofs.PlainRuns.{of_reading}
 use Rattle.task_get.proofs.GetRuns.{get_task, no_chunks as none_left}
-use Rattle.task_run.proofs.NamedRuns.{nameless, with_names}
+use Rattle.task_model.proofs.NamedRuns.{nameless, with_names}
 use Rattle.task_text.specs.Works.{has_name}
 use Rattle.ann_key.proofs.Booleans.{false_is_true as apart}
 

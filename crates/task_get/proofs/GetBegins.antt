@@ -19,23 +19,23 @@ use Rattle.fetch_copy.specs.Resumes.{read_calls}
 use Rattle.fetch_copy.proofs.CopyLaws.{checks_nothing}
 use Rattle.journal_model.specs.declared.answer.Answer.{Answer}
 use Rattle.journal_model.specs.declared.answer.Answer.TheVariants as A
-use Rattle.task_run.specs.Askers.{Asking}
+use Rattle.task_model.specs.Askers.{Asking}
 use Rattle.task_get.specs.declared.get_begin.Begun.{Begun}
 use Rattle.task_get.specs.declared.get_begin.Begun.TheVariants as B
-use Rattle.task_run.specs.Stops.{call_stop}
-use Rattle.task_run.specs.Names.{part_of}
-use Rattle.task_run.specs.Layouts.{parts_of_layout}
-use Rattle.task_run.specs.Requests.{AskInOrder}
-use Rattle.task_run.specs.Reads.{length_or_none, reads_of, read_of, bytes_of, is_run, is_reading, is_known, appended, piece_of, holds, are_found_so}
-use Rattle.task_run.specs.Gets.{fetch_request, begins, lengths_at_begin, wanted, parts_wanted, held_reads, since_begin}
-use Rattle.task_run.specs.Ran.{answered, refusal}
-use Rattle.task_run.specs.Fetching.{Outcome}
+use Rattle.task_model.specs.Stops.{call_stop}
+use Rattle.task_model.specs.Names.{part_of}
+use Rattle.task_model.specs.Layouts.{parts_of_layout}
+use Rattle.task_model.specs.Requests.{AskInOrder}
+use Rattle.task_model.specs.Reads.{length_or_none, reads_of, read_of, bytes_of, is_run, is_reading, is_known, appended, piece_of, holds, are_found_so}
+use Rattle.task_model.specs.Gets.{fetch_request, begins, lengths_at_begin, wanted, parts_wanted, held_reads, since_begin}
+use Rattle.task_model.specs.Ran.{answered, refusal}
+use Rattle.task_model.specs.Fetching.{Outcome}
 use Rattle.task_get.specs.Fronts.{Place, Turn, first_in, Sound, are_free, Within, Kept, Between, Ended, begin_of}
 use Rattle.task_get.specs.LayoutRuns.{parts_from, parts_between}
 use Rattle.task_get.specs.PartBegins.{Begin, Unlooked, Unmade, Made, Uncut, Unread, Resumed, keep_of, begin_calls, begin_result, BeginIs}
-use Rattle.task_run.proofs.HeldLaws.{is_looking, holds_more, so_behind, holds_cut}
+use Rattle.task_model.proofs.HeldLaws.{is_looking, holds_more, so_behind, holds_cut}
 use Rattle.task_get.proofs.LastCalls.{after_last-at}
-use Rattle.task_run.proofs.GetCallsLaws.{known_add, known_skip, placed, run_placed, bytes_placed}
+use Rattle.task_model.proofs.GetCallsLaws.{known_add, known_skip, placed, run_placed, bytes_placed}
 use Rattle.task_get.proofs.GetEnds.{whole_reading, stop_is}
 use Rattle.task_get.proofs.GetFronts.{Fore, ended_memory, ended_stopped}
 use Rattle.task_get.proofs.GetChunks.{whole_of, none_from, first_from}
@@ -45,7 +45,7 @@ use Rattle.chunk_plan.proofs.Joined.{reaches}
 use Rattle.ann_key.proofs.Booleans.{false_is_true as apart}
 use Rattle.ann_key.proofs.Lists.{same_name, all_more as list_all-append}
 use Rattle.ann_key.proofs.Numbers.{same_number as nat_same}
-use Rattle.task_run.proofs.Across.{bytes_more}
+use Rattle.task_model.proofs.Across.{bytes_more}
 
 -- ---- what is wanted
 

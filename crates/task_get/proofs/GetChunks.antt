@@ -13,12 +13,12 @@ use Rattle.chunk_plan.specs.Layouts.{Part, chunk_part, count_of}
 use Rattle.fetch_copy.specs.Copies.{Checks}
 use Rattle.fetch_copy.proofs.CopyLaws.{gained_nothing, gained_more, checks_nothing, checks_more}
 use Rattle.journal_model.specs.declared.answer.Answer.TheVariants as A
-use Rattle.task_run.specs.Askers.{Asking}
-use Rattle.task_run.specs.declared.setup.Setup.{Setup}
-use Rattle.task_run.specs.declared.turn.TaskTurn.{TaskTurn}
+use Rattle.task_model.specs.Askers.{Asking}
+use Rattle.task_model.specs.declared.setup.Setup.{Setup}
+use Rattle.task_model.specs.declared.turn.TaskTurn.{TaskTurn}
 use Rattle.task_get.specs.declared.get_chunk.Went.{Went}
 use Rattle.task_get.specs.declared.get_chunk.Went.TheVariants as T
-use Rattle.task_run.specs.Names.{part_of}
+use Rattle.task_model.specs.Names.{part_of}
 use Rattle.task_get.specs.Fronts.{Turn, Within, Kept, Between, Ended}
 use Rattle.task_get.specs.LayoutRuns.{Grown, Behind, turn_at, parts_from, parts_between, PartEnd, ChunksEnd, NextDoes, ChunksRan}
 

@@ -9,11 +9,11 @@ use Rattle.chunk_plan.specs.Layouts.{Part}
 use Rattle.ann_outside.specs.declared.file_desk.Call.{Call}
 use Rattle.journal_model.specs.declared.answer.Answer.{Answer}
 use Rattle.journal_model.specs.declared.answer.Answer.TheVariants as A
-use Rattle.task_run.specs.Askers.{Asking}
-use Rattle.task_run.specs.Stops.{is_done, last_failed}
-use Rattle.task_run.specs.Names.{part_of}
-use Rattle.task_run.specs.Reads.{is_reading, is_removed, is_last, is_renaming, appended, bytes_of, holds, are_found_so}
-use Rattle.task_run.specs.Gets.{lengths_at_begin, wanted, is_failed, failures, asked_last, first_asked, item, parts_last, is_plain_last, end_held, since_begin, held_reads, bytes_fetched, checked, are_read_whole, wrong_lengths, fit_in, is_got, IsSaid, IsChecked, IsFetchKept, DecidesBy, Decides, GetAnswers}
+use Rattle.task_model.specs.Askers.{Asking}
+use Rattle.task_model.specs.Stops.{is_done, last_failed}
+use Rattle.task_model.specs.Names.{part_of}
+use Rattle.task_model.specs.Reads.{is_reading, is_removed, is_last, is_renaming, appended, bytes_of, holds, are_found_so}
+use Rattle.task_model.specs.Gets.{lengths_at_begin, wanted, is_failed, failures, asked_last, first_asked, item, parts_last, is_plain_last, end_held, since_begin, held_reads, bytes_fetched, checked, are_read_whole, wrong_lengths, fit_in, is_got, IsSaid, IsChecked, IsFetchKept, DecidesBy, Decides, GetAnswers}
 use Rattle.task_get.specs.Fronts.{Turn, first_in, Tried, begin_of}
 use Rattle.task_get.proofs.AskLaws.{item_behind}
 use Rattle.task_get.proofs.GetFronts.{first_is, parts_are, failures_are}

@@ -8,19 +8,19 @@ use Rattle.ann_outside.specs.declared.file_desk.DeskError.TheVariants as E
 use Rattle.ann_outside.specs.declared.file_desk.Call.{Call}
 use Rattle.ann_outside.specs.declared.file_desk.Call.TheVariants.{ReadAt, Remove}
 use Rattle.fetch_copy.specs.Copies.{copy_calls, EndsWhole}
-use Rattle.task_run.specs.declared.setup.Setup.{Setup}
-use Rattle.task_run.specs.declared.turn.TaskTurn.{TaskTurn}
-use Rattle.task_run.specs.Stops.{error_stop}
-use Rattle.task_run.specs.Names.{part_of, fetch_file}
-use Rattle.task_run.specs.Reads.{length_found, lengths_found, bytes_of, is_last, is_last_call_of, is_call_of, reads_of, read_of, is_run, is_reading, is_at_end, is_known, piece_of}
-use Rattle.task_run.specs.Gets.{begins}
-use Rattle.task_run.specs.Ran.{answered, refusal}
-use Rattle.task_run.specs.Fetching.{Files3}
-use Rattle.task_run.proofs.HeldLaws.{is_growing}
-use Rattle.task_run.proofs.GetCallsLaws.{Apart, Good, fair_read, known_skip, copy_reads, bytes_placed, copy_appends, placed}
+use Rattle.task_model.specs.declared.setup.Setup.{Setup}
+use Rattle.task_model.specs.declared.turn.TaskTurn.{TaskTurn}
+use Rattle.task_model.specs.Stops.{error_stop}
+use Rattle.task_model.specs.Names.{part_of, fetch_file}
+use Rattle.task_model.specs.Reads.{length_found, lengths_found, bytes_of, is_last, is_last_call_of, is_call_of, reads_of, read_of, is_run, is_reading, is_at_end, is_known, piece_of}
+use Rattle.task_model.specs.Gets.{begins}
+use Rattle.task_model.specs.Ran.{answered, refusal}
+use Rattle.task_model.specs.Fetching.{Files3}
+use Rattle.task_model.proofs.HeldLaws.{is_growing}
+use Rattle.task_model.proofs.GetCallsLaws.{Apart, Good, fair_read, known_skip, copy_reads, bytes_placed, copy_appends, placed}
 use Rattle.ann_key.proofs.Lists.{all_more as list_all_more, same_name}
 use Rattle.ann_key.proofs.Numbers.{same_number as nat_same}
-use Rattle.task_run.proofs.Across.{bytes_more, at_end-snoc}
+use Rattle.task_model.proofs.Across.{bytes_more, at_end-snoc}
 
 -- ---- a read at the end
 

@@ -9,18 +9,18 @@ use Rattle.ann_outside.specs.declared.file_desk.DeskError.TheVariants as E
 use Rattle.ann_outside.specs.declared.file_desk.Call.{Call}
 use Rattle.ann_outside.specs.declared.file_desk.Call.TheVariants.{Size, ReadAt, Append, Remove}
 use Rattle.fetch_copy.specs.Copies.{copy_calls, EndsWhole, EndsEarly, RefusedBy}
-use Rattle.task_run.specs.Askers.{Asking}
+use Rattle.task_model.specs.Askers.{Asking}
 use Rattle.journal_model.specs.declared.answer.Answer.{Answer}
 use Rattle.journal_model.specs.declared.answer.Answer.TheVariants as A
-use Rattle.task_run.specs.Stops.{call_stop}
-use Rattle.task_run.specs.Names.{part_of}
-use Rattle.task_run.specs.Reads.{reads_of, read_of, is_run, is_known}
-use Rattle.task_run.specs.Discipline.{are_found}
-use Rattle.task_run.specs.Ran.{answered, refusal}
-use Rattle.task_run.specs.Fetching.{if_made}
+use Rattle.task_model.specs.Stops.{call_stop}
+use Rattle.task_model.specs.Names.{part_of}
+use Rattle.task_model.specs.Reads.{reads_of, read_of, is_run, is_known}
+use Rattle.task_model.specs.Discipline.{are_found}
+use Rattle.task_model.specs.Ran.{answered, refusal}
+use Rattle.task_model.specs.Fetching.{if_made}
 use Rattle.task_get.specs.Fronts.{Turn, fetch_at, is_apart, are_free, Ended}
-use Rattle.task_run.proofs.FileNames.{fetch_files_differ}
-use Rattle.task_run.proofs.GetCallsLaws.{Apart, Fair, Good, fair_more, found_more, good_more, fair_read, fair_append, fair_remove_fetch, known_skip, known_copy, copy_good, copy_reads, run_placed, placed}
+use Rattle.task_model.proofs.FileNames.{fetch_files_differ}
+use Rattle.task_model.proofs.GetCallsLaws.{Apart, Fair, Good, fair_more, found_more, good_more, fair_read, fair_append, fair_remove_fetch, known_skip, known_copy, copy_good, copy_reads, run_placed, placed}
 use Rattle.task_get.proofs.GetTasks.{names_apart}
 use Rattle.task_get.proofs.GetEnds.{Tail, tail_of, stop_is, moved_calls}
 use Rattle.task_get.proofs.GetFronts.{Fore, ended_memory, ended_stopped}

@@ -14,16 +14,16 @@ use Rattle.journal_model.specs.declared.answer.Answer.{Answer}
 use Rattle.journal_model.specs.declared.answer.Answer.TheVariants as A
 use Rattle.task_text.specs.declared.task.Work.TheVariants as W
 use Rattle.ann_outside.specs.declared.file_desk.Call.{Call}
-use Rattle.task_run.specs.Askers.{Asking}
-use Rattle.task_run.specs.Stops.{is_done, asking_stop, call_stop, stops_of, AnsweredBy, all_but_last}
-use Rattle.task_run.specs.Names.{part_of}
-use Rattle.task_run.specs.Requests.{rounds, RoundsAsk}
-use Rattle.task_run.specs.Reads.{is_run}
-use Rattle.task_run.specs.Gets.{fetch_request, lengths_at_begin, wanted, is_failed, failures, asked_last, first_asked, item, parts_last, held_reads, are_read, wrong_lengths, GetAsks, GetAnswers}
-use Rattle.task_run.specs.TaskCalls.{GetCalls}
+use Rattle.task_model.specs.Askers.{Asking}
+use Rattle.task_model.specs.Stops.{is_done, asking_stop, call_stop, stops_of, AnsweredBy, all_but_last}
+use Rattle.task_model.specs.Names.{part_of}
+use Rattle.task_model.specs.Requests.{rounds, RoundsAsk}
+use Rattle.task_model.specs.Reads.{is_run}
+use Rattle.task_model.specs.Gets.{fetch_request, lengths_at_begin, wanted, is_failed, failures, asked_last, first_asked, item, parts_last, held_reads, are_read, wrong_lengths, GetAsks, GetAnswers}
+use Rattle.task_model.specs.TaskCalls.{GetCalls}
 use Rattle.task_get.specs.Fronts.{Place, keys_in, is_calm, Tried, Sound, are_free, Ended}
 use Rattle.task_get.proofs.AskLaws.{count_more, item_behind}
-use Rattle.task_run.proofs.Lists.{all_taken, none_stop, but_last}
+use Rattle.task_model.proofs.Lists.{all_taken, none_stop, but_last}
 use Rattle.ann_key.proofs.Booleans.{false_is_true as apart}
 use Rattle.ann_outside.proofs.Across.{count_none}
 

@@ -14,17 +14,17 @@ use Rattle.chunk_plan.specs.Layouts.{Part, count_of, from_of, to_of, held_of}
 use Rattle.fetch_copy.proofs.CopyLaws.{gained_nothing, gained_more}
 use Rattle.journal_model.specs.declared.answer.Answer.{Answer}
 use Rattle.journal_model.specs.declared.answer.Answer.TheVariants as A
-use Rattle.task_run.specs.Askers.{Asking}
-use Rattle.task_run.specs.declared.setup.Setup.{Setup}
-use Rattle.task_run.specs.declared.turn.TaskTurn.{TaskTurn}
+use Rattle.task_model.specs.Askers.{Asking}
+use Rattle.task_model.specs.declared.setup.Setup.{Setup}
+use Rattle.task_model.specs.declared.turn.TaskTurn.{TaskTurn}
 use Rattle.task_get.specs.declared.get_chunk.Went.{Went}
 use Rattle.task_get.specs.declared.get_chunk.Went.TheVariants as T
 use Rattle.task_get.specs.declared.get_begin.Begun.{Begun}
 use Rattle.task_get.specs.declared.get_begin.Begun.TheVariants as B
-use Rattle.task_run.specs.Names.{part_of}
-use Rattle.task_run.specs.Reads.{bytes_of}
-use Rattle.task_run.specs.Ran.{answered, refusal}
-use Rattle.task_run.specs.Fetching.{Outcome, if_made, settling, settled}
+use Rattle.task_model.specs.Names.{part_of}
+use Rattle.task_model.specs.Reads.{bytes_of}
+use Rattle.task_model.specs.Ran.{answered, refusal}
+use Rattle.task_model.specs.Fetching.{Outcome, if_made, settling, settled}
 use Rattle.task_get.specs.ChunkFetches.{over_with}
 use Rattle.task_get.specs.Fronts.{Turn, Between, Ended}
 use Rattle.task_get.specs.LayoutRuns.{Behind, place_at, turn_at, parts_from, ChunksEnd, ChunksRan, LayoutEnd, LayoutRan}

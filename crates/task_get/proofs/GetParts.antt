@@ -15,22 +15,22 @@ use Rattle.ann_outside.specs.declared.file_desk.Call.{Call}
 use Rattle.ann_outside.specs.declared.file_desk.Call.TheVariants.{Size, ReadAt, Create, Cut, Rename, Remove}
 use Rattle.journal_model.specs.declared.answer.Answer.{Answer}
 use Rattle.journal_model.specs.declared.answer.Answer.TheVariants as A
-use Rattle.task_run.specs.Askers.{Asking}
-use Rattle.task_run.specs.Stops.{is_done, call_stop, AnsweredBy, all_but_last}
-use Rattle.task_run.specs.Names.{part_of, fetch_files}
-use Rattle.task_run.specs.Requests.{rounds, RoundsAsk}
-use Rattle.task_run.specs.Reads.{length_or_none, reads_of, read_of, bytes_of, is_run, is_reading, is_known, appended, holds, takes_away, is_renaming, is_last, is_removed, piece_of}
-use Rattle.task_run.specs.Discipline.{are_found, name_only, changes_as_result, size_of_only}
-use Rattle.task_run.specs.Gets.{fetch_request, begins, lengths_at_begin, wanted, wrong_lengths, held_reads, since_begin, bytes_fetched, fit_in, is_got, IsSaid, GetAsks, GetAnswers}
-use Rattle.task_run.specs.TaskCalls.{fetched_files}
-use Rattle.task_run.specs.Ran.{answered}
-use Rattle.task_run.specs.Fetching.{Outcome, if_made, discarded, settling, settled}
+use Rattle.task_model.specs.Askers.{Asking}
+use Rattle.task_model.specs.Stops.{is_done, call_stop, AnsweredBy, all_but_last}
+use Rattle.task_model.specs.Names.{part_of, fetch_files}
+use Rattle.task_model.specs.Requests.{rounds, RoundsAsk}
+use Rattle.task_model.specs.Reads.{length_or_none, reads_of, read_of, bytes_of, is_run, is_reading, is_known, appended, holds, takes_away, is_renaming, is_last, is_removed, piece_of}
+use Rattle.task_model.specs.Discipline.{are_found, name_only, changes_as_result, size_of_only}
+use Rattle.task_model.specs.Gets.{fetch_request, begins, lengths_at_begin, wanted, wrong_lengths, held_reads, since_begin, bytes_fetched, fit_in, is_got, IsSaid, GetAsks, GetAnswers}
+use Rattle.task_model.specs.TaskCalls.{fetched_files}
+use Rattle.task_model.specs.Ran.{answered}
+use Rattle.task_model.specs.Fetching.{Outcome, if_made, discarded, settling, settled}
 use Rattle.task_get.specs.Fronts.{Place, Turn, first_in, fetch_at, keys_in, is_calm, is_apart, Sound, Within, Kept, Between, Ended, begin_of}
-use Rattle.task_run.proofs.HeldLaws.{is_lasting, is_growing, told, holds_more, so_front, holds_grown}
+use Rattle.task_model.proofs.HeldLaws.{is_lasting, is_growing, told, holds_more, so_front, holds_grown}
 use Rattle.task_get.proofs.AskLaws.{count_all}
-use Rattle.task_run.proofs.GetCallsLaws.{Apart, found_more}
+use Rattle.task_model.proofs.GetCallsLaws.{Apart, found_more}
 use Rattle.task_get.proofs.GetEnds.{is_last-snoc, last_call}
-use Rattle.task_run.proofs.Lists.{all_taken}
+use Rattle.task_model.proofs.Lists.{all_taken}
 use Rattle.task_get.proofs.GetTasks.{names_apart}
 use Rattle.task_get.proofs.ReadLaws.{Sub, sub_cons, names_sub, changes_sub, sizes_sub, begin_lengths, held_run, held_more, appended_more, same_read, same_wrong, same_bytes, same_whole, wrong_taken}
 use Rattle.task_get.proofs.GetFronts.{asks_of, Fore, ended_memory, ended_stopped, ended_finished}

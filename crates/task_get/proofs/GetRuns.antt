@@ -2,7 +2,7 @@
 use Rattle.std.proofs.Common.{◌≡◌, ℕ, zero, suc, ◌-◌, List, [], ◌∷◌, refl, ap, arith, drop}
 use Rattle.std.specs.Prelude.{Bool, true, not, Option, Some, None, is_none, unwrap_or}
 use Rattle.std.specs.List.{filter_map, cons_option}
-use Rattle.task_run.specs.Stores.{is_size}
+use Rattle.task_model.specs.Stores.{is_size}
 use Rattle.chunk_plan.specs.Layouts.{Part}
 use Rattle.ann_key.specs.Keys.{Parts}
 use Rattle.journal_model.specs.declared.verdict.Verdict.TheVariants.{Done}
@@ -10,21 +10,21 @@ use Rattle.annex_model.specs.Messages.{HostMessage}
 use Rattle.task_text.specs.declared.task.Task.{Task}
 use Rattle.task_text.specs.declared.task.Work.TheVariants as W
 use Rattle.ann_outside.specs.declared.file_desk.Call.{Call}
-use Rattle.task_run.specs.Askers.{Asking}
+use Rattle.task_model.specs.Askers.{Asking}
 use Rattle.journal_model.specs.declared.answer.Answer.{Answer}
 use Rattle.journal_model.specs.declared.answer.Answer.TheVariants as A
-use Rattle.task_run.specs.declared.setup.Setup.{Setup}
-use Rattle.task_run.specs.declared.turn.TaskTurn.{TaskTurn}
-use Rattle.task_run.specs.Stops.{call_stop, AnsweredBy}
-use Rattle.task_run.specs.Names.{part_of, fetch_file}
-use Rattle.task_run.specs.Requests.{AsksFor}
-use Rattle.task_run.specs.Layouts.{chunk_sizes, sizes_tried}
-use Rattle.task_run.specs.Reads.{reads_of, read_of, is_run}
-use Rattle.task_run.specs.Gets.{fetch_request, GetAsks, GetAnswers, held_reads, is_wrong}
-use Rattle.task_run.specs.Runs.{RunOf}
-use Rattle.task_run.specs.TaskCalls.{GetCalls}
-use Rattle.task_run.proofs.GetCallsLaws.{Fair, Good}
-use Rattle.task_run.proofs.Lists.{all_taken, none_stop}
+use Rattle.task_model.specs.declared.setup.Setup.{Setup}
+use Rattle.task_model.specs.declared.turn.TaskTurn.{TaskTurn}
+use Rattle.task_model.specs.Stops.{call_stop, AnsweredBy}
+use Rattle.task_model.specs.Names.{part_of, fetch_file}
+use Rattle.task_model.specs.Requests.{AsksFor}
+use Rattle.task_model.specs.Layouts.{chunk_sizes, sizes_tried}
+use Rattle.task_model.specs.Reads.{reads_of, read_of, is_run}
+use Rattle.task_model.specs.Gets.{fetch_request, GetAsks, GetAnswers, held_reads, is_wrong}
+use Rattle.task_model.specs.Runs.{RunOf}
+use Rattle.task_model.specs.TaskCalls.{GetCalls}
+use Rattle.task_model.proofs.GetCallsLaws.{Fair, Good}
+use Rattle.task_model.proofs.Lists.{all_taken, none_stop}
 
 pub no_chunks : (size : Option ℕ) → chunk_sizes size [] ≡ []
 no_chunks None = refl

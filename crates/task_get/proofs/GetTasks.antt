@@ -8,20 +8,20 @@ use Rattle.task_text.specs.declared.task.Task.{Task}
 use Rattle.task_text.specs.declared.task.Work.TheVariants as W
 use Rattle.ann_outside.specs.Calls.{Log}
 use Rattle.fetch_copy.proofs.CopyLaws.{gained_nothing}
-use Rattle.task_run.specs.Askers.{Asking}
+use Rattle.task_model.specs.Askers.{Asking}
 use Rattle.journal_model.specs.declared.answer.Answer.TheVariants as A
-use Rattle.task_run.specs.declared.setup.Setup.{Setup}
-use Rattle.task_run.specs.declared.turn.TaskTurn.{TaskTurn}
-use Rattle.task_run.specs.Names.{part_of, fetch_file}
-use Rattle.task_run.specs.Runs.{RunOf, TaskRun}
-use Rattle.task_run.specs.Ran.{RanGet}
-use Rattle.task_run.proofs.Texts.{longer_differs}
-use Rattle.task_run.proofs.PlainRuns.{of_reading}
-use Rattle.task_run.proofs.FileNames.{fetch_differs}
-use Rattle.task_run.proofs.GetCallsLaws.{Apart}
+use Rattle.task_model.specs.declared.setup.Setup.{Setup}
+use Rattle.task_model.specs.declared.turn.TaskTurn.{TaskTurn}
+use Rattle.task_model.specs.Names.{part_of, fetch_file}
+use Rattle.task_model.specs.Runs.{RunOf, TaskRun}
+use Rattle.task_model.specs.Ran.{RanGet}
+use Rattle.task_model.proofs.Texts.{longer_differs}
+use Rattle.task_model.proofs.PlainRuns.{of_reading}
+use Rattle.task_model.proofs.FileNames.{fetch_differs}
+use Rattle.task_model.proofs.GetCallsLaws.{Apart}
 use Rattle.task_get.proofs.GetRuns.{get_task}
 use Rattle.std.proofs.Common.{refl, arith}
-use Rattle.task_run.proofs.NamedRuns.{nameless, with_names}
+use Rattle.task_model.proofs.NamedRuns.{nameless, with_names}
 use Rattle.task_text.specs.Works.{has_name}
 use Rattle.ann_key.proofs.Lists.{other_name}
 

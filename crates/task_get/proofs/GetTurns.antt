@@ -20,24 +20,24 @@ use Rattle.ann_outside.specs.declared.file_desk.Call.{Call}
 use Rattle.ann_outside.specs.declared.file_desk.Call.TheVariants.{Size, Remove}
 use Rattle.fetch_copy.specs.Copies.{EndsWhole, Checks}
 use Rattle.fetch_copy.proofs.CopyLaws.{gained_nothing}
-use Rattle.task_run.specs.Askers.{Asking, KeepsRequest}
-use Rattle.task_run.specs.declared.setup.Setup.{Setup}
-use Rattle.task_run.specs.declared.turn.TaskTurn.{TaskTurn}
+use Rattle.task_model.specs.Askers.{Asking, KeepsRequest}
+use Rattle.task_model.specs.declared.setup.Setup.{Setup}
+use Rattle.task_model.specs.declared.turn.TaskTurn.{TaskTurn}
 use Rattle.task_get.specs.declared.get_chunk.Went.{Went}
 use Rattle.task_get.specs.declared.get_chunk.Went.TheVariants as T
-use Rattle.task_run.specs.Stops.{is_done, is_done_at, asking_stop, call_stop, AnsweredBy}
-use Rattle.task_run.specs.Names.{part_of, fetch_file}
-use Rattle.task_run.specs.Requests.{AsksFor, AskInOrder, rounds, RoundsAsk}
-use Rattle.task_run.specs.Reads.{lengths_found, reads_of, is_known, is_run, is_reading, takes_away, is_removed}
-use Rattle.task_run.specs.Gets.{fetch_request, lengths_at_begin, wanted, wrong_lengths, is_wrong, is_read_whole, is_failed, failures, asked_last, GetAsks}
-use Rattle.task_run.specs.Ran.{refusal, is_verdict_of}
-use Rattle.task_run.specs.Fetching.{Outcome, discarded}
+use Rattle.task_model.specs.Stops.{is_done, is_done_at, asking_stop, call_stop, AnsweredBy}
+use Rattle.task_model.specs.Names.{part_of, fetch_file}
+use Rattle.task_model.specs.Requests.{AsksFor, AskInOrder, rounds, RoundsAsk}
+use Rattle.task_model.specs.Reads.{lengths_found, reads_of, is_known, is_run, is_reading, takes_away, is_removed}
+use Rattle.task_model.specs.Gets.{fetch_request, lengths_at_begin, wanted, wrong_lengths, is_wrong, is_read_whole, is_failed, failures, asked_last, GetAsks}
+use Rattle.task_model.specs.Ran.{refusal, is_verdict_of}
+use Rattle.task_model.specs.Fetching.{Outcome, discarded}
 use Rattle.task_get.specs.Fronts.{Turn, first_in, fetch_at, keys_in, is_calm, is_apart, Tried, Sound, are_free, Within, Kept, Between, Ended}
 use Rattle.task_get.specs.ChunkFetches.{over_with, Come, Unmeasured, Misfit, Uncopied, Unremoved, Came, come_calls, come_result, ComeIs, Take, Unmade, Undone, Fetched, undone_went, TakeIs}
 use Rattle.task_get.specs.LayoutRuns.{Grown, PartEnd, NextRan}
 use Rattle.task_get.proofs.LastCalls.{after_last-at}
 use Rattle.task_get.proofs.AskLaws.{round_ended, count_more, count_all}
-use Rattle.task_run.proofs.GetCallsLaws.{fair_size, fair_remove_part, known_add, known_skip}
+use Rattle.task_model.proofs.GetCallsLaws.{fair_size, fair_remove_part, known_add, known_skip}
 use Rattle.task_get.proofs.GetEnds.{Facts, moved_facts, whole_reading, moved_calls, last_call}
 use Rattle.task_get.proofs.GetFronts.{ended_memory, ended_asked, ended_finished}
 use Rattle.task_get.proofs.ReadLaws.{begin_lengths, reads_behind, lengths_behind, same_wrong, none_wrong, wrong_more}

@@ -16,37 +16,37 @@ use Rattle.ann_outside.specs.declared.file_desk.Call.TheVariants.{Size, Create, 
 use Rattle.fetch_copy.specs.Copies.{EndsWhole}
 use Rattle.journal_model.specs.declared.answer.Answer.{Answer}
 use Rattle.journal_model.specs.declared.answer.Answer.TheVariants as A
-use Rattle.task_run.specs.Askers.{Asking, AsksOne}
+use Rattle.task_model.specs.Askers.{Asking, AsksOne}
 use Rattle.std.specs.List.{last_or}
 use Rattle.annex_model.specs.Messages.{HostMessage, Transfer}
 use Rattle.journal_model.specs.declared.verdict.Verdict.{Verdict}
 use Rattle.journal_model.specs.declared.verdict.Verdict.TheVariants as V
-use Rattle.task_run.specs.Stops.{is_done, call_stop, is_done_at, AnsweredBy, all_but_last, failed_at, last_failed}
-use Rattle.task_run.specs.declared.setup.Setup.{Setup}
-use Rattle.task_run.specs.declared.turn.TaskTurn.{TaskTurn}
-use Rattle.task_run.specs.Names.{part_of, fetch_file}
-use Rattle.task_run.specs.Stores.{is_size}
-use Rattle.task_run.specs.Requests.{AsksFor, AskInOrder}
-use Rattle.task_run.specs.Reads.{lengths_found, reads_of, read_of, bytes_of, is_known, is_reading, takes_away, is_last, is_removed, is_renaming, appended, holds, piece_of}
-use Rattle.task_run.specs.Discipline.{are_found}
-use Rattle.task_run.specs.Gets.{fetch_request, begins, since_begin, lengths_at_begin, wanted, is_wrong, is_read_whole, bytes_fetched, IsSaid, fit_in, is_got, is_failed, failures, GetAsks, Decides, GetAnswers}
-use Rattle.task_run.specs.Ran.{answered, is_verdict_of, undone_answer}
-use Rattle.task_run.specs.Fetching.{Fetches, Files3, Outcome, if_made, discarded, kept, Move, NotMade, NotCopied, NotRemoved, Settled, move_calls, move_result, MoveIs, Fetch, NotSized, WrongSize, Moved, fetch_calls, fetch_result, FetchIs}
+use Rattle.task_model.specs.Stops.{is_done, call_stop, is_done_at, AnsweredBy, all_but_last, failed_at, last_failed}
+use Rattle.task_model.specs.declared.setup.Setup.{Setup}
+use Rattle.task_model.specs.declared.turn.TaskTurn.{TaskTurn}
+use Rattle.task_model.specs.Names.{part_of, fetch_file}
+use Rattle.task_model.specs.Stores.{is_size}
+use Rattle.task_model.specs.Requests.{AsksFor, AskInOrder}
+use Rattle.task_model.specs.Reads.{lengths_found, reads_of, read_of, bytes_of, is_known, is_reading, takes_away, is_last, is_removed, is_renaming, appended, holds, piece_of}
+use Rattle.task_model.specs.Discipline.{are_found}
+use Rattle.task_model.specs.Gets.{fetch_request, begins, since_begin, lengths_at_begin, wanted, is_wrong, is_read_whole, bytes_fetched, IsSaid, fit_in, is_got, is_failed, failures, GetAsks, Decides, GetAnswers}
+use Rattle.task_model.specs.Ran.{answered, is_verdict_of, undone_answer}
+use Rattle.task_model.specs.Fetching.{Fetches, Files3, Outcome, if_made, discarded, kept, Move, NotMade, NotCopied, NotRemoved, Settled, move_calls, move_result, MoveIs, Fetch, NotSized, WrongSize, Moved, fetch_calls, fetch_result, FetchIs}
 use Rattle.task_get.specs.Fronts.{Place, Turn, fetch_at, is_apart, is_calm, Tried, Sound, Within, Between, Ended}
 use Rattle.task_get.specs.LayoutRuns.{place_at, WholeRan}
 use Rattle.task_get.specs.WholeFetches.{TakesWhole}
 use Rattle.fetch_copy.proofs.CopyLaws.{gained_nothing}
-use Rattle.task_run.proofs.HeldLaws.{is_growing, holds_more, holds_grown}
+use Rattle.task_model.proofs.HeldLaws.{is_growing, holds_more, holds_grown}
 use Rattle.task_get.proofs.LastCalls.{after_last-at}
 use Rattle.task_get.proofs.AskLaws.{count_all}
-use Rattle.task_run.proofs.GetCallsLaws.{Fair, fair_size, fair_create, fair_remove_part, fair_rename, known_add, known_skip}
+use Rattle.task_model.proofs.GetCallsLaws.{Fair, fair_size, fair_create, fair_remove_part, fair_rename, known_add, known_skip}
 use Rattle.task_get.proofs.GetEnds.{Facts, moved_facts, whole_reading, moved_calls, regrouped, is_last-snoc, last_call}
 use Rattle.task_get.proofs.ReadLaws.{begin_lengths, reads_behind, lengths_behind}
 use Rattle.task_get.proofs.GetFronts.{Fore, asks_of, ended_finished}
 use Rattle.task_get.proofs.GetDecides.{Last, answers_misfit, answers_said, Becomes}
 use Rattle.task_get.proofs.GetWithin.{own_apart, none_failed, sound_asked}
 use Rattle.task_get.proofs.GetRuns.{wrong_if}
-use Rattle.task_run.proofs.Lists.{all_taken}
+use Rattle.task_model.proofs.Lists.{all_taken}
 use Rattle.task_get.proofs.GetTurns.{failed_tried, moving_sized, asked_end, unasked_end, asks_for_part}
 use Rattle.task_get.proofs.GetFetch.{Here, FetchingAt, file_in, part_in, fetch_in, EndedAt, apart_in, Others, others_size, Moving, moving_none, moving_step, fore_of, free_of, memory_at, stopped_at, Ready, copies_in, copy_early, copy_refused, tail_in, fetch_unremoved, moving_moved, part_known_moved}
 use Rattle.ann_key.proofs.Booleans.{false_is_true as apart}

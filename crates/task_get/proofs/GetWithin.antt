@@ -10,19 +10,19 @@ use Rattle.annex_model.specs.Messages.{HostMessage}
 use Rattle.journal_model.specs.declared.verdict.Verdict.{Verdict}
 use Rattle.journal_model.specs.declared.verdict.Verdict.TheVariants as V
 use Rattle.ann_outside.specs.declared.file_desk.Call.{Call}
-use Rattle.task_run.specs.Askers.{Asking}
-use Rattle.task_run.specs.Stops.{is_done, call_stop, all_but_last}
-use Rattle.task_run.specs.Names.{part_of, fetch_files}
-use Rattle.task_run.specs.Requests.{AsksFor, AskInOrder, rounds, RoundsAsk}
-use Rattle.task_run.specs.Reads.{length_or_none, lengths_found, reads_of, bytes_of, is_run, is_known, appended, holds}
-use Rattle.task_run.specs.Discipline.{are_found}
-use Rattle.task_run.specs.Gets.{fetch_request, begins, lengths_at_begin, wanted, is_failed, held_reads, are_read, is_read_whole, are_read_whole, bytes_fetched, wrong_lengths, is_wrong, GetAsks}
-use Rattle.task_run.specs.TaskCalls.{fetched_files}
+use Rattle.task_model.specs.Askers.{Asking}
+use Rattle.task_model.specs.Stops.{is_done, call_stop, all_but_last}
+use Rattle.task_model.specs.Names.{part_of, fetch_files}
+use Rattle.task_model.specs.Requests.{AsksFor, AskInOrder, rounds, RoundsAsk}
+use Rattle.task_model.specs.Reads.{length_or_none, lengths_found, reads_of, bytes_of, is_run, is_known, appended, holds}
+use Rattle.task_model.specs.Discipline.{are_found}
+use Rattle.task_model.specs.Gets.{fetch_request, begins, lengths_at_begin, wanted, is_failed, held_reads, are_read, is_read_whole, are_read_whole, bytes_fetched, wrong_lengths, is_wrong, GetAsks}
+use Rattle.task_model.specs.TaskCalls.{fetched_files}
 use Rattle.task_get.specs.Fronts.{Place, Turn, first_in, fetch_at, keys_in, is_calm, is_apart, Sound, are_free, Within, Kept}
-use Rattle.task_run.proofs.HeldLaws.{is_growing, told, holds_more, so_front, holds_grown}
+use Rattle.task_model.proofs.HeldLaws.{is_growing, told, holds_more, so_front, holds_grown}
 use Rattle.task_get.proofs.AskLaws.{asks_done, asks_last}
-use Rattle.task_run.proofs.GetCallsLaws.{Fair, found_more}
-use Rattle.task_run.proofs.Lists.{but_last, all_taken}
+use Rattle.task_model.proofs.GetCallsLaws.{Fair, found_more}
+use Rattle.task_model.proofs.Lists.{but_last, all_taken}
 use Rattle.task_get.proofs.ReadLaws.{Apart, Sub, sub_cons, sub_front, sub_behind, names_sub, changes_sub, sizes_sub, fetch_files_more, fetched_files_more, reads_behind, lengths_behind, same_read, same_bytes, same_whole, same_wrong, read_more, bytes_more, whole_more, wrong_more, wrong_taken, begin_lengths, held_more, held_run, appended_more}
 use Rattle.task_get.proofs.GetFronts.{asks_of, Fore}
 use Rattle.ann_key.proofs.Booleans.{false_is_true as apart}

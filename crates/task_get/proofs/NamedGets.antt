@@ -14,18 +14,18 @@ use Rattle.journal_model.specs.declared.verdict.Verdict.{Verdict}
 use Rattle.journal_model.specs.declared.verdict.Verdict.TheVariants as V
 use Rattle.task_text.specs.declared.task.Task.{Task}
 use Rattle.task_text.specs.declared.task.Work.TheVariants as W
-use Rattle.task_run.specs.Askers.{Asking, AsksOne}
-use Rattle.task_run.specs.declared.setup.Setup.{Setup}
-use Rattle.task_run.specs.declared.turn.TaskTurn.{TaskTurn}
-use Rattle.task_run.specs.Stops.{AnsweredBy, is_done_at}
-use Rattle.task_run.specs.Names.{part_of, fetch_file}
-use Rattle.task_run.specs.Reads.{is_removed}
-use Rattle.task_run.specs.Gets.{is_got, DecidesBy, Decides, IsChecked, IsFetchKept, GetAnswers}
-use Rattle.task_run.specs.Exports.{AsksOfName, fetch_export}
-use Rattle.task_run.specs.Runs.{RunOf}
-use Rattle.task_run.specs.Ran.{RanGet, answered, is_verdict_of, undone_answer}
-use Rattle.task_run.specs.Fetching.{Fetches}
-use Rattle.task_run.proofs.ExportRuns.{with_work, export_run, named, asks_of_name, asks_nothing}
+use Rattle.task_model.specs.Askers.{Asking, AsksOne}
+use Rattle.task_model.specs.declared.setup.Setup.{Setup}
+use Rattle.task_model.specs.declared.turn.TaskTurn.{TaskTurn}
+use Rattle.task_model.specs.Stops.{AnsweredBy, is_done_at}
+use Rattle.task_model.specs.Names.{part_of, fetch_file}
+use Rattle.task_model.specs.Reads.{is_removed}
+use Rattle.task_model.specs.Gets.{is_got, DecidesBy, Decides, IsChecked, IsFetchKept, GetAnswers}
+use Rattle.task_model.specs.Exports.{AsksOfName, fetch_export}
+use Rattle.task_model.specs.Runs.{RunOf}
+use Rattle.task_model.specs.Ran.{RanGet, answered, is_verdict_of, undone_answer}
+use Rattle.task_model.specs.Fetching.{Fetches}
+use Rattle.task_model.proofs.ExportRuns.{with_work, export_run, named, asks_of_name, asks_nothing}
 use Rattle.task_get.specs.Fronts.{Ended}
 use Rattle.task_get.specs.LayoutRuns.{place_at, WholeRan}
 use Rattle.task_get.specs.WholeFetches.{TakesWhole}

@@ -9,15 +9,15 @@ use Rattle.std.proofs.lemmas.List.FromFn.{map-range_with_len_more}
 use Rattle.ann_outside.specs.declared.file_desk.Call.{Call}
 use Rattle.ann_outside.specs.declared.file_desk.Call.TheVariants.{Size, ReadAt, Create, Append, Cut, Rename, Remove}
 use Rattle.chunk_plan.specs.Layouts.{Part}
-use Rattle.task_run.specs.Askers.{Asking}
-use Rattle.task_run.specs.declared.setup.Setup.{Setup}
-use Rattle.task_run.specs.declared.turn.TaskTurn.{TaskTurn}
-use Rattle.task_run.specs.Stops.{is_done}
-use Rattle.task_run.specs.Names.{fetch_file, fetch_files, part_of, is_among}
-use Rattle.task_run.specs.Reads.{length_or_none, length_found, lengths_found, read_of, reads_of, bytes_of, is_run, piece_of, appended}
-use Rattle.task_run.specs.Discipline.{are_among, names_in, name_only, changes_as_result, size_among, size_of_only}
-use Rattle.task_run.specs.Gets.{begins, lengths_at_begin, since_begin, held_reads, bytes_fetched, are_read, is_read_whole, are_read_whole, wrong_lengths, is_wrong}
-use Rattle.task_run.specs.TaskCalls.{fetched_files}
+use Rattle.task_model.specs.Askers.{Asking}
+use Rattle.task_model.specs.declared.setup.Setup.{Setup}
+use Rattle.task_model.specs.declared.turn.TaskTurn.{TaskTurn}
+use Rattle.task_model.specs.Stops.{is_done}
+use Rattle.task_model.specs.Names.{fetch_file, fetch_files, part_of, is_among}
+use Rattle.task_model.specs.Reads.{length_or_none, length_found, lengths_found, read_of, reads_of, bytes_of, is_run, piece_of, appended}
+use Rattle.task_model.specs.Discipline.{are_among, names_in, name_only, changes_as_result, size_among, size_of_only}
+use Rattle.task_model.specs.Gets.{begins, lengths_at_begin, since_begin, held_reads, bytes_fetched, are_read, is_read_whole, are_read_whole, wrong_lengths, is_wrong}
+use Rattle.task_model.specs.TaskCalls.{fetched_files}
 use Rattle.task_get.specs.Fronts.{is_apart}
 use Rattle.task_get.proofs.LastCalls.{after_last-at, after_last-more, Last, last_of}
 use Rattle.ann_key.proofs.Booleans.{or_right as right_or, or_left as left_or, false_is_true as apart}

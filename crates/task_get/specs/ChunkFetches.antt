@@ -13,12 +13,12 @@ use Rattle.journal_model.specs.declared.verdict.Verdict.{Verdict}
 use Rattle.journal_model.specs.declared.verdict.Verdict.TheVariants.{Failed as FailedAt}
 use Rattle.journal_model.specs.declared.answer.Answer.{Answer}
 use Rattle.journal_model.specs.declared.answer.Answer.TheVariants.{Got, Size as SizeAnswer, Memory}
-use Rattle.task_run.specs.Askers.{Asking, AsksOne}
+use Rattle.task_model.specs.Askers.{Asking, AsksOne}
 use Rattle.task_get.specs.declared.get_chunk.Went.{Went}
 use Rattle.task_get.specs.declared.get_chunk.Went.TheVariants as T
-use Rattle.task_run.specs.Stops.{is_done_at}
-use Rattle.task_run.specs.Ran.{refusal, undone_answer, is_verdict_of}
-use Rattle.task_run.specs.Fetching.{Outcome, if_made, discarded}
+use Rattle.task_model.specs.Stops.{is_done_at}
+use Rattle.task_model.specs.Ran.{refusal, undone_answer, is_verdict_of}
+use Rattle.task_model.specs.Fetching.{Outcome, if_made, discarded}
 
 -- the task is over with this answer
 abbrev pub over_with : Result Answer NoMemory → Result Went NoMemory

@@ -6,17 +6,17 @@ use Rattle.chunk_plan.specs.Layouts.{Part}
 use Rattle.task_text.specs.declared.task.Work.TheVariants as W
 use Rattle.ann_outside.specs.declared.file_desk.Call.{Call}
 use Rattle.ann_outside.specs.declared.file_desk.Call.TheVariants.{Size, ReadAt}
-use Rattle.task_run.specs.Askers.{Asking}
+use Rattle.task_model.specs.Askers.{Asking}
 use Rattle.journal_model.specs.declared.answer.Answer.{Answer}
-use Rattle.task_run.specs.declared.setup.Setup.{Setup}
-use Rattle.task_run.specs.declared.turn.TaskTurn.{TaskTurn}
-use Rattle.task_run.specs.Stops.{is_done, asking_stop, call_stop, is_stop_last, stops_of, AnsweredBy}
-use Rattle.task_run.specs.Names.{fetch_file, fetch_files, part_of}
-use Rattle.task_run.specs.Requests.{rounds, AskInOrder, RoundsAsk}
-use Rattle.task_run.specs.Reads.{is_known, is_run, is_reading, bytes_of, appended, holds, are_found_so}
-use Rattle.task_run.specs.Discipline.{name_only, changes_as_result, size_of_only, are_found}
-use Rattle.task_run.specs.Gets.{fetch_request, lengths_at_begin, wanted, is_failed, failures, asked_last, since_begin, held_reads, bytes_fetched, are_read, are_read_whole, wrong_lengths, GetAsks, GetAnswers}
-use Rattle.task_run.specs.TaskCalls.{GetCalls, fetched_files}
+use Rattle.task_model.specs.declared.setup.Setup.{Setup}
+use Rattle.task_model.specs.declared.turn.TaskTurn.{TaskTurn}
+use Rattle.task_model.specs.Stops.{is_done, asking_stop, call_stop, is_stop_last, stops_of, AnsweredBy}
+use Rattle.task_model.specs.Names.{fetch_file, fetch_files, part_of}
+use Rattle.task_model.specs.Requests.{rounds, AskInOrder, RoundsAsk}
+use Rattle.task_model.specs.Reads.{is_known, is_run, is_reading, bytes_of, appended, holds, are_found_so}
+use Rattle.task_model.specs.Discipline.{name_only, changes_as_result, size_of_only, are_found}
+use Rattle.task_model.specs.Gets.{fetch_request, lengths_at_begin, wanted, is_failed, failures, asked_last, since_begin, held_reads, bytes_fetched, are_read, are_read_whole, wrong_lengths, GetAsks, GetAnswers}
+use Rattle.task_model.specs.TaskCalls.{GetCalls, fetched_files}
 
 -- what a get works on: the chunk sizes of its layouts stand in their order, the plain one's 0 last
 pub record Place : Type 0 where

@@ -10,14 +10,14 @@ use Rattle.chunk_plan.specs.Layouts.{Part, chunk_part, count_of}
 use Rattle.fetch_copy.specs.Copies.{Checks}
 use Rattle.journal_model.specs.declared.answer.Answer.{Answer}
 use Rattle.journal_model.specs.declared.answer.Answer.TheVariants.{Memory}
-use Rattle.task_run.specs.Askers.{Asking}
-use Rattle.task_run.specs.declared.setup.Setup.{Setup}
-use Rattle.task_run.specs.declared.turn.TaskTurn.{TaskTurn}
+use Rattle.task_model.specs.Askers.{Asking}
+use Rattle.task_model.specs.declared.setup.Setup.{Setup}
+use Rattle.task_model.specs.declared.turn.TaskTurn.{TaskTurn}
 use Rattle.task_get.specs.declared.get_chunk.Went.{Went}
 use Rattle.task_get.specs.declared.get_chunk.Went.TheVariants as T
-use Rattle.task_run.specs.Names.{part_of}
-use Rattle.task_run.specs.Layouts.{sizes_tried}
-use Rattle.task_run.specs.Ran.{answered}
+use Rattle.task_model.specs.Names.{part_of}
+use Rattle.task_model.specs.Layouts.{sizes_tried}
+use Rattle.task_model.specs.Ran.{answered}
 use Rattle.task_get.specs.Fronts.{Place, Turn, Within, Kept, Between, Ended}
 
 -- The pairs and the log grew by these.

@@ -15,8 +15,8 @@ use Rattle.journal_model.specs.declared.answer.Answer.{Answer}
 use Rattle.journal_model.specs.declared.answer.Answer.TheVariants.{Got}
 use Rattle.task_get.specs.declared.get_begin.Begun.{Begun}
 use Rattle.task_get.specs.declared.get_begin.Begun.TheVariants as B
-use Rattle.task_run.specs.Ran.{refusal}
-use Rattle.task_run.specs.Fetching.{if_made}
+use Rattle.task_model.specs.Ran.{refusal}
+use Rattle.task_model.specs.Fetching.{if_made}
 
 -- part couldn't be looked up; or it was missing, and couldn't be made, or was; or it was found with n bytes, and couldn't be cut, or read
 -- then, or could

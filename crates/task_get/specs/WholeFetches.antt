@@ -7,9 +7,9 @@ use Rattle.ann_outside.specs.Calls.{Log}
 use Rattle.journal_model.specs.declared.verdict.Verdict.{Verdict}
 use Rattle.journal_model.specs.declared.answer.Answer.{Answer}
 use Rattle.journal_model.specs.declared.answer.Answer.TheVariants.{Memory}
-use Rattle.task_run.specs.Stops.{is_done_at}
-use Rattle.task_run.specs.Ran.{undone_answer}
-use Rattle.task_run.specs.Fetching.{Files3, Fetches}
+use Rattle.task_model.specs.Stops.{is_done_at}
+use Rattle.task_model.specs.Ran.{undone_answer}
+use Rattle.task_model.specs.Fetching.{Files3, Fetches}
 
 -- where it is done, the fetched file is taken in; else no call is made, and the verdict gives the answer
 abbrev pub TakesWhole : Files3 → Parts → Verdict → Option Log → Option Log → Result Answer NoMemory → Type 0

@@ -3,7 +3,7 @@ ghost use Rattle.std.specs.Prelude.{◌≡◌, ◌<◌, ◌≤◌};
 ghost use Rattle.ann_digest.specs.Checkers.{taken_of};
 ghost use Rattle.chunk_plan.specs.Layouts.{count_of, to_of};
 ghost use Rattle.task_get.specs.PartBegins.{unbegun, Begins, answer_begun};
-ghost use Rattle.task_run.specs.Ran.{HasTaskCauses};
+ghost use Rattle.task_model.specs.Ran.{HasTaskCauses};
 
 use ann_digest::Checker;
 use ann_key::NoMemory;
@@ -12,7 +12,7 @@ use chunk_plan::{held, range};
 use fetch_copy::{Copied, resume};
 use journal_model::Answer;
 use std::alloc::Global;
-use task_run::answers::refused;
+use task_model::answers::refused;
 
 /// How a layout's begin went.
 pub enum Begun {

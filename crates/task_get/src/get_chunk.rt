@@ -4,9 +4,9 @@ ghost use Rattle.ann_digest.specs.Checkers.{taken_of};
 ghost use Rattle.ann_key.specs.KeyRefs.{text_of};
 ghost use Rattle.annex_model.specs.Lines.{has_newline};
 ghost use Rattle.annex_model.specs.Messages.{is_sent_key};
-ghost use Rattle.task_run.specs.Askers.{IsSameTask};
+ghost use Rattle.task_model.specs.Askers.{IsSameTask};
 ghost use Rattle.task_get.specs.ChunkFetches.{over_with, answer_in, Comes, CopiesOver, undone_went, Takes};
-ghost use Rattle.task_run.specs.Ran.{HasQuietCauses, undone_answer};
+ghost use Rattle.task_model.specs.Ran.{HasQuietCauses, undone_answer};
 
 use crate::taking::discard;
 use ann_digest::Checker;
@@ -15,8 +15,8 @@ use ann_outside::Desk;
 use fetch_copy::{Copied, copy_in};
 use journal_model::{Answer, Verdict};
 use std::alloc::Global;
-use task_run::answers::{is_done, refused, undone_answer};
-use task_run::{Asker, ask};
+use task_model::answers::{is_done, refused, undone_answer};
+use task_model::{Asker, ask};
 
 /// How many bytes a chunk has, the file that it is fetched to, and the part that it is added to.
 #[derive(Clone, Copy)]

@@ -3,10 +3,10 @@ ghost use Rattle.std.specs.Prelude.{◌≡◌, ◌+◌, ◌<◌, ◌≤◌, ◌^
 ghost use Rattle.ann_digest.specs.Checkers.{taken_of};
 ghost use Rattle.ann_key.specs.KeyRefs.{parts_of};
 ghost use Rattle.chunk_plan.specs.Layouts.{count_of, from_of};
-ghost use Rattle.task_run.specs.Askers.{IsSameTask};
+ghost use Rattle.task_model.specs.Askers.{IsSameTask};
 ghost use Rattle.task_get.specs.ChunkFetches.{answer_in};
 ghost use Rattle.task_get.specs.LayoutRuns.{NextRan, ChunksRan, LayoutRan};
-ghost use Rattle.task_run.specs.Ran.{HasQuietCauses, HasTaskCauses};
+ghost use Rattle.task_model.specs.Ran.{HasQuietCauses, HasTaskCauses};
 ghost use Rattle.task_get.specs.declared.get_chunk.Went.TheVariants as T;
 
 use crate::get_begin::{Begun, begin_part};
@@ -18,8 +18,8 @@ use ann_key::NoMemory;
 use ann_outside::Desk;
 use chunk_plan::{count, piece, range};
 use std::alloc::Global;
-use task_run::Asker;
-use task_run::names::fetch_name;
+use task_model::Asker;
+use task_model::names::fetch_name;
 
 // Asks for the chunk after the first i, as the next request, and adds it to part.
 fn next_chunk<A: Asker, D: Desk>(

@@ -2,11 +2,11 @@
 ghost use Rattle.std.specs.Prelude.{◌≡◌, ◌≢◌, ◌+◌, ◌<◌, ◌^◌, ℕ, Some, true, false};
 ghost use Rattle.ann_key.specs.KeyRefs.{parts_of};
 ghost use Rattle.annex_model.specs.Lines.{has_newline};
-ghost use Rattle.task_run.specs.Askers.{IsSameTask, are_layouts};
+ghost use Rattle.task_model.specs.Askers.{IsSameTask, are_layouts};
 ghost use Rattle.task_get.specs.LayoutRuns.{WholeRan, TriesRan, GetRan};
 ghost use Rattle.task_get.specs.ChunkFetches.{answer_in};
-ghost use Rattle.task_run.specs.Names.{fetch_file};
-ghost use Rattle.task_run.specs.Ran.{HasQuietCauses, HasTaskCauses, RanGet};
+ghost use Rattle.task_model.specs.Names.{fetch_file};
+ghost use Rattle.task_model.specs.Ran.{HasQuietCauses, HasTaskCauses, RanGet};
 ghost use Rattle.task_text.specs.TaskLines.{IsTask};
 ghost use Rattle.task_text.specs.declared.task.Work.TheVariants as W;
 
@@ -19,8 +19,8 @@ use ann_outside::Desk;
 use chunk_plan::count;
 use journal_model::Answer;
 use std::alloc::Global;
-use task_run::names::{fetch_name, part_name};
-use task_run::{Asker, Setup, TaskTurn, ask};
+use task_model::names::{fetch_name, part_name};
+use task_model::{Asker, Setup, TaskTurn, ask};
 use task_text::Task;
 
 // Fetches the key whole, by this name of the fetched file.

@@ -1,8 +1,8 @@
 // A get under a name.
 ghost use Rattle.std.specs.Prelude.{◌≡◌, true, false};
 ghost use Rattle.annex_model.specs.Lines.{has_newline};
-ghost use Rattle.task_run.specs.Askers.{IsSameTask};
-ghost use Rattle.task_run.specs.Ran.{HasQuietCauses, RanGet};
+ghost use Rattle.task_model.specs.Askers.{IsSameTask};
+ghost use Rattle.task_model.specs.Ran.{HasQuietCauses, RanGet};
 ghost use Rattle.task_text.specs.TaskLines.{IsTask};
 ghost use Rattle.task_text.specs.declared.task.Work.TheVariants as W;
 
@@ -11,8 +11,8 @@ use ann_key::NoMemory;
 use ann_outside::Desk;
 use journal_model::Answer;
 use std::alloc::Global;
-use task_run::names::{fetch_name, part_name};
-use task_run::{Asker, Setup, TaskTurn, ask};
+use task_model::names::{fetch_name, part_name};
+use task_model::{Asker, Setup, TaskTurn, ask};
 use task_text::Task;
 
 /// Fetches what is there under the task's name, and keeps it as the file where it fits the key.

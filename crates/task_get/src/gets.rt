@@ -3,10 +3,10 @@ ghost use Rattle.std.specs.Prelude.{◌≡◌, ◌<◌, None, Some, true, false}
 ghost use Rattle.ann_key.specs.KeyRefs.{parts_of, text_of};
 ghost use Rattle.annex_model.specs.Lines.{has_newline};
 ghost use Rattle.annex_model.specs.Messages.{is_sent_key};
-ghost use Rattle.task_run.specs.Names.{part_of};
+ghost use Rattle.task_model.specs.Names.{part_of};
 
 use ann_key::KeyRef;
-use task_run::{Setup, TaskTurn};
+use task_model::{Setup, TaskTurn};
 
 /// A get of a whole key into a file, by way of the file's part.
 #[derive(Clone, Copy)]

@@ -1,8 +1,8 @@
 // Taking in a file that was fetched whole.
 ghost use Rattle.std.specs.Prelude.{◌≡◌, ◌≢◌, ◌<◌, [], true, Ok, is_some};
 ghost use Rattle.ann_key.specs.KeyRefs.{parts_of};
-ghost use Rattle.task_run.specs.Fetching.{Outcome, Moves, Fetches, discarded, settling, settled};
-ghost use Rattle.task_run.specs.Ran.{change_answer, is_of_content, may_follow_refusal, HasQuietCauses};
+ghost use Rattle.task_model.specs.Fetching.{Outcome, Moves, Fetches, discarded, settling, settled};
+ghost use Rattle.task_model.specs.Ran.{change_answer, is_of_content, may_follow_refusal, HasQuietCauses};
 ghost use Rattle.task_get.specs.WholeFetches.{TakesWhole};
 ghost use Rattle.journal_model.specs.declared.answer.Answer.TheVariants.{Got};
 ghost use Rattle.ann_outside.specs.Calls.{logged};
@@ -14,7 +14,7 @@ use ann_outside::{Desk, DeskError};
 use fetch_copy::{Copied, copy_in};
 use journal_model::{Answer, Verdict};
 use std::alloc::Global;
-use task_run::answers::{is_done, is_size, refused, undone_answer};
+use task_model::answers::{is_done, is_size, refused, undone_answer};
 
 // Removes part, where it is there, and gives the answer.
 pub fn discard<D: Desk>(desk: &mut D, part: &str, answer: Answer) -> Result<Answer, NoMemory>

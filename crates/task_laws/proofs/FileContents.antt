@@ -3,13 +3,13 @@ use Rattle.std.proofs.Common.{◌≡◌, ◌∙◌, ℕ, ◌+◌, ◌==◌, true
 use Rattle.std.specs.List.{list_all, concat}
 use Rattle.std.proofs.lemmas.Bool.{and_parts, eqb-true}
 use Rattle.ann_outside.specs.declared.file_desk.Call.{Call}
-use Rattle.task_run.specs.Askers.{Asking}
-use Rattle.task_run.specs.declared.setup.Setup.{Setup}
-use Rattle.task_run.specs.declared.turn.TaskTurn.{TaskTurn}
-use Rattle.task_run.specs.Names.{fetch_file}
-use Rattle.task_run.specs.Reads.{lengths_found, reads_of, bytes_of, is_reading}
-use Rattle.task_run.specs.Gets.{bytes_fetched, is_read_whole, are_read_whole}
-use Rattle.task_run.proofs.HeldLaws.{reads_all}
+use Rattle.task_model.specs.Askers.{Asking}
+use Rattle.task_model.specs.declared.setup.Setup.{Setup}
+use Rattle.task_model.specs.declared.turn.TaskTurn.{TaskTurn}
+use Rattle.task_model.specs.Names.{fetch_file}
+use Rattle.task_model.specs.Reads.{lengths_found, reads_of, bytes_of, is_reading}
+use Rattle.task_model.specs.Gets.{bytes_fetched, is_read_whole, are_read_whole}
+use Rattle.task_model.proofs.HeldLaws.{reads_all}
 use Rattle.task_laws.specs.Contents.{Shows, AreFetched}
 use Rattle.ann_key.proofs.Booleans.{false_is_true as apart}
 

@@ -12,10 +12,10 @@ use Rattle.ann_outside.specs.declared.file_desk.DeskError.TheVariants.{Failed, M
 use Rattle.ann_outside.specs.declared.file_desk.Call.{Call}
 use Rattle.ann_outside.specs.declared.file_desk.Call.TheVariants.{Size, ReadAt, Create, Append, Cut, Rename, Remove}
 use Rattle.journal_model.specs.declared.answer.Answer.{Answer}
-use Rattle.task_run.specs.Reads.{length_found, read_of, held_after, holds, is_read_of, is_found_so, are_found_so, is_renaming, is_last}
-use Rattle.task_run.specs.Stops.{call_stop}
+use Rattle.task_model.specs.Reads.{length_found, read_of, held_after, holds, is_read_of, is_found_so, are_found_so, is_renaming, is_last}
+use Rattle.task_model.specs.Stops.{call_stop}
 use Rattle.ann_key.proofs.Lists.{equal_bytes as is_name}
-use Rattle.task_run.proofs.HeldLaws.{holds_more as holds_both}
+use Rattle.task_model.proofs.HeldLaws.{holds_more as holds_both}
 use Rattle.ann_key.proofs.Booleans.{false_is_true as apart}
 
 -- ---- tests

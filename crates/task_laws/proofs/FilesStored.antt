@@ -8,11 +8,11 @@ use Rattle.journal_model.specs.declared.answer.Answer.{Answer}
 use Rattle.journal_model.specs.declared.answer.Answer.TheVariants as A
 use Rattle.journal_model.specs.declared.entry.Entry.{Entry}
 use Rattle.journal_model.specs.declared.opening.Opening.{Opening}
-use Rattle.task_run.specs.declared.setup.Setup.{Setup}
-use Rattle.task_run.specs.declared.turn.TaskTurn.{TaskTurn}
-use Rattle.task_run.specs.Askings.{run_askings, run_notings}
-use Rattle.task_run.specs.RunLaws.{sizes_got}
-use Rattle.task_run.specs.Runs.{TaskRun}
+use Rattle.task_model.specs.declared.setup.Setup.{Setup}
+use Rattle.task_model.specs.declared.turn.TaskTurn.{TaskTurn}
+use Rattle.task_model.specs.Askings.{run_askings, run_notings}
+use Rattle.task_model.specs.RunLaws.{sizes_got}
+use Rattle.task_model.specs.Runs.{TaskRun}
 use Rattle.task_laws.specs.Changes.{Request}
 use Rattle.task_laws.specs.Faithful.{Told, IsPlayed, AreInTurn, sent}
 use Rattle.task_laws.specs.FilesKept.{HoldsChecked}

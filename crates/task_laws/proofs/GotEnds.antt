@@ -18,18 +18,18 @@ use Rattle.journal_model.specs.declared.verdict.Verdict.TheVariants as V
 use Rattle.task_text.specs.declared.task.Task.{Task}
 use Rattle.task_text.specs.declared.task.Work.{Work}
 use Rattle.task_text.specs.declared.task.Work.TheVariants as W
-use Rattle.task_run.specs.Askers.{Asking, Noting}
-use Rattle.task_run.specs.declared.setup.Setup.{Setup}
-use Rattle.task_run.specs.declared.turn.TaskTurn.{TaskTurn}
-use Rattle.task_run.specs.Stops.{verdict_stop, asking_stop, result_stop, call_stop, stops_of, AnsweredBy, is_question, is_store}
-use Rattle.task_run.specs.Names.{part_of}
-use Rattle.task_run.specs.Layouts.{sizes_tried}
-use Rattle.task_run.specs.Requests.{AskInOrder}
-use Rattle.task_run.specs.Gets.{asked_last, failures, fetch_request, first_asked, is_failed, is_got, item, lengths_at_begin, wanted, GetAnswers}
-use Rattle.task_run.specs.Exports.{fetch_export}
-use Rattle.task_run.specs.Runs.{RunOf, WorkAsks, WorkAnswers, TaskRun}
-use Rattle.task_run.specs.RunLaws.{IsGot, is_get, sizes_got}
-use Rattle.task_run.proofs.GotLaws.{got_needs_fit}
+use Rattle.task_model.specs.Askers.{Asking, Noting}
+use Rattle.task_model.specs.declared.setup.Setup.{Setup}
+use Rattle.task_model.specs.declared.turn.TaskTurn.{TaskTurn}
+use Rattle.task_model.specs.Stops.{verdict_stop, asking_stop, result_stop, call_stop, stops_of, AnsweredBy, is_question, is_store}
+use Rattle.task_model.specs.Names.{part_of}
+use Rattle.task_model.specs.Layouts.{sizes_tried}
+use Rattle.task_model.specs.Requests.{AskInOrder}
+use Rattle.task_model.specs.Gets.{asked_last, failures, fetch_request, first_asked, is_failed, is_got, item, lengths_at_begin, wanted, GetAnswers}
+use Rattle.task_model.specs.Exports.{fetch_export}
+use Rattle.task_model.specs.Runs.{RunOf, WorkAsks, WorkAnswers, TaskRun}
+use Rattle.task_model.specs.RunLaws.{IsGot, is_get, sizes_got}
+use Rattle.task_model.proofs.GotLaws.{got_needs_fit}
 use Rattle.task_get.proofs.LastCalls.{after_last-at, after_last-none}
 use Rattle.task_laws.specs.Kept.{fetch_of}
 use Rattle.task_laws.proofs.LastRounds.{LastAsks, last_asks}

@@ -10,15 +10,15 @@ use Rattle.ann_outside.specs.declared.file_desk.Call.{Call}
 use Rattle.journal_model.specs.declared.answer.Answer.{Answer}
 use Rattle.journal_model.specs.declared.answer.Answer.TheVariants as A
 use Rattle.task_text.specs.declared.task.Task.{Task}
-use Rattle.task_run.specs.Askers.{Asking, Noting}
-use Rattle.task_run.specs.declared.setup.Setup.{Setup}
-use Rattle.task_run.specs.declared.turn.TaskTurn.{TaskTurn}
-use Rattle.task_run.specs.Stops.{asking_stop, call_stop, stops_of, AnsweredBy}
-use Rattle.task_run.specs.Names.{part_of}
-use Rattle.task_run.specs.Gets.{checked, is_got}
-use Rattle.task_run.specs.Runs.{RunOf, TaskRun, WorkAnswers}
-use Rattle.task_run.specs.RunLaws.{sizes_got}
-use Rattle.task_run.proofs.GotLaws.{get_fits}
+use Rattle.task_model.specs.Askers.{Asking, Noting}
+use Rattle.task_model.specs.declared.setup.Setup.{Setup}
+use Rattle.task_model.specs.declared.turn.TaskTurn.{TaskTurn}
+use Rattle.task_model.specs.Stops.{asking_stop, call_stop, stops_of, AnsweredBy}
+use Rattle.task_model.specs.Names.{part_of}
+use Rattle.task_model.specs.Gets.{checked, is_got}
+use Rattle.task_model.specs.Runs.{RunOf, TaskRun, WorkAnswers}
+use Rattle.task_model.specs.RunLaws.{sizes_got}
+use Rattle.task_model.proofs.GotLaws.{get_fits}
 use Rattle.task_laws.specs.FilesKept.{GotHolds, HoldsChecked}
 use Rattle.task_laws.proofs.FileHolds.{GoOn, found_so, renamed_holds}
 use Rattle.task_laws.proofs.GotEnds.{GotEnds, are_other, got_ends, stops_other}

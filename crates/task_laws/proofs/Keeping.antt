@@ -15,17 +15,17 @@ use Rattle.chunk_plan.proofs.Joined.{ranges_are_the_whole}
 use Rattle.journal_model.specs.declared.answer.Answer.TheVariants as A
 use Rattle.task_text.specs.declared.task.Work.{Work}
 use Rattle.task_text.specs.declared.task.Work.TheVariants as W
-use Rattle.task_run.specs.Askers.{Asking}
-use Rattle.task_run.specs.declared.setup.Setup.{Setup}
-use Rattle.task_run.specs.declared.turn.TaskTurn.{TaskTurn}
-use Rattle.task_run.specs.Stops.{is_done, last_failed}
-use Rattle.task_run.specs.Names.{fetch_file}
-use Rattle.task_run.specs.Requests.{AskInOrder}
-use Rattle.task_run.specs.Layouts.{chunk_sizes, sizes_tried, parts_of_layout, keys_of_layout}
-use Rattle.task_run.specs.Reads.{lengths_found, reads_of, bytes_of}
-use Rattle.task_run.specs.Gets.{lengths_at_begin, wanted, failures, item, asked_last, first_asked, parts_last, is_plain_last, held_reads, bytes_fetched, checked, is_wrong, is_read_whole, are_read_whole, wrong_lengths, IsChecked, IsFetchKept, DecidesBy, Decides, GetAnswers}
-use Rattle.task_run.specs.RunLaws.{sizes_got}
-use Rattle.task_run.proofs.GotLaws.{never_failed, get_fits}
+use Rattle.task_model.specs.Askers.{Asking}
+use Rattle.task_model.specs.declared.setup.Setup.{Setup}
+use Rattle.task_model.specs.declared.turn.TaskTurn.{TaskTurn}
+use Rattle.task_model.specs.Stops.{is_done, last_failed}
+use Rattle.task_model.specs.Names.{fetch_file}
+use Rattle.task_model.specs.Requests.{AskInOrder}
+use Rattle.task_model.specs.Layouts.{chunk_sizes, sizes_tried, parts_of_layout, keys_of_layout}
+use Rattle.task_model.specs.Reads.{lengths_found, reads_of, bytes_of}
+use Rattle.task_model.specs.Gets.{lengths_at_begin, wanted, failures, item, asked_last, first_asked, parts_last, is_plain_last, held_reads, bytes_fetched, checked, is_wrong, is_read_whole, are_read_whole, wrong_lengths, IsChecked, IsFetchKept, DecidesBy, Decides, GetAnswers}
+use Rattle.task_model.specs.RunLaws.{sizes_got}
+use Rattle.task_model.proofs.GotLaws.{never_failed, get_fits}
 use Rattle.task_laws.specs.Contents.{AreFetched}
 use Rattle.task_laws.specs.Kept.{chunk_last, fetch_of, is_afresh, Keeps, GotKeeps}
 use Rattle.task_laws.proofs.WellTasks.{layout_within}
@@ -35,7 +35,7 @@ use Rattle.task_laws.proofs.FileContents.{fetched_are}
 use Rattle.task_laws.proofs.GotEnds.{GotEnds, got_ends, keys_wanted}
 use Rattle.ann_key.proofs.Lists.{nil_back as nil_behind, nil_front}
 use Rattle.ann_key.proofs.Booleans.{false_is_true as apart}
-use Rattle.task_run.proofs.Across.{order_fits as asks_few}
+use Rattle.task_model.proofs.Across.{order_fits as asks_few}
 
 -- ---- lengths
 

@@ -7,11 +7,11 @@ use Rattle.std.proofs.lemmas.List.Sums.{sum_by-cons}
 use Rattle.ann_key.specs.Keys.{Parts}
 use Rattle.annex_model.specs.Messages.{HostMessage}
 use Rattle.journal_model.specs.declared.verdict.Verdict.TheVariants as V
-use Rattle.task_run.specs.Askers.{Asking}
-use Rattle.task_run.specs.Stops.{is_done, all_but_last}
-use Rattle.task_run.specs.Requests.{AsksFor, AskInOrder, rounds, RoundsAsk}
-use Rattle.task_run.specs.Gets.{is_failed, failures, asked_last, first_asked, item}
-use Rattle.task_run.proofs.Lists.{all_taken}
+use Rattle.task_model.specs.Askers.{Asking}
+use Rattle.task_model.specs.Stops.{is_done, all_but_last}
+use Rattle.task_model.specs.Requests.{AsksFor, AskInOrder, rounds, RoundsAsk}
+use Rattle.task_model.specs.Gets.{is_failed, failures, asked_last, first_asked, item}
+use Rattle.task_model.proofs.Lists.{all_taken}
 use Rattle.task_get.proofs.LastCalls.{Last, last_of, after_last-at, after_last-none}
 use Rattle.task_get.proofs.AskLaws.{count_more}
 use Rattle.task_get.proofs.GetTurns.{failed_undone as undone}

@@ -16,7 +16,7 @@ use Rattle.journal_model.proofs.Growing.{Legal-induction}
 use Rattle.journal_model.proofs.Holding.{claimed_append}
 use Rattle.journal_model.proofs.Looks.{entry, any-append}
 use Rattle.journal_model.proofs.Working.{due_untasked}
-use Rattle.task_run.specs.Askings.{bounds_run, closing}
+use Rattle.task_model.specs.Askings.{bounds_run, closing}
 use Rattle.task_laws.specs.Retrieval.{AnsweredIsLast}
 use Rattle.task_laws.proofs.WithinRuns.{all_free, all_held, answered_so, are_free, are_held, asks_of, claimed_on_still}
 use Rattle.ann_key.proofs.Booleans.{false_is_true as apart}

@@ -8,7 +8,7 @@ use Rattle.ann_outside.specs.Played.{Does, Played}
 use Rattle.ann_outside.specs.declared.file_desk.DeskError.TheVariants.{Failed, Missing, NoMemory}
 use Rattle.ann_outside.specs.declared.file_desk.Call.{Call}
 use Rattle.ann_outside.specs.declared.file_desk.Call.TheVariants.{Size, ReadAt, Create, Append, Cut, Rename, Remove}
-use Rattle.task_run.specs.Reads.{length_found, read_of, lengths_found, reads_of, is_read_of, is_found_so}
+use Rattle.task_model.specs.Reads.{length_found, read_of, lengths_found, reads_of, is_read_of, is_found_so}
 use Rattle.task_laws.specs.Contents.{Shows}
 use Rattle.task_laws.specs.FilesKept.{leaves, LeftShows}
 use Rattle.task_laws.proofs.FileHolds.{IsKnown, size_found, size_lost, read_found, read_lost, nothing_found, not_name}

@@ -10,11 +10,11 @@ use Rattle.ann_outside.proofs.PlayLaws.{played_parts}
 use Rattle.ann_outside.specs.declared.file_desk.DeskError.TheVariants.{Failed, Missing, NoMemory}
 use Rattle.ann_outside.specs.declared.file_desk.Call.{Call}
 use Rattle.ann_outside.specs.declared.file_desk.Call.TheVariants.{Size, ReadAt, Create, Append, Cut, Rename, Remove}
-use Rattle.task_run.specs.Names.{part_of}
-use Rattle.task_run.specs.Stops.{call_stop}
-use Rattle.task_run.specs.Reads.{length_or_none}
-use Rattle.task_run.specs.Gets.{begins, is_plain_last, lengths_at_begin, since_begin}
-use Rattle.task_run.specs.RunLaws.{sizes_got}
+use Rattle.task_model.specs.Names.{part_of}
+use Rattle.task_model.specs.Stops.{call_stop}
+use Rattle.task_model.specs.Reads.{length_or_none}
+use Rattle.task_model.specs.Gets.{begins, is_plain_last, lengths_at_begin, since_begin}
+use Rattle.task_model.specs.RunLaws.{sizes_got}
 use Rattle.task_get.proofs.LastCalls.{Last, last_of, after_last-at}
 use Rattle.task_laws.specs.FilesKept.{fills, NoPartIsAfresh}
 use Rattle.task_laws.proofs.FileHolds.{GoOn, go_parts, not_name}

@@ -17,11 +17,11 @@ use Rattle.journal_model.specs.Journal.{any, each_of, first_of, ends, mutes, is_
 use Rattle.journal_model.specs.Legality.{is_done, count}
 use Rattle.journal_model.specs.Shares.{is_closed}
 use Rattle.journal_model.proofs.Looks.{any-append}
-use Rattle.task_run.specs.declared.setup.Setup.{Setup}
-use Rattle.task_run.specs.TaskRuns.{refused_at, refusal_of, or_refusal, ended_answer, gone_answer, unready_answer, failed_start}
-use Rattle.lone_work.specs.Works.{TaskDone}
-use Rattle.lone_rounds.specs.Starting.{is_any_start, is_unclosed, is_spent, is_start_spent, are_spent, up_to}
-use Rattle.lone_rounds.specs.Rounds.{turn_of, start_untaken, ZeroAnswers, HasRun}
+use Rattle.task_model.specs.declared.setup.Setup.{Setup}
+use Rattle.task_model.specs.TaskRuns.{refused_at, refusal_of, or_refusal, ended_answer, gone_answer, unready_answer, failed_start}
+use Rattle.crew_worker.specs.Works.{TaskDone}
+use Rattle.run_starts.specs.Starting.{is_any_start, is_unclosed, is_spent, is_start_spent, are_spent, up_to}
+use Rattle.run_starts.specs.Rounds.{turn_of, start_untaken, ZeroAnswers, HasRun}
 use Rattle.task_laws.specs.LoneWell.{is_no_start, is_refusal, is_unclosed_end, is_muting, ChildrenWell, NoneWithoutChild, IsDeskWell, WentWellAlone, IsDoneWell, LoneSucceeds}
 use Rattle.task_laws.proofs.RunsWell.{one_succeeds}
 use Rattle.ann_key.proofs.Booleans.{false_is_true as apart}

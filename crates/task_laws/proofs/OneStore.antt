@@ -21,16 +21,16 @@ use Rattle.journal_model.specs.Journal.{verdict_of, addressed}
 use Rattle.journal_model.specs.Legality.{Legal, task_of, is_done, turn_of_task}
 use Rattle.journal_model.proofs.Looks.{verdict_of-append}
 use Rattle.task_text.specs.declared.task.Task.{Task}
-use Rattle.task_run.specs.Askers.{Asking}
-use Rattle.task_run.specs.declared.setup.Setup.{Setup}
-use Rattle.task_run.specs.declared.turn.TaskTurn.{TaskTurn}
-use Rattle.task_run.specs.Askings.{past_claim, asking_of, askings_from, name_before, run_askings, run_notings}
-use Rattle.task_run.specs.Requests.{AsksFor, AskInOrder}
-use Rattle.task_run.specs.Layouts.{parts_of_layout}
-use Rattle.task_run.specs.Reads.{holds}
-use Rattle.task_run.specs.Gets.{asked_last, first_asked}
-use Rattle.task_run.specs.Runs.{is_chunked}
-use Rattle.task_run.specs.RunLaws.{sizes_got}
+use Rattle.task_model.specs.Askers.{Asking}
+use Rattle.task_model.specs.declared.setup.Setup.{Setup}
+use Rattle.task_model.specs.declared.turn.TaskTurn.{TaskTurn}
+use Rattle.task_model.specs.Askings.{past_claim, asking_of, askings_from, name_before, run_askings, run_notings}
+use Rattle.task_model.specs.Requests.{AsksFor, AskInOrder}
+use Rattle.task_model.specs.Layouts.{parts_of_layout}
+use Rattle.task_model.specs.Reads.{holds}
+use Rattle.task_model.specs.Gets.{asked_last, first_asked}
+use Rattle.task_model.specs.Runs.{is_chunked}
+use Rattle.task_model.specs.RunLaws.{sizes_got}
 use Rattle.task_laws.specs.Changes.{Request, request_in, requests, requests_from, changes_key, is_storing, last_change, is_done_by, Retrieves}
 use Rattle.task_laws.specs.Faithful.{Told, file_named, is_chunking, sent, IsStoredFor, AreStoredFor}
 use Rattle.task_laws.specs.Kept.{chunk_last, fetch_of, Keeps}
@@ -39,7 +39,7 @@ use Rattle.task_laws.specs.Sent.{IsRangeSent}
 use Rattle.task_laws.proofs.Members.{IsIn, is_in, in_option}
 use Rattle.task_laws.proofs.WithinRuns.{within_run, in_reversed, found_in, in_front}
 use Rattle.task_laws.proofs.Sending.{chunk_ranges, store_asks, content_long}
-use Rattle.task_run.specs.Stores.{ChunkStoreAsks}
+use Rattle.task_model.specs.Stores.{ChunkStoreAsks}
 use Rattle.task_laws.proofs.Keeping.{some_part}
 use Rattle.task_laws.proofs.Retrieving.{keeps_stored, ran_in}
 use Rattle.ann_key.proofs.Booleans.{false_is_true as apart}

@@ -10,15 +10,15 @@ use Rattle.journal_model.specs.declared.entry.Entry.{Entry}
 use Rattle.journal_model.specs.declared.opening.Opening.{Opening}
 use Rattle.task_text.specs.declared.task.Work.{Work}
 use Rattle.task_text.specs.declared.task.Work.TheVariants as W
-use Rattle.task_run.specs.Askers.{Asking}
-use Rattle.task_run.specs.declared.setup.Setup.{Setup}
-use Rattle.task_run.specs.declared.turn.TaskTurn.{TaskTurn}
-use Rattle.task_run.specs.Askings.{run_askings, run_notings}
-use Rattle.task_run.specs.Names.{fetch_file}
-use Rattle.task_run.specs.Requests.{AsksFor, AskInOrder}
-use Rattle.task_run.specs.Gets.{asked_last, first_asked}
-use Rattle.task_run.specs.Runs.{TaskRun}
-use Rattle.gathering.specs.JournalRuns.{JournalRun}
+use Rattle.task_model.specs.Askers.{Asking}
+use Rattle.task_model.specs.declared.setup.Setup.{Setup}
+use Rattle.task_model.specs.declared.turn.TaskTurn.{TaskTurn}
+use Rattle.task_model.specs.Askings.{run_askings, run_notings}
+use Rattle.task_model.specs.Names.{fetch_file}
+use Rattle.task_model.specs.Requests.{AsksFor, AskInOrder}
+use Rattle.task_model.specs.Gets.{asked_last, first_asked}
+use Rattle.task_model.specs.Runs.{TaskRun}
+use Rattle.crew_laws.specs.JournalRuns.{JournalRun}
 use Rattle.task_laws.specs.Contents.{Shows, AreFetched}
 use Rattle.task_laws.specs.Changes.{Request}
 use Rattle.task_laws.specs.Faithful.{Told, sent, IsFaithful, IsStoredFor, AreStoredFor}

@@ -8,10 +8,10 @@ use Rattle.journal_model.specs.declared.entry.Entry.{Entry}
 use Rattle.journal_model.specs.declared.entry.What.TheVariants.{Claim}
 use Rattle.journal_model.specs.declared.opening.Opening.{Opening}
 use Rattle.task_text.specs.declared.task.Task.{Task}
-use Rattle.task_run.specs.Askers.{Asking}
-use Rattle.task_run.specs.declared.setup.Setup.{Setup}
-use Rattle.task_run.specs.Askings.{TaskStretch, askings_from, askings, closing, run_askings, run_notings, run_turn}
-use Rattle.task_run.proofs.Askings.{askings_from-append}
+use Rattle.task_model.specs.Askers.{Asking}
+use Rattle.task_model.specs.declared.setup.Setup.{Setup}
+use Rattle.task_model.specs.Askings.{TaskStretch, askings_from, askings, closing, run_askings, run_notings, run_turn}
+use Rattle.task_model.proofs.Askings.{askings_from-append}
 use Rattle.task_laws.specs.WentWell.{is_asked_well, WentWell, IsSuccess}
 use Rattle.task_laws.specs.RunWell.{TaskDone, AreAskedWell, RanWell, IsSucceeded, RunsSucceed}
 use Rattle.task_laws.proofs.WellTasks.{well_is_success}

@@ -15,17 +15,17 @@ use Rattle.journal_model.specs.declared.answer.Answer.{Answer}
 use Rattle.task_text.specs.declared.task.Task.{Task}
 use Rattle.task_text.specs.declared.task.Work.{Work}
 use Rattle.task_text.specs.declared.task.Work.TheVariants as W
-use Rattle.task_run.specs.Askers.{Asking, Noting}
-use Rattle.task_run.specs.declared.setup.Setup.{Setup}
-use Rattle.task_run.specs.declared.turn.TaskTurn.{TaskTurn}
-use Rattle.task_run.specs.Names.{chunk_file}
-use Rattle.task_run.specs.Requests.{AsksFor, AskInOrder}
-use Rattle.task_run.specs.Layouts.{parts_of_layout, keys_of_layout}
-use Rattle.task_run.specs.Reads.{length_found, lengths_found, reads_of, reads_between, bytes_of, is_run, appended, holds, is_read_of}
-use Rattle.task_run.specs.Checks.{present_request}
-use Rattle.task_run.specs.Stores.{is_size, fits_length, chunk_request, questions, found, transfers, missing_parts, is_front, is_copied, copied_length, part_length, is_filled, are_whole, PlainStoreAsks, ChunkStoreAsks}
-use Rattle.task_run.specs.Runs.{RunOf, TaskRun, is_chunked, WorkAsks}
-use Rattle.task_run.proofs.HeldLaws.{reads_front}
+use Rattle.task_model.specs.Askers.{Asking, Noting}
+use Rattle.task_model.specs.declared.setup.Setup.{Setup}
+use Rattle.task_model.specs.declared.turn.TaskTurn.{TaskTurn}
+use Rattle.task_model.specs.Names.{chunk_file}
+use Rattle.task_model.specs.Requests.{AsksFor, AskInOrder}
+use Rattle.task_model.specs.Layouts.{parts_of_layout, keys_of_layout}
+use Rattle.task_model.specs.Reads.{length_found, lengths_found, reads_of, reads_between, bytes_of, is_run, appended, holds, is_read_of}
+use Rattle.task_model.specs.Checks.{present_request}
+use Rattle.task_model.specs.Stores.{is_size, fits_length, chunk_request, questions, found, transfers, missing_parts, is_front, is_copied, copied_length, part_length, is_filled, are_whole, PlainStoreAsks, ChunkStoreAsks}
+use Rattle.task_model.specs.Runs.{RunOf, TaskRun, is_chunked, WorkAsks}
+use Rattle.task_model.proofs.HeldLaws.{reads_front}
 use Rattle.task_laws.specs.Contents.{Shows}
 use Rattle.task_laws.specs.Sent.{IsRangeSent, ChunksAreRanges}
 use Rattle.task_laws.proofs.Members.{IsIn, is_in, contained, in_split, in_dropped, all_in}

@@ -6,8 +6,8 @@ use Rattle.std.proofs.lemmas.Bool.{and_parts, eqb-true, ltb-true, leb-true}
 use Rattle.std.proofs.lemmas.List.Sums.{sum_by-cons}
 use Rattle.ann_key.specs.Keys.{Parts}
 use Rattle.chunk_plan.specs.Layouts.{Part, count_of, from_of, to_of, is_held, held_of}
-use Rattle.task_run.specs.Layouts.{parts_of_layout}
-use Rattle.task_run.specs.Gets.{parts_wanted, wanted, item}
+use Rattle.task_model.specs.Layouts.{parts_of_layout}
+use Rattle.task_model.specs.Gets.{parts_wanted, wanted, item}
 use Rattle.ann_key.proofs.Booleans.{false_is_true as apart}
 
 -- ---- nothing is held of nothing

@@ -18,22 +18,22 @@ use Rattle.journal_model.specs.declared.verdict.Verdict.TheVariants as V
 use Rattle.task_text.specs.declared.task.Task.{Task}
 use Rattle.task_text.specs.declared.task.Work.{Work}
 use Rattle.task_text.specs.declared.task.Work.TheVariants as W
-use Rattle.task_run.specs.Askers.{Asking, Noting}
-use Rattle.task_run.specs.declared.setup.Setup.{Setup}
-use Rattle.task_run.specs.declared.turn.TaskTurn.{TaskTurn}
-use Rattle.task_run.specs.Stops.{verdict_stop, asking_stop, result_stop, call_stop, stops_of, AnsweredBy, is_done, is_done_at, is_question, is_store, failed_at, last_failed}
-use Rattle.task_run.specs.Names.{part_of}
-use Rattle.task_run.specs.Layouts.{chunk_sizes, sizes_tried, layouts_tried, keys_of_layout, parts_of_layout}
-use Rattle.task_run.specs.Reads.{length_found, lengths_found, reads_of, reads_between, is_at_end}
-use Rattle.task_run.specs.Requests.{rounds}
-use Rattle.task_run.specs.Checks.{CheckAnswers, is_there, not_there}
-use Rattle.task_run.specs.Drops.{DropAnswers, keys_dropped}
-use Rattle.task_run.specs.Stores.{is_size, fits_length, stored, missing_parts, transfers, found, parts_left, IsShort, IsStoredShort, PlainStoreAnswers, ChunkStoreAnswers}
-use Rattle.task_run.specs.Gets.{failures, asked_last, parts_last, lengths_at_begin, fit_in, IsSaid, IsChecked, DecidesBy, Decides, GetAnswers, checked}
-use Rattle.task_run.specs.Ran.{is_of_content}
-use Rattle.task_run.specs.Runs.{RunOf, is_chunked, WorkAnswers}
-use Rattle.task_run.specs.Exports.{DoneOrFailed}
-use Rattle.task_run.proofs.Lists.{none_stop}
+use Rattle.task_model.specs.Askers.{Asking, Noting}
+use Rattle.task_model.specs.declared.setup.Setup.{Setup}
+use Rattle.task_model.specs.declared.turn.TaskTurn.{TaskTurn}
+use Rattle.task_model.specs.Stops.{verdict_stop, asking_stop, result_stop, call_stop, stops_of, AnsweredBy, is_done, is_done_at, is_question, is_store, failed_at, last_failed}
+use Rattle.task_model.specs.Names.{part_of}
+use Rattle.task_model.specs.Layouts.{chunk_sizes, sizes_tried, layouts_tried, keys_of_layout, parts_of_layout}
+use Rattle.task_model.specs.Reads.{length_found, lengths_found, reads_of, reads_between, is_at_end}
+use Rattle.task_model.specs.Requests.{rounds}
+use Rattle.task_model.specs.Checks.{CheckAnswers, is_there, not_there}
+use Rattle.task_model.specs.Drops.{DropAnswers, keys_dropped}
+use Rattle.task_model.specs.Stores.{is_size, fits_length, stored, missing_parts, transfers, found, parts_left, IsShort, IsStoredShort, PlainStoreAnswers, ChunkStoreAnswers}
+use Rattle.task_model.specs.Gets.{failures, asked_last, parts_last, lengths_at_begin, fit_in, IsSaid, IsChecked, DecidesBy, Decides, GetAnswers, checked}
+use Rattle.task_model.specs.Ran.{is_of_content}
+use Rattle.task_model.specs.Runs.{RunOf, is_chunked, WorkAnswers}
+use Rattle.task_model.specs.Exports.{DoneOrFailed}
+use Rattle.task_model.proofs.Lists.{none_stop}
 use Rattle.task_laws.specs.WentWell.{is_told, is_asked_well, error_of, is_borne, is_called_well, is_read_within, IsFileWhole, IsSentWell, IsFoundWell, WentWell, success_of, IsSuccess, WellIsSuccess, WellUnlessRefused}
 use Rattle.ann_key.proofs.Lists.{weaken}
 use Rattle.ann_key.proofs.Booleans.{false_is_true as apart}

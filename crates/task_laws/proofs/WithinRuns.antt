@@ -18,7 +18,7 @@ use Rattle.journal_model.proofs.Growing.{Near, Legal-induction}
 use Rattle.journal_model.proofs.Holding.{claimed_append, held_busy, held_near}
 use Rattle.journal_model.proofs.Looks.{entry}
 use Rattle.journal_model.proofs.Working.{ask_work, count-append, due_untasked, takes, unclaimed_in, worker, claims_of as claims_task}
-use Rattle.task_run.specs.Askings.{TaskStretch, closing, past_claim}
+use Rattle.task_model.specs.Askings.{TaskStretch, closing, past_claim}
 use Rattle.task_laws.specs.Changes.{Request, request_in, requests, requests_from}
 use Rattle.task_laws.proofs.Members.{IsIn, in_split}
 use Rattle.ann_key.proofs.Booleans.{false_is_true as apart}

@@ -8,7 +8,7 @@ use Rattle.journal_model.specs.declared.entry.What.TheVariants.{Ask}
 use Rattle.journal_model.specs.declared.entry.Entry.{Entry}
 use Rattle.journal_model.specs.Journal.{verdict_of, addressed}
 use Rattle.journal_model.specs.Legality.{is_done, turn_of_task}
-use Rattle.task_run.specs.declared.turn.TaskTurn.{TaskTurn}
+use Rattle.task_model.specs.declared.turn.TaskTurn.{TaskTurn}
 
 -- ---- requests
 

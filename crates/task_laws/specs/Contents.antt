@@ -2,11 +2,11 @@
 use Rattle.std.specs.Prelude.{ℕ, ◌≡◌, ◌+◌, ◌==◌, true, List, [], ◌∷◌, length}
 use Rattle.std.specs.List.{list_all}
 use Rattle.ann_outside.specs.declared.file_desk.Call.{Call}
-use Rattle.task_run.specs.Askers.{Asking}
-use Rattle.task_run.specs.declared.setup.Setup.{Setup}
-use Rattle.task_run.specs.declared.turn.TaskTurn.{TaskTurn}
-use Rattle.task_run.specs.Names.{fetch_file}
-use Rattle.task_run.specs.Reads.{lengths_found, reads_of, is_read_of}
+use Rattle.task_model.specs.Askers.{Asking}
+use Rattle.task_model.specs.declared.setup.Setup.{Setup}
+use Rattle.task_model.specs.declared.turn.TaskTurn.{TaskTurn}
+use Rattle.task_model.specs.Names.{fetch_file}
+use Rattle.task_model.specs.Reads.{lengths_found, reads_of, is_read_of}
 
 -- All that the calls found and read of the file is of this content.
 pub record Shows (name content : List ℕ) (calls : List Call) : Type 0 where

@@ -9,14 +9,14 @@ use Rattle.ann_outside.specs.declared.file_desk.Call.{Call}
 use Rattle.ann_outside.specs.declared.file_desk.Call.TheVariants.{Size, ReadAt, Append, Rename}
 use Rattle.journal_model.specs.declared.answer.Answer.TheVariants.{Got}
 use Rattle.task_text.specs.declared.task.Task.{Task}
-use Rattle.task_run.specs.Askers.{Asking, Noting}
-use Rattle.task_run.specs.declared.setup.Setup.{Setup}
-use Rattle.task_run.specs.declared.turn.TaskTurn.{TaskTurn}
-use Rattle.task_run.specs.Names.{part_of}
-use Rattle.task_run.specs.Gets.{checked, since_begin}
-use Rattle.task_run.specs.Reads.{is_call_of}
-use Rattle.task_run.specs.Runs.{TaskRun}
-use Rattle.task_run.specs.RunLaws.{sizes_got}
+use Rattle.task_model.specs.Askers.{Asking, Noting}
+use Rattle.task_model.specs.declared.setup.Setup.{Setup}
+use Rattle.task_model.specs.declared.turn.TaskTurn.{TaskTurn}
+use Rattle.task_model.specs.Names.{part_of}
+use Rattle.task_model.specs.Gets.{checked, since_begin}
+use Rattle.task_model.specs.Reads.{is_call_of}
+use Rattle.task_model.specs.Runs.{TaskRun}
+use Rattle.task_model.specs.RunLaws.{sizes_got}
 use Rattle.task_laws.specs.Contents.{Shows}
 use Rattle.task_laws.specs.Kept.{is_afresh}
 

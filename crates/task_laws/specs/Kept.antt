@@ -9,17 +9,17 @@ use Rattle.journal_model.specs.declared.answer.Answer.TheVariants.{Got}
 use Rattle.task_text.specs.declared.task.Task.{Task}
 use Rattle.task_text.specs.declared.task.Work.{Work}
 use Rattle.task_text.specs.declared.task.Work.TheVariants.{XGet}
-use Rattle.task_run.specs.Askers.{Asking, Noting}
-use Rattle.task_run.specs.declared.setup.Setup.{Setup}
-use Rattle.task_run.specs.declared.turn.TaskTurn.{TaskTurn}
-use Rattle.task_run.specs.Names.{part_of}
-use Rattle.task_run.specs.Layouts.{keys_of_layout}
-use Rattle.task_run.specs.Requests.{AskInOrder}
-use Rattle.task_run.specs.Reads.{appended, holds, are_found_so, is_renaming, is_last}
-use Rattle.task_run.specs.Gets.{fetch_request, lengths_at_begin, failures, item, asked_last, first_asked, since_begin, is_plain_last, checked}
-use Rattle.task_run.specs.Exports.{fetch_export}
-use Rattle.task_run.specs.Runs.{TaskRun}
-use Rattle.task_run.specs.RunLaws.{sizes_got}
+use Rattle.task_model.specs.Askers.{Asking, Noting}
+use Rattle.task_model.specs.declared.setup.Setup.{Setup}
+use Rattle.task_model.specs.declared.turn.TaskTurn.{TaskTurn}
+use Rattle.task_model.specs.Names.{part_of}
+use Rattle.task_model.specs.Layouts.{keys_of_layout}
+use Rattle.task_model.specs.Requests.{AskInOrder}
+use Rattle.task_model.specs.Reads.{appended, holds, are_found_so, is_renaming, is_last}
+use Rattle.task_model.specs.Gets.{fetch_request, lengths_at_begin, failures, item, asked_last, first_asked, since_begin, is_plain_last, checked}
+use Rattle.task_model.specs.Exports.{fetch_export}
+use Rattle.task_model.specs.Runs.{TaskRun}
+use Rattle.task_model.specs.RunLaws.{sizes_got}
 use Rattle.task_laws.specs.Contents.{AreFetched}
 
 -- the request that fetches: under a name it says so

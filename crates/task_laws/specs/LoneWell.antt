@@ -11,12 +11,12 @@ use Rattle.journal_model.specs.Journal.{any}
 use Rattle.journal_model.specs.Legality.{task_of}
 use Rattle.journal_model.specs.Shares.{is_closed}
 use Rattle.task_text.specs.declared.task.Task.{Task}
-use Rattle.task_run.specs.declared.setup.Setup.{Setup}
-use Rattle.task_run.specs.Askings.{run_askings, run_turn}
-use Rattle.task_run.specs.TaskRuns.{refused_at}
-use Rattle.gathering.specs.JournalRuns.{JournalRun}
-use Rattle.lone_work.specs.Works.{TaskDone}
-use Rattle.lone_rounds.specs.Rounds.{HasRun, ZeroRun}
+use Rattle.task_model.specs.declared.setup.Setup.{Setup}
+use Rattle.task_model.specs.Askings.{run_askings, run_turn}
+use Rattle.task_model.specs.TaskRuns.{refused_at}
+use Rattle.crew_laws.specs.JournalRuns.{JournalRun}
+use Rattle.crew_worker.specs.Works.{TaskDone}
+use Rattle.run_starts.specs.Rounds.{HasRun, ZeroRun}
 use Rattle.task_laws.specs.WentWell.{DeskWentWell, IsSuccess}
 use Rattle.task_laws.specs.RunWell.{AreAskedWell}
 

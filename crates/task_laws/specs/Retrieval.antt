@@ -9,15 +9,15 @@ use Rattle.journal_model.specs.declared.entry.Entry.{Entry}
 use Rattle.journal_model.specs.declared.opening.Opening.{Opening}
 use Rattle.journal_model.specs.Legality.{Legal, is_of_lost_child}
 use Rattle.task_text.specs.declared.task.Work.TheVariants.{Store}
-use Rattle.task_run.specs.declared.setup.Setup.{Setup}
-use Rattle.task_run.specs.declared.turn.TaskTurn.{TaskTurn}
-use Rattle.task_run.specs.Askings.{TaskStretch, is_last_run, run_askings}
-use Rattle.task_run.specs.Names.{part_of}
-use Rattle.task_run.specs.Reads.{appended, holds, are_found_so, is_renaming, is_last}
-use Rattle.task_run.specs.Gets.{asked_last, since_begin, checked}
-use Rattle.task_run.specs.Runs.{is_chunked}
-use Rattle.task_run.specs.RunLaws.{sizes_got}
-use Rattle.gathering.specs.JournalRuns.{JournalRun}
+use Rattle.task_model.specs.declared.setup.Setup.{Setup}
+use Rattle.task_model.specs.declared.turn.TaskTurn.{TaskTurn}
+use Rattle.task_model.specs.Askings.{TaskStretch, is_last_run, run_askings}
+use Rattle.task_model.specs.Names.{part_of}
+use Rattle.task_model.specs.Reads.{appended, holds, are_found_so, is_renaming, is_last}
+use Rattle.task_model.specs.Gets.{asked_last, since_begin, checked}
+use Rattle.task_model.specs.Runs.{is_chunked}
+use Rattle.task_model.specs.RunLaws.{sizes_got}
+use Rattle.crew_laws.specs.JournalRuns.{JournalRun}
 use Rattle.task_laws.specs.Changes.{Request}
 use Rattle.task_laws.specs.Contents.{Shows}
 use Rattle.task_laws.specs.Faithful.{Told, sent, IsFaithful, IsPlayed, AreInTurn, AreStoredFor}

@@ -13,11 +13,11 @@ use Rattle.journal_model.specs.declared.entry.Entry.{Entry}
 use Rattle.journal_model.specs.declared.opening.Opening.{Opening}
 use Rattle.journal_model.specs.Rows.{by_main, greeting, opening_of}
 use Rattle.task_text.specs.declared.task.Work.TheVariants.{Store, Get}
-use Rattle.task_run.specs.Rows.{task_of, first_turn, second_turn, fetched_2_1, got_hi, moved, renamed, sized, store_ten, c1, chunk_2}
-use Rattle.task_run.specs.StretchRows.{next_greeting}
+use Rattle.task_model.specs.Rows.{task_of, first_turn, second_turn, fetched_2_1, got_hi, moved, renamed, sized, store_ten, c1, chunk_2}
+use Rattle.task_model.specs.StretchRows.{next_greeting}
 use Rattle.task_laws.specs.Changes.{Request}
 use Rattle.task_laws.specs.Faithful.{Told}
-use Rattle.task_run.specs.declared.turn.TaskTurn.{TaskTurn}
+use Rattle.task_model.specs.declared.turn.TaskTurn.{TaskTurn}
 
 -- what the keys say
 abbrev pub ten_parts : Parts

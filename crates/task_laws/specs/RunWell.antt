@@ -8,9 +8,9 @@ use Rattle.journal_model.specs.declared.entry.Entry.{Entry}
 use Rattle.journal_model.specs.declared.opening.Opening.{Opening}
 use Rattle.journal_model.specs.Legality.{task_of}
 use Rattle.task_text.specs.declared.task.Task.{Task}
-use Rattle.task_run.specs.declared.setup.Setup.{Setup}
-use Rattle.task_run.specs.Askings.{askings, run_askings, run_turn}
-use Rattle.gathering.specs.JournalRuns.{JournalRun}
+use Rattle.task_model.specs.declared.setup.Setup.{Setup}
+use Rattle.task_model.specs.Askings.{askings, run_askings, run_turn}
+use Rattle.crew_laws.specs.JournalRuns.{JournalRun}
 use Rattle.task_laws.specs.WentWell.{is_asked_well, DeskWentWell, IsSuccess}
 
 -- a run of a task: by which number, which turn of it, its desk's calls, and its answer

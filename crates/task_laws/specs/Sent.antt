@@ -8,12 +8,12 @@ use Rattle.chunk_plan.specs.Layouts.{Part}
 use Rattle.journal_model.specs.declared.answer.Answer.{Answer}
 use Rattle.task_text.specs.declared.task.Task.{Task}
 use Rattle.task_text.specs.declared.task.Work.TheVariants as W
-use Rattle.task_run.specs.Askers.{Asking, Noting}
-use Rattle.task_run.specs.declared.setup.Setup.{Setup}
-use Rattle.task_run.specs.declared.turn.TaskTurn.{TaskTurn}
-use Rattle.task_run.specs.Layouts.{parts_of_layout}
-use Rattle.task_run.specs.Reads.{holds}
-use Rattle.task_run.specs.Runs.{TaskRun, is_chunked}
+use Rattle.task_model.specs.Askers.{Asking, Noting}
+use Rattle.task_model.specs.declared.setup.Setup.{Setup}
+use Rattle.task_model.specs.declared.turn.TaskTurn.{TaskTurn}
+use Rattle.task_model.specs.Layouts.{parts_of_layout}
+use Rattle.task_model.specs.Reads.{holds}
+use Rattle.task_model.specs.Runs.{TaskRun, is_chunked}
 use Rattle.task_laws.specs.Contents.{Shows}
 
 -- the file holds the content's bytes in the range of the chunk with this key, and no others

@@ -2,10 +2,10 @@
 use Rattle.std.specs.Prelude.{ℕ, ◌≡◌, List, ◌∷◌, ◌++◌, map, All, Option, Some, None}
 use Rattle.ann_outside.specs.Calls.{Log}
 use Rattle.ann_outside.specs.Files.{Files, content}
-use Rattle.lone_work.specs.Works.{TaskDone}
+use Rattle.crew_worker.specs.Works.{TaskDone}
 use Rattle.task_laws.specs.Faithful.{Told, IsPlayed, AreInTurn}
 use Rattle.task_laws.specs.Retrieval.{AllLeave}
-use Rattle.task_run.specs.declared.turn.TaskTurn.{TaskTurn}
+use Rattle.task_model.specs.declared.turn.TaskTurn.{TaskTurn}
 
 -- the turn of a task that was run
 abbrev pub turn_done : TaskDone → TaskTurn

@@ -14,17 +14,17 @@ use Rattle.journal_model.specs.declared.answer.Answer.TheVariants.{Stored, Got, 
 use Rattle.task_text.specs.declared.task.Task.{Task}
 use Rattle.task_text.specs.declared.task.Work.{Work}
 use Rattle.task_text.specs.declared.task.Work.TheVariants as W
-use Rattle.task_run.specs.Askers.{Asking, Noting}
-use Rattle.task_run.specs.declared.setup.Setup.{Setup}
-use Rattle.task_run.specs.declared.turn.TaskTurn.{TaskTurn}
-use Rattle.task_run.specs.Stops.{is_done, is_question, is_store}
-use Rattle.task_run.specs.Names.{part_of}
-use Rattle.task_run.specs.Layouts.{sizes_tried}
-use Rattle.task_run.specs.Reads.{lengths_found, reads_of, is_reading}
-use Rattle.task_run.specs.Stores.{is_size}
-use Rattle.task_run.specs.Gets.{lengths_at_begin, asked_last, first_asked, parts_last, is_plain_last, end_held, held_reads, checked, wrong_lengths, are_read_whole}
-use Rattle.task_run.specs.Ran.{is_of_content}
-use Rattle.task_run.specs.Runs.{TaskRun}
+use Rattle.task_model.specs.Askers.{Asking, Noting}
+use Rattle.task_model.specs.declared.setup.Setup.{Setup}
+use Rattle.task_model.specs.declared.turn.TaskTurn.{TaskTurn}
+use Rattle.task_model.specs.Stops.{is_done, is_question, is_store}
+use Rattle.task_model.specs.Names.{part_of}
+use Rattle.task_model.specs.Layouts.{sizes_tried}
+use Rattle.task_model.specs.Reads.{lengths_found, reads_of, is_reading}
+use Rattle.task_model.specs.Stores.{is_size}
+use Rattle.task_model.specs.Gets.{lengths_at_begin, asked_last, first_asked, parts_last, is_plain_last, end_held, held_reads, checked, wrong_lengths, are_read_whole}
+use Rattle.task_model.specs.Ran.{is_of_content}
+use Rattle.task_model.specs.Runs.{TaskRun}
 
 -- ---- what was asked
 

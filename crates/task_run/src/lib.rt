@@ -1,18 +1,10 @@
-// What the tasks of a run ask, do and answer, and what all of them share.
+// One task of any work.
 #![tactic(auto)]
 
-pub mod answers;
-pub mod ask;
-mod asker;
-mod check;
-pub mod export_laws;
-pub mod laws;
-pub mod names;
-pub mod run_laws;
-mod setup;
-mod turn;
+mod check_layouts;
+mod drop_layouts;
+mod exports;
+mod layouts;
+mod run;
 
-pub use asker::Asker;
-pub use check::check_answer;
-pub use setup::Setup;
-pub use turn::TaskTurn;
+pub use run::run_task;

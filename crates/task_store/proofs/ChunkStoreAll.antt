@@ -11,23 +11,23 @@ use Rattle.journal_model.specs.declared.answer.Answer.{Answer}
 use Rattle.journal_model.specs.declared.answer.Answer.TheVariants as A
 use Rattle.task_text.specs.declared.task.Work.TheVariants as W
 use Rattle.ann_outside.specs.declared.file_desk.Call.{Call}
-use Rattle.task_run.specs.Askers.{Asking, Noting, is_gone}
-use Rattle.task_run.specs.declared.setup.Setup.{Setup}
-use Rattle.task_run.specs.declared.turn.TaskTurn.{TaskTurn}
-use Rattle.task_run.specs.Stops.{asking_stop, verdict_stop, all_but_last, is_done, is_done_at, is_question}
-use Rattle.task_run.specs.Requests.{AsksFor, AskInOrder}
-use Rattle.task_run.specs.Layouts.{parts_of_layout}
-use Rattle.task_run.specs.Checks.{present_request}
-use Rattle.task_run.specs.Stores.{is_next_copied, chunk_request, found, transfers, ChunkStoreAsks}
-use Rattle.task_run.specs.Runs.{RunOf}
-use Rattle.task_run.specs.TaskCalls.{StoreCalls}
+use Rattle.task_model.specs.Askers.{Asking, Noting, is_gone}
+use Rattle.task_model.specs.declared.setup.Setup.{Setup}
+use Rattle.task_model.specs.declared.turn.TaskTurn.{TaskTurn}
+use Rattle.task_model.specs.Stops.{asking_stop, verdict_stop, all_but_last, is_done, is_done_at, is_question}
+use Rattle.task_model.specs.Requests.{AsksFor, AskInOrder}
+use Rattle.task_model.specs.Layouts.{parts_of_layout}
+use Rattle.task_model.specs.Checks.{present_request}
+use Rattle.task_model.specs.Stores.{is_next_copied, chunk_request, found, transfers, ChunkStoreAsks}
+use Rattle.task_model.specs.Runs.{RunOf}
+use Rattle.task_model.specs.TaskCalls.{StoreCalls}
 use Rattle.task_store.specs.ChunkStoring.{chunk_keys}
-use Rattle.task_run.proofs.Lists.{but_last, all_taken}
+use Rattle.task_model.proofs.Lists.{but_last, all_taken}
 use Rattle.task_store.proofs.ChunkStoreRuns.{Going, with_size}
 use Rattle.task_store.proofs.ChunkStoreParts.{Chunked, chunk_parts, parts_many, Split, split_of, there_questions, found_there, no_more_found, next_of, drop_range}
 use Rattle.task_store.proofs.ChunkStoreEnds.{Missing, store_task, all_done_free, end_memory, calls_of, chunked_is, sought_free, sought_length, sought_split, pieces_of, asks_of, the_note, run_finished}
-use Rattle.task_run.specs.Stores.{stored}
-use Rattle.task_run.specs.Ran.{behind_more}
+use Rattle.task_model.specs.Stores.{stored}
+use Rattle.task_model.specs.Ran.{behind_more}
 use Rattle.task_store.proofs.ChunkStoreTasks.{answers_stored, fits_is, stored_is, all_counted}
 use Rattle.task_store.proofs.ChunkStoreEnds.{Pieces, run_memory, run_asking_stop}
 use Rattle.ann_key.proofs.Lists.{same_name, all_more}

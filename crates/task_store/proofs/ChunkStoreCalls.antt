@@ -11,19 +11,19 @@ use Rattle.ann_outside.specs.declared.file_desk.Call.TheVariants as K
 use Rattle.ann_outside.specs.declared.file_desk.Call.TheVariants.{Size, ReadAt, Create, Append, Cut, Rename, Remove}
 use Rattle.fetch_copy.specs.Copies.{copy_calls}
 use Rattle.fetch_copy.specs.CopiesOut.{reads_before}
-use Rattle.task_run.specs.declared.setup.Setup.{Setup}
-use Rattle.task_run.specs.declared.turn.TaskTurn.{TaskTurn}
-use Rattle.task_run.specs.Stops.{call_stop}
-use Rattle.task_run.specs.Names.{chunk_file, chunk_files, is_among}
-use Rattle.task_run.specs.Reads.{reads_of, read_of, bytes_of, is_run, piece_of, appended, held_after, holds, is_call_of, is_known}
-use Rattle.task_run.specs.Discipline.{are_among, names_in, changed_by, size_among, are_found}
-use Rattle.task_run.specs.Stores.{is_size_call, is_front}
+use Rattle.task_model.specs.declared.setup.Setup.{Setup}
+use Rattle.task_model.specs.declared.turn.TaskTurn.{TaskTurn}
+use Rattle.task_model.specs.Stops.{call_stop}
+use Rattle.task_model.specs.Names.{chunk_file, chunk_files, is_among}
+use Rattle.task_model.specs.Reads.{reads_of, read_of, bytes_of, is_run, piece_of, appended, held_after, holds, is_call_of, is_known}
+use Rattle.task_model.specs.Discipline.{are_among, names_in, changed_by, size_among, are_found}
+use Rattle.task_model.specs.Stores.{is_size_call, is_front}
 use Rattle.task_store.specs.ChunkStoring.{cut_calls}
-use Rattle.task_run.proofs.GetCallsLaws.{known_skip, known_add, copy_reads, copy_appends, placed, run_placed, bytes_placed}
+use Rattle.task_model.proofs.GetCallsLaws.{known_skip, known_add, copy_reads, copy_appends, placed, run_placed, bytes_placed}
 use Rattle.ann_key.proofs.Lists.{all_more, equal_bytes as same_text, same_name}
-use Rattle.task_run.proofs.HeldLaws.{holds_more as holds_both}
+use Rattle.task_model.proofs.HeldLaws.{holds_more as holds_both}
 use Rattle.ann_key.proofs.Booleans.{false_is_true as apart}
-use Rattle.task_run.proofs.Across.{bytes_more}
+use Rattle.task_model.proofs.Across.{bytes_more}
 
 pub lt_of : (a b : ℕ) → nat_lt a b ≡ true → a < b
 lt_of a b h = grind (arith, nat_tests)

@@ -13,20 +13,20 @@ use Rattle.journal_model.specs.declared.answer.Answer.TheVariants as A
 use Rattle.task_text.specs.declared.task.Task.{Task}
 use Rattle.task_text.specs.declared.task.Work.TheVariants as W
 use Rattle.ann_outside.specs.declared.file_desk.Call.{Call}
-use Rattle.task_run.specs.Askers.{Asking, Noting, is_gone}
-use Rattle.task_run.specs.declared.setup.Setup.{Setup}
-use Rattle.task_run.specs.declared.turn.TaskTurn.{TaskTurn}
-use Rattle.task_run.specs.Stops.{asking_stop, call_stop, verdict_stop, AnsweredBy, all_but_last, is_done, is_done_at, is_question}
-use Rattle.task_run.specs.Names.{part_of}
-use Rattle.task_run.specs.Requests.{AskInOrder}
-use Rattle.task_run.specs.Layouts.{parts_of_layout}
-use Rattle.task_run.specs.Discipline.{are_found}
-use Rattle.task_run.specs.Checks.{present_request}
-use Rattle.task_run.specs.Stores.{is_size_call, are_whole, are_removed, is_next_copied, chunk_request, questions, found, transfers, ChunkStoreAsks}
-use Rattle.task_run.specs.Runs.{RunOf, WorkAnswers, is_chunked}
-use Rattle.task_run.specs.TaskCalls.{StoreCalls}
+use Rattle.task_model.specs.Askers.{Asking, Noting, is_gone}
+use Rattle.task_model.specs.declared.setup.Setup.{Setup}
+use Rattle.task_model.specs.declared.turn.TaskTurn.{TaskTurn}
+use Rattle.task_model.specs.Stops.{asking_stop, call_stop, verdict_stop, AnsweredBy, all_but_last, is_done, is_done_at, is_question}
+use Rattle.task_model.specs.Names.{part_of}
+use Rattle.task_model.specs.Requests.{AskInOrder}
+use Rattle.task_model.specs.Layouts.{parts_of_layout}
+use Rattle.task_model.specs.Discipline.{are_found}
+use Rattle.task_model.specs.Checks.{present_request}
+use Rattle.task_model.specs.Stores.{is_size_call, are_whole, are_removed, is_next_copied, chunk_request, questions, found, transfers, ChunkStoreAsks}
+use Rattle.task_model.specs.Runs.{RunOf, WorkAnswers, is_chunked}
+use Rattle.task_model.specs.TaskCalls.{StoreCalls}
 use Rattle.task_store.specs.ChunkStoring.{chunk_keys, is_missing_at, IsSought}
-use Rattle.task_run.proofs.Lists.{but_last, all_taken, none_stop}
+use Rattle.task_model.proofs.Lists.{but_last, all_taken, none_stop}
 use Rattle.task_store.proofs.ChunkStoreRuns.{Front, with_size, is_free}
 use Rattle.task_store.proofs.ChunkStoreParts.{Chunked, chunk_parts, keys_are, missing_are, parts_many, Split, split_of, there_questions, all_questions, order_front, found_there, no_more_found, done_stays, missing_stays, missing_undone, are_whole_from, are_removed_from, next_of, drop_range}
 use Rattle.ann_key.proofs.Lists.{same_name, all_still as all_imp, all_more}

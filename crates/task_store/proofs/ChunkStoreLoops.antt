@@ -7,11 +7,11 @@ use Rattle.ann_key.specs.declared.bytes.NoMemory.{NoMemory}
 use Rattle.annex_model.specs.Messages.{HostMessage}
 use Rattle.journal_model.specs.declared.verdict.Verdict.{Verdict}
 use Rattle.journal_model.specs.declared.answer.Answer.{Answer}
-use Rattle.task_run.specs.Askers.{Asking, Noting}
+use Rattle.task_model.specs.Askers.{Asking, Noting}
 use Rattle.task_store.specs.declared.chunk_store.Sought.TheVariants.{All, Missing, Over}
-use Rattle.task_run.specs.Stops.{verdict_stop, is_done, is_done_at}
-use Rattle.task_run.specs.Requests.{AsksFor, AskInOrder}
-use Rattle.task_run.specs.Checks.{present_request}
+use Rattle.task_model.specs.Stops.{verdict_stop, is_done, is_done_at}
+use Rattle.task_model.specs.Requests.{AsksFor, AskInOrder}
+use Rattle.task_model.specs.Checks.{present_request}
 use Rattle.task_store.specs.ChunkStoring.{AsksOneFor, is_missing_at, chunk_keys, Seeks}
 use Rattle.task_store.proofs.ChunkStoreRuns.{order_more, Going, going_none, with_size}
 use Rattle.std.specs.Prelude.{is_some}
@@ -21,11 +21,11 @@ use Rattle.ann_outside.specs.declared.file_desk.DeskError.TheVariants as E
 use Rattle.ann_outside.specs.declared.file_desk.Call.{Call}
 use Rattle.chunk_plan.specs.Layouts.{count_of, from_of, to_of}
 use Rattle.fetch_copy.proofs.CopyLaws.{gained_nothing, gained_more}
-use Rattle.task_run.specs.declared.setup.Setup.{Setup}
-use Rattle.task_run.specs.declared.turn.TaskTurn.{TaskTurn}
-use Rattle.task_run.specs.Names.{chunk_file}
-use Rattle.task_run.specs.Ran.{undone_answer, behind_more, answered}
-use Rattle.task_run.specs.Runs.{RunOf}
+use Rattle.task_model.specs.declared.setup.Setup.{Setup}
+use Rattle.task_model.specs.declared.turn.TaskTurn.{TaskTurn}
+use Rattle.task_model.specs.Names.{chunk_file}
+use Rattle.task_model.specs.Ran.{undone_answer, behind_more, answered}
+use Rattle.task_model.specs.Runs.{RunOf}
 use Rattle.task_store.specs.ChunkStoring.{Chunk, NotMade, NotCopied, CutShort, Unasked, Undone, Settled, chunk_calls, chunk_asked, chunk_result, ChunkIs, StoresChunk, StoresFrom, NotesChunks, IsSought, is_settled_at, so_far, removal_result}
 use Rattle.task_store.proofs.ChunkStoreParts.{Chunked}
 use Rattle.task_store.proofs.ChunkStoreEnds.{store_task, the_note, Missing as Missed}

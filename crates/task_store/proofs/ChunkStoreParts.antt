@@ -12,16 +12,16 @@ use Rattle.chunk_plan.specs.Layouts.{Part, chunk_part, count_of}
 use Rattle.journal_model.specs.declared.verdict.Verdict.{Verdict}
 use Rattle.journal_model.specs.declared.verdict.Verdict.TheVariants.{Done, Failed, Absent, Unknown, Unsupported, Ended, Unsent}
 use Rattle.ann_outside.specs.declared.file_desk.Call.{Call}
-use Rattle.task_run.specs.Askers.{Asking, is_gone}
-use Rattle.task_run.specs.declared.setup.Setup.{Setup}
-use Rattle.task_run.specs.declared.turn.TaskTurn.{TaskTurn}
-use Rattle.task_run.specs.Stops.{is_done, is_done_at, is_question}
-use Rattle.task_run.specs.Names.{chunk_file}
-use Rattle.task_run.specs.Requests.{AsksFor, AskInOrder}
-use Rattle.task_run.specs.Layouts.{parts_of_layout, keys_of_layout}
-use Rattle.task_run.specs.Reads.{is_removed}
-use Rattle.task_run.specs.Checks.{present_request}
-use Rattle.task_run.specs.Stores.{is_copied, are_whole, are_removed, is_next_copied, questions, found, transfers}
+use Rattle.task_model.specs.Askers.{Asking, is_gone}
+use Rattle.task_model.specs.declared.setup.Setup.{Setup}
+use Rattle.task_model.specs.declared.turn.TaskTurn.{TaskTurn}
+use Rattle.task_model.specs.Stops.{is_done, is_done_at, is_question}
+use Rattle.task_model.specs.Names.{chunk_file}
+use Rattle.task_model.specs.Requests.{AsksFor, AskInOrder}
+use Rattle.task_model.specs.Layouts.{parts_of_layout, keys_of_layout}
+use Rattle.task_model.specs.Reads.{is_removed}
+use Rattle.task_model.specs.Checks.{present_request}
+use Rattle.task_model.specs.Stores.{is_copied, are_whole, are_removed, is_next_copied, questions, found, transfers}
 use Rattle.task_store.specs.ChunkStoring.{chunk_keys, is_missing_at}
 use Rattle.task_store.proofs.ChunkStoreRuns.{WholeAt, with_size}
 use Rattle.ann_key.proofs.Booleans.{false_is_true as apart}

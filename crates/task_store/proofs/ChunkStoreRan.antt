@@ -16,20 +16,20 @@ use Rattle.ann_outside.specs.declared.file_desk.DeskError.TheVariants as E
 use Rattle.ann_outside.specs.declared.file_desk.Call.{Call}
 use Rattle.ann_outside.specs.declared.file_desk.Call.TheVariants.{Size}
 use Rattle.fetch_copy.proofs.CopyLaws.{gained_call, gained_without, gained_more}
-use Rattle.task_run.specs.Askers.{Asking, Noting}
-use Rattle.task_run.specs.declared.setup.Setup.{Setup}
-use Rattle.task_run.specs.declared.turn.TaskTurn.{TaskTurn}
-use Rattle.task_run.specs.Names.{part_of}
-use Rattle.task_run.specs.Layouts.{parts_of_layout}
-use Rattle.task_run.specs.Stores.{is_size, is_copied, is_next_copied, begins_with_size, ChunkStoreAsks}
-use Rattle.task_run.specs.Runs.{RunOf, TaskRun, is_chunked}
-use Rattle.task_run.specs.TaskCalls.{StoreCalls}
-use Rattle.task_run.specs.Ran.{RanStore, IsInChunks, answered, refusal}
+use Rattle.task_model.specs.Askers.{Asking, Noting}
+use Rattle.task_model.specs.declared.setup.Setup.{Setup}
+use Rattle.task_model.specs.declared.turn.TaskTurn.{TaskTurn}
+use Rattle.task_model.specs.Names.{part_of}
+use Rattle.task_model.specs.Layouts.{parts_of_layout}
+use Rattle.task_model.specs.Stores.{is_size, is_copied, is_next_copied, begins_with_size, ChunkStoreAsks}
+use Rattle.task_model.specs.Runs.{RunOf, TaskRun, is_chunked}
+use Rattle.task_model.specs.TaskCalls.{StoreCalls}
+use Rattle.task_model.specs.Ran.{RanStore, IsInChunks, answered, refusal}
 use Rattle.task_store.specs.ChunkStoring.{StoresSized}
-use Rattle.task_run.proofs.Texts.{longer_differs}
-use Rattle.task_run.proofs.PlainRuns.{of_reading}
+use Rattle.task_model.proofs.Texts.{longer_differs}
+use Rattle.task_model.proofs.PlainRuns.{of_reading}
 use Rattle.task_store.proofs.ChunkStoreEnds.{store_task}
-use Rattle.task_run.proofs.NamedRuns.{nameless, with_names}
+use Rattle.task_model.proofs.NamedRuns.{nameless, with_names}
 use Rattle.task_text.specs.Works.{has_name}
 use Rattle.ann_key.proofs.Lists.{same_name, other_name}
 use Rattle.ann_key.proofs.Booleans.{false_is_true as apart}

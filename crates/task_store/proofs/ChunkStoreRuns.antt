@@ -12,23 +12,23 @@ use Rattle.annex_model.specs.Messages.{HostMessage}
 use Rattle.chunk_plan.specs.Layouts.{chunk_part, count_of, from_of, to_of}
 use Rattle.ann_outside.specs.declared.file_desk.Call.{Call}
 use Rattle.ann_outside.specs.declared.file_desk.Call.TheVariants.{Size, Remove}
-use Rattle.task_run.specs.Askers.{Asking}
-use Rattle.task_run.specs.declared.setup.Setup.{Setup}
-use Rattle.task_run.specs.declared.turn.TaskTurn.{TaskTurn}
-use Rattle.task_run.specs.Stops.{call_stop, all_but_last, is_done, is_question}
-use Rattle.task_run.specs.Names.{chunk_file, chunk_files, part_of}
-use Rattle.task_run.specs.Requests.{AsksFor, AskInOrder}
-use Rattle.task_run.specs.Reads.{read_of, reads_of, reads_between, is_last, takes_away, piece_of, appended, holds, is_call_of, is_known, is_removed}
-use Rattle.task_run.specs.Discipline.{name_only, change_only, size_of_only, are_among, names_in, changed_by, size_among, are_found}
-use Rattle.task_run.specs.Stores.{is_size_call, is_copied, copied_length, part_length, is_filled, chunk_request}
+use Rattle.task_model.specs.Askers.{Asking}
+use Rattle.task_model.specs.declared.setup.Setup.{Setup}
+use Rattle.task_model.specs.declared.turn.TaskTurn.{TaskTurn}
+use Rattle.task_model.specs.Stops.{call_stop, all_but_last, is_done, is_question}
+use Rattle.task_model.specs.Names.{chunk_file, chunk_files, part_of}
+use Rattle.task_model.specs.Requests.{AsksFor, AskInOrder}
+use Rattle.task_model.specs.Reads.{read_of, reads_of, reads_between, is_last, takes_away, piece_of, appended, holds, is_call_of, is_known, is_removed}
+use Rattle.task_model.specs.Discipline.{name_only, change_only, size_of_only, are_among, names_in, changed_by, size_among, are_found}
+use Rattle.task_model.specs.Stores.{is_size_call, is_copied, copied_length, part_length, is_filled, chunk_request}
 use Rattle.task_store.specs.ChunkStoring.{chunk_keys}
-use Rattle.task_run.proofs.GetCallsLaws.{found_more}
-use Rattle.task_run.proofs.Lists.{but_last}
-use Rattle.task_run.proofs.FileNames.{chunk_files_differ}
+use Rattle.task_model.proofs.GetCallsLaws.{found_more}
+use Rattle.task_model.proofs.Lists.{but_last}
+use Rattle.task_model.proofs.FileNames.{chunk_files_differ}
 use Rattle.task_store.proofs.ChunkStoreCalls.{lt_of, all_kept, own, own_named, own_changed, own_length, own_no_size, own_pieces, own_calls, own_reads, Cutting, own_held, Fills, chunk_among}
 use Rattle.ann_key.proofs.Lists.{same_name, all_still as all_imp, all_more}
 use Rattle.ann_key.proofs.Numbers.{same_number as nat_same}
-use Rattle.task_run.proofs.HeldLaws.{holds_more as holds_both}
+use Rattle.task_model.proofs.HeldLaws.{holds_more as holds_both}
 
 -- ---- ranges
 

@@ -8,15 +8,15 @@ use Rattle.ann_key.specs.Keys.{Parts, with_chunk}
 use Rattle.chunk_plan.specs.Layouts.{count_of, from_of, to_of}
 use Rattle.ann_outside.specs.declared.file_desk.Call.{Call}
 use Rattle.ann_outside.specs.declared.file_desk.Call.TheVariants.{ReadAt, Create, Remove}
-use Rattle.task_run.specs.Askers.{Asking}
-use Rattle.task_run.specs.declared.setup.Setup.{Setup}
-use Rattle.task_run.specs.declared.turn.TaskTurn.{TaskTurn}
-use Rattle.task_run.specs.Stops.{call_stop, is_done, is_question}
-use Rattle.task_run.specs.Names.{chunk_file, part_of}
-use Rattle.task_run.specs.Requests.{AsksFor}
-use Rattle.task_run.specs.Reads.{is_removed}
-use Rattle.task_run.specs.Discipline.{are_found}
-use Rattle.task_run.specs.Stores.{chunk_request}
+use Rattle.task_model.specs.Askers.{Asking}
+use Rattle.task_model.specs.declared.setup.Setup.{Setup}
+use Rattle.task_model.specs.declared.turn.TaskTurn.{TaskTurn}
+use Rattle.task_model.specs.Stops.{call_stop, is_done, is_question}
+use Rattle.task_model.specs.Names.{chunk_file, part_of}
+use Rattle.task_model.specs.Requests.{AsksFor}
+use Rattle.task_model.specs.Reads.{is_removed}
+use Rattle.task_model.specs.Discipline.{are_found}
+use Rattle.task_model.specs.Stores.{chunk_request}
 use Rattle.task_store.proofs.ChunkStoreRuns.{Front, Going, with_size, is_free}
 use Rattle.std.specs.List.{concat}
 use Rattle.std.specs.Int.{div_ceil}
@@ -24,10 +24,10 @@ use Rattle.std.proofs.Math.Nat.{mul-le-mul_right, suc-mul}
 use Rattle.std.proofs.lemmas.Grind.{div_ceil_times}
 use Rattle.fetch_copy.specs.Copies.{copy_calls, EndsWhole, EndsEarly}
 use Rattle.fetch_copy.specs.CopiesOut.{reads_before}
-use Rattle.task_run.specs.Reads.{is_known, piece_of, appended, held_after, holds}
+use Rattle.task_model.specs.Reads.{is_known, piece_of, appended, held_after, holds}
 use Rattle.std.specs.Prelude.{nat_le}
-use Rattle.task_run.proofs.FileNames.{chunk_not_part}
-use Rattle.task_run.proofs.GetCallsLaws.{found_more, known_skip, known_add, known_copy}
+use Rattle.task_model.proofs.FileNames.{chunk_not_part}
+use Rattle.task_model.proofs.GetCallsLaws.{found_more, known_skip, known_add, known_copy}
 use Rattle.task_store.proofs.ChunkStoreCalls.{lt_of, Cutting, Ending, cutting_cut, cutting_removed, cut_appends, copy_held, Fills, fills_removed, known_created, known_removed, copy_found, copy_free}
 use Rattle.task_store.proofs.ChunkStoreRuns.{front_asked, still_removed, removed_last, reads_later, fresh_later}
 use Rattle.task_store.specs.ChunkStoring.{cut_calls}
@@ -35,7 +35,7 @@ use Rattle.ann_key.proofs.Lists.{same_name, all_more, other_name}
 use Rattle.ann_key.proofs.Booleans.{false_is_true as apart}
 use Rattle.ann_key.proofs.Numbers.{same_number as nat_same}
 use Rattle.std.proofs.lemmas.Bool.{le-leb as le_true}
-use Rattle.task_run.proofs.HeldLaws.{holds_more as holds_both}
+use Rattle.task_model.proofs.HeldLaws.{holds_more as holds_both}
 
 -- ---- a read after the pieces
 

@@ -15,19 +15,19 @@ use Rattle.journal_model.specs.declared.answer.Answer.TheVariants as A
 use Rattle.task_text.specs.declared.task.Work.TheVariants as W
 use Rattle.ann_outside.specs.declared.file_desk.Call.{Call}
 use Rattle.ann_outside.specs.declared.file_desk.Call.TheVariants.{ReadAt, Create, Append, Remove}
-use Rattle.task_run.specs.Askers.{Asking, Noting}
-use Rattle.task_run.specs.declared.setup.Setup.{Setup}
-use Rattle.task_run.specs.declared.turn.TaskTurn.{TaskTurn}
-use Rattle.task_run.specs.Stops.{asking_stop, call_stop, verdict_stop, is_done, is_done_at, is_question, last_failed, failed_at}
-use Rattle.task_run.specs.Names.{chunk_file, part_of}
-use Rattle.task_run.specs.Requests.{AsksFor}
-use Rattle.task_run.specs.Layouts.{parts_of_layout}
-use Rattle.task_run.specs.Reads.{lengths_found, is_removed}
-use Rattle.task_run.specs.Discipline.{are_found}
-use Rattle.task_run.specs.Stores.{are_removed, chunk_request, questions, found, transfers, parts_left, fits_length, ChunkStoreAnswers}
-use Rattle.task_run.specs.Runs.{RunOf}
+use Rattle.task_model.specs.Askers.{Asking, Noting}
+use Rattle.task_model.specs.declared.setup.Setup.{Setup}
+use Rattle.task_model.specs.declared.turn.TaskTurn.{TaskTurn}
+use Rattle.task_model.specs.Stops.{asking_stop, call_stop, verdict_stop, is_done, is_done_at, is_question, last_failed, failed_at}
+use Rattle.task_model.specs.Names.{chunk_file, part_of}
+use Rattle.task_model.specs.Requests.{AsksFor}
+use Rattle.task_model.specs.Layouts.{parts_of_layout}
+use Rattle.task_model.specs.Reads.{lengths_found, is_removed}
+use Rattle.task_model.specs.Discipline.{are_found}
+use Rattle.task_model.specs.Stores.{are_removed, chunk_request, questions, found, transfers, parts_left, fits_length, ChunkStoreAnswers}
+use Rattle.task_model.specs.Runs.{RunOf}
 use Rattle.task_store.specs.ChunkStoring.{is_missing_at, IsSought}
-use Rattle.task_run.proofs.Lists.{none_stop}
+use Rattle.task_model.proofs.Lists.{none_stop}
 use Rattle.task_store.proofs.ChunkStoreRuns.{Front, Going, with_size, is_free}
 use Rattle.task_store.proofs.ChunkStoreParts.{Chunked, chunk_parts, missing_are, parts_many, Split, are_removed_from, count_front, drop_range}
 use Rattle.std.specs.List.{concat}
@@ -35,27 +35,27 @@ use Rattle.ann_outside.specs.declared.file_desk.DeskError.{DeskError}
 use Rattle.ann_outside.specs.declared.file_desk.DeskError.TheVariants as E
 use Rattle.fetch_copy.specs.Copies.{copy_calls, EndsWhole, RefusedBy}
 use Rattle.fetch_copy.specs.CopiesOut.{reads_before}
-use Rattle.task_run.specs.Reads.{is_known, piece_of, appended, reads_of, bytes_of}
+use Rattle.task_model.specs.Reads.{is_known, piece_of, appended, reads_of, bytes_of}
 use Rattle.std.specs.Prelude.{nat_le}
-use Rattle.task_run.proofs.FileNames.{chunk_not_part}
-use Rattle.task_run.proofs.GetCallsLaws.{found_more, placed, bytes_placed}
+use Rattle.task_model.proofs.FileNames.{chunk_not_part}
+use Rattle.task_model.proofs.GetCallsLaws.{found_more, placed, bytes_placed}
 use Rattle.task_store.proofs.ChunkStoreCalls.{own, Cutting, cutting_removed, Fills, fills_removed, cutting_create, cut_reads, cut_appends}
 use Rattle.task_store.proofs.ChunkStoreRuns.{front_same, front_asked, still_removed}
 use Rattle.task_store.specs.ChunkStoring.{from_file, Cut, Chunk, NotMade, NotCopied, CutShort, Unasked, Undone, Settled, cut_calls, chunk_calls, chunk_asked, chunk_result, ChunkIs, is_settled_at}
 use Rattle.task_store.proofs.ChunkStoreEnds.{Missing, store_task, are_free, all_done_free, end_memory, end_call, end_asking, calls_of, front_asks, chunked_is, sought_free, sought_length, sought_split, run_finished}
 use Rattle.std.proofs.lemmas.List.Folds.{list_all-append}
-use Rattle.task_run.specs.Reads.{read_of}
-use Rattle.task_run.specs.Reads.{reads_between}
-use Rattle.task_run.specs.Stores.{IsShort, is_cut_short, copied_length, stored}
-use Rattle.task_run.specs.Ran.{refusal, undone_answer, answered}
+use Rattle.task_model.specs.Reads.{read_of}
+use Rattle.task_model.specs.Reads.{reads_between}
+use Rattle.task_model.specs.Stores.{IsShort, is_cut_short, copied_length, stored}
+use Rattle.task_model.specs.Ran.{refusal, undone_answer, answered}
 use Rattle.task_store.specs.ChunkStoring.{ended, so_far}
 use Rattle.task_store.proofs.ChunkStoreRuns.{between_only, appended_only}
-use Rattle.task_run.specs.Stops.{error_stop}
+use Rattle.task_model.specs.Stops.{error_stop}
 use Rattle.task_store.proofs.ChunkStoreSteps.{Copied, copied_of, last_read, whole_read, early_read, going_stored, removal_of, Removal, full_range}
 use Rattle.ann_key.proofs.Lists.{same_name, all_still as all_imp, all_more, other_name}
 use Rattle.ann_key.proofs.Booleans.{false_is_true as apart}
 use Rattle.ann_key.proofs.Numbers.{same_number as nat_same}
-use Rattle.task_run.proofs.Across.{at_end-snoc as at_end_snoc, bytes_more}
+use Rattle.task_model.proofs.Across.{at_end-snoc as at_end_snoc, bytes_more}
 
 -- ---- answers
 

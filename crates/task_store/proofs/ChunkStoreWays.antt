@@ -21,16 +21,16 @@ use Rattle.ann_outside.specs.declared.file_desk.Call.TheVariants.{Remove}
 use Rattle.fetch_copy.specs.declared.copied.Copied.TheVariants.{Done, Fault, Missing}
 use Rattle.fetch_copy.specs.CopiesOut.{CopiesOut}
 use Rattle.fetch_copy.proofs.CopyLaws.{gained_nothing, gained_more}
-use Rattle.task_run.specs.Askers.{Asking, KeepsRequest, AskAdds}
+use Rattle.task_model.specs.Askers.{Asking, KeepsRequest, AskAdds}
 use Rattle.chunk_plan.specs.Layouts.{from_of, to_of, count_of}
-use Rattle.task_run.specs.Stops.{verdict_stop}
-use Rattle.task_run.specs.Requests.{AsksFor}
-use Rattle.task_run.specs.Checks.{present_request}
-use Rattle.task_run.specs.Ran.{is_verdict_of, undone_answer}
-use Rattle.task_run.specs.Fetching.{Outcome, if_made}
+use Rattle.task_model.specs.Stops.{verdict_stop}
+use Rattle.task_model.specs.Requests.{AsksFor}
+use Rattle.task_model.specs.Checks.{present_request}
+use Rattle.task_model.specs.Ran.{is_verdict_of, undone_answer}
+use Rattle.task_model.specs.Fetching.{Outcome, if_made}
 use Rattle.task_store.specs.ChunkStoring.{AsksNext, AsksOneFor, from_file, NotMade, NotCopied, CutShort, Unasked, Undone, Settled, cut_calls, StoresChunk, NotWhole, CopiesChunk, SettlesChunk, is_settled_at, removal_result}
-use Rattle.task_run.proofs.PlainRuns.{asks_for_check}
-use Rattle.task_run.proofs.Gains.{gained_remove}
+use Rattle.task_model.proofs.PlainRuns.{asks_for_check}
+use Rattle.task_model.proofs.Gains.{gained_remove}
 use Rattle.ann_key.proofs.Booleans.{false_is_true as apart}
 
 -- ---- requests

@@ -14,18 +14,18 @@ use Rattle.ann_outside.specs.declared.file_desk.DeskError.TheVariants as E
 use Rattle.ann_outside.specs.declared.file_desk.Call.{Call}
 use Rattle.ann_outside.specs.declared.file_desk.Call.TheVariants.{Size}
 use Rattle.fetch_copy.proofs.CopyLaws.{gained_call, gained_without}
-use Rattle.task_run.specs.Askers.{Asking, AsksOne}
+use Rattle.task_model.specs.Askers.{Asking, AsksOne}
 use Rattle.journal_model.specs.declared.answer.Answer.{Answer}
 use Rattle.journal_model.specs.declared.answer.Answer.TheVariants.{Memory, Stored, Size as SizeAnswer}
-use Rattle.task_run.specs.declared.setup.Setup.{Setup}
-use Rattle.task_run.specs.declared.turn.TaskTurn.{TaskTurn}
-use Rattle.task_run.specs.Names.{part_of}
-use Rattle.task_run.specs.Stores.{is_size}
-use Rattle.task_run.specs.Exports.{AsksOfName, ExportStoreAsks, store_export}
-use Rattle.task_run.specs.Runs.{RunOf}
-use Rattle.task_run.specs.Ran.{RanGet, answered, is_verdict_of, change_answer, refusal}
-use Rattle.task_run.proofs.Texts.{longer_differs}
-use Rattle.task_run.proofs.ExportRuns.{with_work, export_run, named, asks_of_name, asks_nothing}
+use Rattle.task_model.specs.declared.setup.Setup.{Setup}
+use Rattle.task_model.specs.declared.turn.TaskTurn.{TaskTurn}
+use Rattle.task_model.specs.Names.{part_of}
+use Rattle.task_model.specs.Stores.{is_size}
+use Rattle.task_model.specs.Exports.{AsksOfName, ExportStoreAsks, store_export}
+use Rattle.task_model.specs.Runs.{RunOf}
+use Rattle.task_model.specs.Ran.{RanGet, answered, is_verdict_of, change_answer, refusal}
+use Rattle.task_model.proofs.Texts.{longer_differs}
+use Rattle.task_model.proofs.ExportRuns.{with_work, export_run, named, asks_of_name, asks_nothing}
 use Rattle.ann_key.proofs.Lists.{same_name, other_name}
 use Rattle.ann_key.proofs.Booleans.{false_is_true as apart}
 

@@ -16,22 +16,22 @@ use Rattle.ann_outside.specs.declared.file_desk.DeskError.TheVariants as E
 use Rattle.ann_outside.specs.declared.file_desk.Call.{Call}
 use Rattle.ann_outside.specs.declared.file_desk.Call.TheVariants.{Size}
 use Rattle.fetch_copy.proofs.CopyLaws.{gained_call, gained_without}
-use Rattle.task_run.specs.Askers.{Asking, KeepsRequest, AsksOne}
+use Rattle.task_model.specs.Askers.{Asking, KeepsRequest, AsksOne}
 use Rattle.journal_model.specs.declared.answer.Answer.{Answer}
 use Rattle.journal_model.specs.declared.answer.Answer.TheVariants.{Memory, Stored, Size as SizeAnswer}
-use Rattle.task_run.specs.declared.setup.Setup.{Setup}
-use Rattle.task_run.specs.declared.turn.TaskTurn.{TaskTurn}
-use Rattle.task_run.specs.Names.{part_of}
-use Rattle.task_run.specs.Requests.{AsksFor, key_named}
-use Rattle.task_run.specs.Stops.{is_question}
-use Rattle.task_run.specs.Stores.{store_request, is_size, PlainStoreAsks}
-use Rattle.task_run.specs.Runs.{RunOf, TaskRun, is_chunked}
-use Rattle.task_run.specs.TaskCalls.{StoreCalls}
-use Rattle.task_run.specs.Ran.{RanPlain, answered, is_verdict_of, change_answer, refusal}
+use Rattle.task_model.specs.declared.setup.Setup.{Setup}
+use Rattle.task_model.specs.declared.turn.TaskTurn.{TaskTurn}
+use Rattle.task_model.specs.Names.{part_of}
+use Rattle.task_model.specs.Requests.{AsksFor, key_named}
+use Rattle.task_model.specs.Stops.{is_question}
+use Rattle.task_model.specs.Stores.{store_request, is_size, PlainStoreAsks}
+use Rattle.task_model.specs.Runs.{RunOf, TaskRun, is_chunked}
+use Rattle.task_model.specs.TaskCalls.{StoreCalls}
+use Rattle.task_model.specs.Ran.{RanPlain, answered, is_verdict_of, change_answer, refusal}
 use Rattle.std.specs.Prelude.{unwrap_or}
-use Rattle.task_run.proofs.Texts.{longer_differs}
-use Rattle.task_run.proofs.PlainRuns.{of_reading}
-use Rattle.task_run.proofs.NamedRuns.{nameless, with_names}
+use Rattle.task_model.proofs.Texts.{longer_differs}
+use Rattle.task_model.proofs.PlainRuns.{of_reading}
+use Rattle.task_model.proofs.NamedRuns.{nameless, with_names}
 use Rattle.task_text.specs.Works.{has_name}
 use Rattle.ann_key.proofs.Lists.{same_name, other_name}
 use Rattle.ann_key.proofs.Booleans.{false_is_true as apart}

@@ -13,21 +13,21 @@ use Rattle.ann_outside.specs.declared.file_desk.Call.{Call}
 use Rattle.ann_outside.specs.declared.file_desk.Call.TheVariants.{Size, Create, Remove}
 use Rattle.fetch_copy.specs.Copies.{copy_calls, EndsWhole, EndsRefused}
 use Rattle.fetch_copy.specs.CopiesOut.{reads_before}
-use Rattle.task_run.specs.Askers.{Asking, Noting}
+use Rattle.task_model.specs.Askers.{Asking, Noting}
 use Rattle.journal_model.specs.declared.answer.Answer.{Answer}
 use Rattle.journal_model.specs.declared.answer.Answer.TheVariants.{Size as SizeAnswer, Stored}
-use Rattle.task_run.specs.declared.setup.Setup.{Setup}
-use Rattle.task_run.specs.declared.turn.TaskTurn.{TaskTurn}
+use Rattle.task_model.specs.declared.setup.Setup.{Setup}
+use Rattle.task_model.specs.declared.turn.TaskTurn.{TaskTurn}
 use Rattle.task_store.specs.declared.chunk_store.Sought.{Sought}
 use Rattle.task_store.specs.declared.chunk_store.Sought.TheVariants.{All, Missing, Over}
 use Rattle.task_store.specs.declared.chunk_store.Standing.{Standing}
 use Rattle.task_store.specs.declared.chunk_store.Standing.TheVariants as S
-use Rattle.task_run.specs.Stops.{is_done, is_done_at, verdict_stop}
-use Rattle.task_run.specs.Requests.{AsksFor, AskInOrder}
-use Rattle.task_run.specs.Checks.{present_request}
-use Rattle.task_run.specs.Ran.{refusal, undone_answer, behind_more, answered, may_follow_refusal}
-use Rattle.task_run.specs.Fetching.{Outcome, if_made}
-use Rattle.task_run.specs.Runs.{RunOf}
+use Rattle.task_model.specs.Stops.{is_done, is_done_at, verdict_stop}
+use Rattle.task_model.specs.Requests.{AsksFor, AskInOrder}
+use Rattle.task_model.specs.Checks.{present_request}
+use Rattle.task_model.specs.Ran.{refusal, undone_answer, behind_more, answered, may_follow_refusal}
+use Rattle.task_model.specs.Fetching.{Outcome, if_made}
+use Rattle.task_model.specs.Runs.{RunOf}
 use Rattle.chunk_plan.specs.Layouts.{count_of}
 use Rattle.task_text.specs.declared.task.Work.TheVariants.{Store}
 

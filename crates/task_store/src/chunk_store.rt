@@ -9,12 +9,12 @@ ghost use Rattle.ann_outside.specs.declared.file_desk.Call.TheVariants.{Remove};
 ghost use Rattle.chunk_plan.specs.Layouts.{count_of, from_of, to_of};
 ghost use Rattle.task_text.specs.TaskLines.{IsTask};
 ghost use Rattle.task_text.specs.declared.task.Work.TheVariants as W;
-ghost use Rattle.task_run.specs.Askers.{IsSameTask};
-ghost use Rattle.task_run.specs.Checks.{present_request};
+ghost use Rattle.task_model.specs.Askers.{IsSameTask};
+ghost use Rattle.task_model.specs.Checks.{present_request};
 ghost use Rattle.task_store.specs.ChunkStoring.{AsksNext, from_file, Seeks, StoresChunk, CopiesChunk, SettlesChunk, StoresFrom, StoresSized, StandsAs, IsQuiet, NotesChunks, removal_result, so_far};
-ghost use Rattle.task_run.specs.Fetching.{Outcome};
-ghost use Rattle.task_run.specs.Names.{chunk_file};
-ghost use Rattle.task_run.specs.Ran.{RanStore, IsInChunks, HasQuietCauses, is_verdict_of, may_follow_refusal};
+ghost use Rattle.task_model.specs.Fetching.{Outcome};
+ghost use Rattle.task_model.specs.Names.{chunk_file};
+ghost use Rattle.task_model.specs.Ran.{RanStore, IsInChunks, HasQuietCauses, is_verdict_of, may_follow_refusal};
 
 use crate::stores::{Chunk, Store};
 use ann_key::NoMemory;
@@ -23,9 +23,9 @@ use chunk_plan::{count, piece, range};
 use fetch_copy::{Copied, copy_out};
 use journal_model::{Answer, Verdict};
 use std::alloc::Global;
-use task_run::answers::refused;
-use task_run::names::chunk_name;
-use task_run::{Asker, Setup, TaskTurn, ask};
+use task_model::answers::refused;
+use task_model::names::chunk_name;
+use task_model::{Asker, Setup, TaskTurn, ask};
 use task_text::Task;
 
 // What a remote has of a key's chunks, or how asking for them ended the task.

@@ -2,16 +2,16 @@
 ghost use Rattle.std.specs.Prelude.{◌≡◌, ℕ, List, true};
 ghost use Rattle.task_text.specs.TaskLines.{IsTask};
 ghost use Rattle.task_text.specs.declared.task.Work.TheVariants as W;
-ghost use Rattle.task_run.specs.Ran.{RanGet, HasQuietCauses};
-ghost use Rattle.task_run.specs.Askers.{IsSameTask};
-ghost use Rattle.task_run.specs.declared.setup.Setup.{Setup};
+ghost use Rattle.task_model.specs.Ran.{RanGet, HasQuietCauses};
+ghost use Rattle.task_model.specs.Askers.{IsSameTask};
+ghost use Rattle.task_model.specs.declared.setup.Setup.{Setup};
 
 use ann_key::NoMemory;
 use ann_outside::Desk;
 use journal_model::Answer;
 use std::alloc::Global;
-use task_run::answers::{change_answer, is_size, refused};
-use task_run::{Asker, TaskTurn, ask};
+use task_model::answers::{change_answer, is_size, refused};
+use task_model::{Asker, TaskTurn, ask};
 use task_text::Task;
 
 /// Has the file stored as the key under the task's name, if it has the key's size.

@@ -2,15 +2,15 @@
 ghost use Rattle.std.specs.Prelude.{◌≡◌, [], true};
 ghost use Rattle.task_text.specs.TaskLines.{IsTask};
 ghost use Rattle.task_text.specs.declared.task.Work.TheVariants as W;
-ghost use Rattle.task_run.specs.Ran.{RanPlain, HasQuietCauses};
-ghost use Rattle.task_run.specs.Askers.{IsSameTask};
+ghost use Rattle.task_model.specs.Ran.{RanPlain, HasQuietCauses};
+ghost use Rattle.task_model.specs.Askers.{IsSameTask};
 
 use ann_key::NoMemory;
 use ann_outside::Desk;
 use journal_model::Answer;
 use std::alloc::Global;
-use task_run::answers::{change_answer, is_size, refused};
-use task_run::{Asker, TaskTurn, ask};
+use task_model::answers::{change_answer, is_size, refused};
+use task_model::{Asker, TaskTurn, ask};
 use task_text::Task;
 
 /// Has the file stored as the key, if it has the key's size.

@@ -5,7 +5,7 @@ ghost use Rattle.annex_model.specs.Lines.{has_newline};
 ghost use Rattle.annex_model.specs.Messages.{is_sent_key};
 
 use ann_key::KeyRef;
-use task_run::{Setup, TaskTurn};
+use task_model::{Setup, TaskTurn};
 
 /// A file that is stored in the setup's chunks, as a whole key that says its size.
 #[derive(Clone, Copy)]

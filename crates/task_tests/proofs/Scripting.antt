@@ -8,10 +8,10 @@ use Rattle.journal_model.specs.declared.verdict.Verdict.TheVariants.{Done, Absen
 use Rattle.journal_model.specs.Projection.{IsNamed}
 use Rattle.talk_serial.specs.declared.request.Request.{Request}
 use Rattle.talk_serial.specs.Requests.{message_of, name_of}
-use Rattle.task_run.specs.Askers.{AsksOne}
+use Rattle.task_model.specs.Askers.{AsksOne}
 use Rattle.task_tests.specs.Scripts.{can_have, pair_of}
 use Rattle.ann_key.proofs.Lists.{same_name as same_bytes}
-use Rattle.task_run.proofs.Across.{said_kept}
+use Rattle.task_model.proofs.Across.{said_kept}
 use Rattle.annex_model.proofs.Across.{same_way}
 
 pub is_named : (q : HostMessage) (v : Verdict) → can_have q v ≡ true → IsNamed q v

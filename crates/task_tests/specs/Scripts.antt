@@ -5,7 +5,7 @@ use Rattle.journal_model.specs.declared.verdict.Verdict.{Verdict}
 use Rattle.journal_model.specs.declared.verdict.Verdict.TheVariants.{Done, Absent, Unsent}
 use Rattle.talk_serial.specs.declared.request.Request.{Request}
 use Rattle.talk_serial.specs.Requests.{message_of, name_of}
-use Rattle.task_run.specs.Askers.{Asking, Noting}
+use Rattle.task_model.specs.Askers.{Asking, Noting}
 
 abbrev pub pair_of : Request × Verdict → Asking
 pair_of pair = record { request = Some (message_of pair.0); name = name_of pair.0; verdict = pair.1 }

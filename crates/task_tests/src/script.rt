@@ -4,7 +4,7 @@ ghost use Rattle.annex_model.specs.Messages.{is_askable};
 ghost use Rattle.annex_model.specs.Turns.{turn_of};
 ghost use Rattle.journal_model.specs.Projection.{IsNamed};
 ghost use Rattle.talk_serial.specs.Requests.{message_of, name_of};
-ghost use Rattle.task_run.specs.Askers.{Asking, Noting, AskAdds, NoteAdds, IsSameTask, names_in_line, is_said_in_line, are_layouts};
+ghost use Rattle.task_model.specs.Askers.{Asking, Noting, AskAdds, NoteAdds, IsSameTask, names_in_line, is_said_in_line, are_layouts};
 ghost use Rattle.task_tests.specs.Scripts.{can_have, pair_of, note_of};
 
 use ann_key::NoMemory;
@@ -12,7 +12,7 @@ use chunk_log::Layouts;
 use journal_model::Verdict;
 use std::alloc::Global;
 use talk_serial::Request;
-use task_run::Asker;
+use task_model::Asker;
 
 /// An asker to which all is done that it asks, and that is told that nothing is there. It keeps what it was asked.
 #[derive(Drop)]

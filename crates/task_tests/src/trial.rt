@@ -1,8 +1,8 @@
 // One task over a desk in memory, with a call that fails, and what came of it.
 ghost use Rattle.std.specs.Prelude.{◌≡◌, true, false, IfOk};
 ghost use Rattle.annex_model.specs.Lines.{has_newline};
-ghost use Rattle.task_run.specs.Askers.{are_layouts};
-ghost use Rattle.task_run.specs.Ran.{may_note};
+ghost use Rattle.task_model.specs.Askers.{are_layouts};
+ghost use Rattle.task_model.specs.Ran.{may_note};
 ghost use Rattle.task_text.specs.TaskLines.{IsTask};
 
 use crate::script::DoneAsker;
@@ -10,9 +10,9 @@ use ann_key::{Bytes, NoMemory, Text};
 use ann_outside::{Call, MemDesk};
 use journal_model::Answer;
 use std::alloc::Global;
-use task_run::Setup;
+use task_model::Setup;
+use task_run::run_task;
 use task_text::{Task, TaskError, Work, read_task};
-use task_works::run_task;
 
 /// Names of files, and what they hold.
 pub type Files = &'static [(&'static str, &'static str)];

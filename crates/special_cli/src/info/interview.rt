@@ -3,7 +3,7 @@ ghost use Rattle.std.specs.Prelude.{◌≡◌, ◌<◌, [], true, false, IfSome,
 ghost use Rattle.ann_key.specs.KeyRefs.{text_of};
 ghost use Rattle.annex_model.specs.Messages.{is_sent_key};
 ghost use Rattle.journal_model.specs.Legality.{Legal};
-ghost use Rattle.link_roles.specs.Alone.{KeepsLink};
+ghost use Rattle.child_link.specs.Alone.{KeepsLink};
 ghost use Rattle.child_start.specs.declared.greeting.Mode.TheVariants.{Serve};
 ghost use Rattle.child_start.specs.Cores.{IsSameCore};
 ghost use Rattle.child_start.specs.Greetings.{CameTo, Greeted};
@@ -14,10 +14,10 @@ ghost use Rattle.special_cli.specs.Interviews.{Interviewed};
 use ann_key::{KeyRef, NoMemory};
 use ann_outside::{Programs, Sink, Source};
 use child_end::{close_child, finish};
+use child_link::{Lone, Wire};
 use child_start::{Came, Greeting, Mode, greet};
 use host_core::Core;
-use info_run::ask_all;
-use link_roles::{Lone, Wire};
+use info_command::ask_all;
 use std::alloc::Global;
 
 // Asks a child that is ready about itself, and another nothing.

@@ -1,18 +1,18 @@
 // One start of the program, and what its child says of being set up.
 ghost use Rattle.std.specs.Prelude.{◌≡◌, ◌<◌, [], Some, IfOk, IsErr, vec_capacity};
 ghost use Rattle.child_start.specs.Cores.{IsSameCore};
-ghost use Rattle.init_run.specs.Setups.{outcome_of};
+ghost use Rattle.init_command.specs.Setups.{outcome_of};
 ghost use Rattle.child_end.specs.Programs.{Leaves};
 ghost use Rattle.special_cli.specs.Setups.{IsSetup, setup_of};
 
 use ann_key::NoMemory;
 use ann_outside::Programs;
 use child_end::{close_child, finish};
+use child_link::Wire;
 use child_start::{Came, Greeting, Mode, greet};
 use host_core::Core;
-use init_run::{Setup, setup_for};
+use init_command::{Setup, setup_for};
 use journal_model::Answer;
-use link_roles::Wire;
 use std::alloc::Global;
 
 // What a setup comes to by what its greeting came to.

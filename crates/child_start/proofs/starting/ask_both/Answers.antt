@@ -1,7 +1,7 @@
 use Rattle.std.proofs.Common.{refl, ap, subst, ◌∙◌, ℕ}
 use Rattle.journal_model.specs.Journal.{open_jobs}
-use Rattle.link_roles.proofs.Roles.{same_both}
-use Rattle.link_roles.proofs.Solo.{keeps_both}
+use Rattle.child_link.proofs.Roles.{same_both}
+use Rattle.child_link.proofs.Solo.{keeps_both}
 use Rattle.child_start.specs.Stages.{AsksNext}
 use Rattle.child_start.proofs.Requests.{greets_both}
 use Rattle.child_start.proofs.Preparing.{main_on, asked_for, kind_of, unprepared_first, greets_started, may_prepare, prepared_second, greets_as, unlost_first}

@@ -2,8 +2,8 @@ use Rattle.std.proofs.Common.{◌≡◌, true, sym, ap, subst, ◌∙◌, ℕ, L
 use Rattle.journal_model.specs.declared.entry.Entry.{Entry}
 use Rattle.journal_model.specs.Journal.{is_started, is_ended}
 use Rattle.talk_serial.specs.Requests.{message_of}
-use Rattle.link_roles.proofs.Roles.{same_both}
-use Rattle.link_roles.proofs.Solo.{keeps_both}
+use Rattle.child_link.proofs.Roles.{same_both}
+use Rattle.child_link.proofs.Solo.{keeps_both}
 use Rattle.child_start.specs.declared.starting.RequestOutcome.{RequestOutcome}
 use Rattle.child_start.specs.Stages.{AsksNext}
 use Rattle.child_start.proofs.Jobs.{goes_as}

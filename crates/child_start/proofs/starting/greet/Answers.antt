@@ -1,8 +1,8 @@
 use Rattle.std.proofs.Common.{ℕ, ap, sym, subst, ◌∙◌}
 use Rattle.ann_outside.specs.Starts.{IsNumbered}
 use Rattle.journal_model.specs.Halves.{EarValue, MouthValue}
-use Rattle.link_roles.specs.Writings.{LoneWired}
-use Rattle.link_roles.specs.Alone.{KeepsLink}
+use Rattle.child_link.specs.Writings.{LoneWired}
+use Rattle.child_link.specs.Alone.{KeepsLink}
 use Rattle.child_start.specs.Greetings.{AreNumbered}
 use Rattle.child_start.specs.Stages.{HasBegun, GreetsOn, TellsOf}
 use Rattle.child_start.proofs.Begun.{has_begun, is_wired}

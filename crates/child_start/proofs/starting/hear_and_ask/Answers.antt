@@ -1,7 +1,7 @@
 use Rattle.std.proofs.Common.{refl, sym, ◌∙◌}
 use Rattle.child_start.specs.declared.starting.RequestOutcome.TheVariants.{Done, Refused, Gone}
-use Rattle.link_roles.proofs.Roles.{same_both}
-use Rattle.link_roles.proofs.Solo.{keeps_both, keeps_first, keeps_still}
+use Rattle.child_link.proofs.Roles.{same_both}
+use Rattle.child_link.proofs.Solo.{keeps_both, keeps_first, keeps_still}
 use Rattle.child_start.proofs.Requests.{greets_goes}
 use Rattle.child_start.proofs.Preparing.{main_on, started_after, unasked_idle, may_ask_first, ended_first, ended_told, unsent_told, greets_started, prepares_as, greets_heard}
 use Rattle.child_start.proofs.starting.hear_and_ask.Goals as goal

@@ -1,5 +1,5 @@
 use Rattle.std.proofs.Common.{◌≡◌, true}
-use Rattle.gathering.specs.Pairs.{Pairwise}
+use Rattle.crew_laws.specs.Pairs.{Pairwise}
 use Rattle.kit_async_roles.specs.Calling.{hand_of}
 use Rattle.kit_async_roles.specs.Passes.{Stands}
 use Rattle.kit_async_roles.specs.Writing.{mouth_of}

@@ -1,5 +1,5 @@
 use Rattle.std.proofs.Common.{◌≡◌, [], refl, sym, subst, true, length, arith}
-use Rattle.crew_round.proofs.Dealing.{pairwise_length}
+use Rattle.crew_threads.proofs.Dealing.{pairwise_length}
 use Rattle.hall.specs.Passes.{IsPassOf}
 use Rattle.kit_async_core.specs.Halls.{KitHall}
 use Rattle.kit_async_roles.specs.Calling.{hand_of}

@@ -1,8 +1,8 @@
 use Rattle.std.proofs.Common.{◌≡◌, Option, true, refl, sym, subst, map, ap, ◌∙◌, length, arith}
 use Rattle.std.specs.Prelude.{All}
-use Rattle.crew_round.specs.BackRole.{role_of}
-use Rattle.crew_round.proofs.Dealing.{pairwise_length}
-use Rattle.gathering.specs.Pairs.{Pairwise}
+use Rattle.crew_threads.specs.BackRole.{role_of}
+use Rattle.crew_threads.proofs.Dealing.{pairwise_length}
+use Rattle.crew_laws.specs.Pairs.{Pairwise}
 use Rattle.kit_serve.specs.Limits.{longest_line}
 use Rattle.kit_async_core.specs.Halls.{KitHall}
 use Rattle.kit_async_roles.specs.declared.why.Why.{Why}

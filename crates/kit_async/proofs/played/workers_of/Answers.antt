@@ -1,7 +1,7 @@
 use Rattle.std.proofs.Common.{rules, ◌++◌, ◌∷◌, [], ◌∙◌, ap, map, sym}
 use Rattle.std.proofs.lemmas.List.{map-append}
-use Rattle.crew_round.specs.BackRole.{role_of}
-use Rattle.crew_round.proofs.Pairs.{shifted, all_passed}
+use Rattle.crew_threads.specs.BackRole.{role_of}
+use Rattle.crew_threads.proofs.Pairs.{shifted, all_passed}
 use Rattle.kit_async.proofs.played.workers_of.Goals as goal
 
 pub loop-back-preserved : goal.loop-back-preserved

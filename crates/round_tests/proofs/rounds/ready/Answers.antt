@@ -4,7 +4,7 @@ use Rattle.journal_model.specs.declared.opening.Opening.{Opening}
 use Rattle.child_start.specs.declared.greeting.Mode.TheVariants.{Serve}
 use Rattle.child_start.specs.declared.greeting.Came.TheVariants.{Ready}
 use Rattle.child_start.specs.Greetings.{CameTo, Greeted}
-use Rattle.lone_work.specs.KnownLayouts.{IsBook}
+use Rattle.crew_worker.specs.KnownLayouts.{IsBook}
 use Rattle.round_tests.proofs.Ready.{greeted_can}
 use Rattle.round_tests.proofs.rounds.ready.Goals as goal
 

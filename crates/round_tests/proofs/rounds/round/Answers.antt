@@ -1,8 +1,8 @@
 use Rattle.std.proofs.Common.{◌≡◌, ◌∙◌, ap, subst, sym}
 use Rattle.journal_model.specs.declared.opening.Opening.{Opening}
-use Rattle.lone_work.specs.Works.{AreTasks}
+use Rattle.crew_worker.specs.Works.{AreTasks}
 use Rattle.round_tests.proofs.rounds.round.Goals as goal
-use Rattle.lone_work.proofs.Across.{all_tasks as are_tasks}
+use Rattle.crew_worker.proofs.Across.{all_tasks as are_tasks}
 
 pub round_tagged_some-requires-clause-tasks : goal.round_tagged_some-requires-clause-tasks
 round_tagged_some-requires-clause-tasks g c κs within =

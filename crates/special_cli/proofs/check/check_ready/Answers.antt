@@ -1,9 +1,9 @@
 use Rattle.std.proofs.Common.{◌∙◌, map, ap, sym, subst}
-use Rattle.lone_work.specs.Works.{AreTasks}
+use Rattle.crew_worker.specs.Works.{AreTasks}
 use Rattle.child_end.specs.Outsides.{OutsideValue}
 use Rattle.special_cli.proofs.Checked.{has_checked}
 use Rattle.special_cli.proofs.check.check_ready.Goals as goal
-use Rattle.lone_work.proofs.Across.{all_tasks}
+use Rattle.crew_worker.proofs.Across.{all_tasks}
 
 pub do_task-answered-requires-clause-tasks : goal.do_task-answered-requires-clause-tasks
 do_task-answered-requires-clause-tasks g c = λ κs lives.

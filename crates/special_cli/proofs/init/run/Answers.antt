@@ -5,13 +5,13 @@ use Rattle.desk_file.proofs.Naming.{names_none}
 use Rattle.special_cli.specs.Setups.{IsInitFile}
 use Rattle.std.specs.Prelude.{IsErr}
 use Rattle.std.proofs.lemmas.Grind.{common_steps}
-use Rattle.init_run.specs.declared.setup.Setup.TheVariants.{Initialized, Stopped}
+use Rattle.init_command.specs.declared.setup.Setup.TheVariants.{Initialized, Stopped}
 use Rattle.special_cli.specs.declared.end.End.TheVariants.{Memory}
 use Rattle.special_cli.proofs.Keeping.{ends_set, ends_stopped, ends_wanting, outcome_ok, ok_err}
 use Rattle.special_cli.proofs.Leaving.{leaves_nothing}
 use Rattle.special_cli.proofs.init.run.Goals as goal
 use Rattle.special_cli.proofs.init.run.Goals.{in-Ok-Initialized, in-Ok-Stopped, in-Err}
-use Rattle.run_tasks.proofs.Leaving.{leaves_named}
+use Rattle.run_command.proofs.Leaving.{leaves_named}
 use Rattle.journal_model.proofs.Across.{nothing_legal}
 
 pub returns-in_default-clause-leaves : goal.returns-in_default-clause-leaves

@@ -1,7 +1,7 @@
 use Rattle.std.proofs.Common.{refl}
 use Rattle.cli_words.specs.Values.{texts_of}
 use Rattle.cli_words.specs.Words.{command_of}
-use Rattle.run_tasks.specs.Inputs.{input_flow}
+use Rattle.run_command.specs.Inputs.{input_flow}
 use Rattle.special_cli.proofs.Calling.{runs_nothing}
 use Rattle.special_cli.proofs.Written.{words_written}
 use Rattle.special_cli.proofs.top.do_words.Goals as goal

@@ -1,6 +1,6 @@
 use Rattle.std.proofs.Common.{None, refl, inl, inr}
 use Rattle.journal_model.specs.declared.verdict.Why.TheVariants.{Foul}
-use Rattle.info_run.specs.Rows.{foul_cost}
+use Rattle.info_command.specs.Rows.{foul_cost}
 use Rattle.special_cli.specs.Informs.{IsComplete}
 use Rattle.special_laws.proofs.info_laws.a_foul_cost_is_told.Goals as goal
 

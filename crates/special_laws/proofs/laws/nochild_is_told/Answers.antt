@@ -7,8 +7,8 @@ use Rattle.journal_model.specs.declared.entry.Entry.{Entry}
 use Rattle.journal_model.specs.declared.entry.What.TheVariants.{Claim, Mute, Answer as Answered}
 use Rattle.journal_model.specs.Output.{answer_line}
 use Rattle.journal_model.specs.Rows.{by_main, greeting, closed}
-use Rattle.task_run.specs.TaskRuns.{failed_start}
-use Rattle.lone_rounds.specs.Rounds.{ZeroAnswers, ZeroRun, start_untaken}
+use Rattle.task_model.specs.TaskRuns.{failed_start}
+use Rattle.run_starts.specs.Rounds.{ZeroAnswers, ZeroRun, start_untaken}
 use Rattle.special_laws.specs.Rows.{gone_early, unstarted}
 use Rattle.special_laws.proofs.laws.nochild_is_told.Goals as goal
 

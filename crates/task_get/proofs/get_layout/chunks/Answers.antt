@@ -5,7 +5,7 @@ use Rattle.chunk_plan.specs.Layouts.{count_of}
 use Rattle.task_get.specs.declared.get_chunk.Went.TheVariants as T
 use Rattle.task_get.proofs.GetChunks.{so_far_none, so_far_more, chunks_whole, chunks_ended}
 use Rattle.task_get.proofs.get_layout.chunks.Goals as goal
-use Rattle.task_run.proofs.Texts.{same_on as same_both}
+use Rattle.task_model.proofs.Texts.{same_on as same_both}
 
 pub loop-i-init : goal.loop-i-init
 loop-i-init g c = record {

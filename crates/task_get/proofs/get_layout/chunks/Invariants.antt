@@ -2,7 +2,7 @@ use Rattle.std.proofs.Common.{◌≡◌, ◌≤◌, ◌+◌}
 use Rattle.ann_digest.specs.Checkers.{taken_of}
 use Rattle.ann_key.specs.KeyRefs.{parts_of}
 use Rattle.chunk_plan.specs.Layouts.{from_of}
-use Rattle.task_run.specs.Askers.{IsSameTask}
+use Rattle.task_model.specs.Askers.{IsSameTask}
 use Rattle.task_get.proofs.GetChunks.{SoFar}
 use Rattle.task_get.proofs.get_layout.chunks.Given as goal
 

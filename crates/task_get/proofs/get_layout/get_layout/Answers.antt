@@ -3,7 +3,7 @@ use Rattle.std.specs.Prelude.{Ok}
 use Rattle.std.proofs.lemmas.Result.{err_from_is_err_and}
 use Rattle.ann_key.specs.KeyRefs.{parts_of}
 use Rattle.journal_model.specs.declared.answer.Answer.TheVariants.{Got}
-use Rattle.task_run.proofs.Causes.{from_quiet}
+use Rattle.task_model.proofs.Causes.{from_quiet}
 use Rattle.task_get.proofs.BeginLaws.{causes_behind, over_back}
 use Rattle.task_get.proofs.GetLayouts.{begins_held, begins_room, layout_unbegun, layout_begun, layout_lacked, layout_unwhole, layout_settled}
 use Rattle.task_get.proofs.get_layout.get_layout.Goals as goal

@@ -6,9 +6,9 @@ use Rattle.ann_key.specs.KeyRefs.{parts_of, text_of}
 use Rattle.ann_key.proofs.Spelling.{read_of_spelled}
 use Rattle.chunk_plan.specs.Layouts.{chunk_part}
 use Rattle.task_get.specs.LayoutRuns.{turn_at}
-use Rattle.task_run.proofs.SentKeys.{chunk_sent}
+use Rattle.task_model.proofs.SentKeys.{chunk_sent}
 use Rattle.task_get.proofs.ChunkNumbers.{in_order, room_next}
-use Rattle.task_run.proofs.FileNames.{fetch_differs}
+use Rattle.task_model.proofs.FileNames.{fetch_differs}
 use Rattle.task_get.proofs.GetTurns.{grown_by, take_ran, take_most, take_one, next_unasked}
 use Rattle.task_get.proofs.get_layout.next_chunk.Goals as goal
 

@@ -2,7 +2,7 @@ use Rattle.std.proofs.Common.{refl}
 use Rattle.std.specs.Prelude.{Ok}
 use Rattle.std.proofs.lemmas.Result.{err_from_is_err_and}
 use Rattle.journal_model.specs.declared.answer.Answer.TheVariants.{Got}
-use Rattle.task_run.proofs.Causes.{from_quiet}
+use Rattle.task_model.proofs.Causes.{from_quiet}
 use Rattle.task_get.proofs.BeginLaws.{causes_behind}
 use Rattle.task_get.proofs.GetAlls.{got_over, got_plain}
 use Rattle.task_get.proofs.get_layouts.get_from.Goals as goal

@@ -1,6 +1,6 @@
 use Rattle.std.proofs.Common.{◌∙◌}
 use Rattle.std.proofs.lemmas.Result.{err_from_is_err_and}
-use Rattle.task_run.proofs.PlainRuns.{task_key_sent}
+use Rattle.task_model.proofs.PlainRuns.{task_key_sent}
 use Rattle.task_get.proofs.GetAlls.{ran_from}
 use Rattle.task_get.proofs.GetTasks.{get_nothing_ran}
 use Rattle.task_get.proofs.get_layouts.get_key.Goals as goal

@@ -1,7 +1,7 @@
 use Rattle.std.proofs.Common.{◌∙◌, sym, arith}
 use Rattle.std.specs.Prelude.{◌+◌}
 use Rattle.std.proofs.lemmas.Result.{err_from_is_err_and}
-use Rattle.task_run.proofs.FileNames.{fetch_differs}
+use Rattle.task_model.proofs.FileNames.{fetch_differs}
 use Rattle.task_get.proofs.GetWholes.{whole_nothing}
 use Rattle.task_get.proofs.get_layouts.get_whole.Goals as goal
 

@@ -2,12 +2,12 @@ use Rattle.std.proofs.Common.{◌∙◌, refl, arith}
 use Rattle.std.specs.Prelude.{Ok}
 use Rattle.std.proofs.lemmas.Result.{err_from_is_err_and}
 use Rattle.journal_model.specs.declared.answer.Answer.TheVariants.{Got}
-use Rattle.task_run.proofs.Causes.{from_nothing}
+use Rattle.task_model.proofs.Causes.{from_nothing}
 use Rattle.task_get.proofs.BeginLaws.{causes_behind}
 use Rattle.task_get.proofs.GetAlls.{tries_none, tries_skip, tries_more, tries_end, tries_all, at_layout, sized_at, test_is, test_differs}
 use Rattle.task_get.proofs.get_layouts.try_layouts.Goals as goal
 use Rattle.task_get.proofs.get_layouts.try_layouts.Goals.{then-chunks-count+in_ok-went+in-Failed, else-chunks-count}
-use Rattle.task_run.proofs.Texts.{same_on as same_both}
+use Rattle.task_model.proofs.Texts.{same_on as same_both}
 
 pub loop-i-init : goal.loop-i-init
 loop-i-init g c = record {

@@ -2,8 +2,8 @@ use Rattle.std.proofs.Common.{◌≡◌}
 use Rattle.std.specs.Prelude.{Ok}
 use Rattle.ann_key.specs.KeyRefs.{parts_of}
 use Rattle.journal_model.specs.declared.answer.Answer.TheVariants.{Got}
-use Rattle.task_run.specs.Askers.{IsSameTask}
-use Rattle.task_run.specs.Ran.{HasTaskCauses}
+use Rattle.task_model.specs.Askers.{IsSameTask}
+use Rattle.task_model.specs.Ran.{HasTaskCauses}
 use Rattle.task_get.proofs.GetAlls.{TriesSoFar}
 use Rattle.task_get.proofs.get_layouts.try_layouts.Given as goal
 

@@ -1,9 +1,9 @@
 use Rattle.std.proofs.Common.{◌∙◌, sym, ap}
 use Rattle.std.proofs.lemmas.Result.{err_from_is_err_and}
-use Rattle.task_run.specs.Names.{part_of}
-use Rattle.task_run.proofs.ExportRuns.{name_in_line}
-use Rattle.task_run.proofs.FileNames.{fetch_differs}
-use Rattle.task_run.proofs.PlainRuns.{task_key_sent}
+use Rattle.task_model.specs.Names.{part_of}
+use Rattle.task_model.proofs.ExportRuns.{name_in_line}
+use Rattle.task_model.proofs.FileNames.{fetch_differs}
+use Rattle.task_model.proofs.PlainRuns.{task_key_sent}
 use Rattle.task_get.proofs.NamedGets.{get_nothing_ran, taken_ran}
 use Rattle.task_get.proofs.get_named.get_export.Goals as goal
 

@@ -1,5 +1,5 @@
 use Rattle.std.proofs.Common.{refl, arith}
-use Rattle.task_run.specs.Rows.{fetched_2_1, got_hi}
+use Rattle.task_model.specs.Rows.{fetched_2_1, got_hi}
 use Rattle.task_laws.specs.Changes.{Retrieves}
 use Rattle.task_laws.specs.Contents.{Shows}
 use Rattle.std.specs.Prelude.{codes}

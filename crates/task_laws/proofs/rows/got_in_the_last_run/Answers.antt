@@ -6,11 +6,11 @@ use Rattle.annex_model.specs.Messages.{Transfer}
 use Rattle.journal_model.specs.declared.verdict.Verdict.TheVariants.{Done}
 use Rattle.journal_model.specs.Rows.{greeting}
 use Rattle.task_text.specs.declared.task.Work.TheVariants.{Get}
-use Rattle.task_run.specs.Askings.{TaskStretch}
-use Rattle.task_run.specs.Rows.{task_of, setup_of, second_turn, asks}
-use Rattle.task_run.specs.Runs.{TaskRun}
-use Rattle.task_run.specs.StretchRows.{next_greeting}
-use Rattle.gathering.specs.JournalRuns.{JournalRun}
+use Rattle.task_model.specs.Askings.{TaskStretch}
+use Rattle.task_model.specs.Rows.{task_of, setup_of, second_turn, asks}
+use Rattle.task_model.specs.Runs.{TaskRun}
+use Rattle.task_model.specs.StretchRows.{next_greeting}
+use Rattle.crew_laws.specs.JournalRuns.{JournalRun}
 use Rattle.task_laws.specs.Changes.{Retrieves}
 use Rattle.task_laws.specs.Rows.{fetched_2_again, got_hi_again, hi, losing, lost_then_got, retrieving_again, storing, the_last_retrieve, the_store, with_again}
 use Rattle.task_laws.proofs.WormKeys.{no_digest}

@@ -6,10 +6,10 @@ use Rattle.annex_model.specs.Messages.{Transfer}
 use Rattle.journal_model.specs.declared.verdict.Verdict.TheVariants.{Done}
 use Rattle.journal_model.specs.Rows.{greeting}
 use Rattle.task_text.specs.declared.task.Work.TheVariants.{Get}
-use Rattle.task_run.specs.Askings.{TaskStretch}
-use Rattle.task_run.specs.Rows.{task_of, setup_of, first_turn, asks, fetched_2_1, got_hi}
-use Rattle.task_run.specs.Runs.{TaskRun}
-use Rattle.gathering.specs.JournalRuns.{JournalRun}
+use Rattle.task_model.specs.Askings.{TaskStretch}
+use Rattle.task_model.specs.Rows.{task_of, setup_of, first_turn, asks, fetched_2_1, got_hi}
+use Rattle.task_model.specs.Runs.{TaskRun}
+use Rattle.crew_laws.specs.JournalRuns.{JournalRun}
 use Rattle.task_laws.specs.Changes.{Retrieves}
 use Rattle.task_laws.specs.Rows.{hi, store_then_get, storing, retrieving, stored_then_got, the_store, the_retrieve}
 use Rattle.task_laws.proofs.WormKeys.{no_digest}

@@ -3,7 +3,7 @@ use Rattle.std.specs.Prelude.{codes, bytes_eq, true, false, Option, Some, None, 
 use Rattle.ann_outside.specs.Files.{Files, content}
 use Rattle.ann_outside.specs.Played.{Does}
 use Rattle.ann_outside.specs.declared.file_desk.Call.TheVariants.{Size, ReadAt}
-use Rattle.task_run.specs.Rows.{fetched_2_1, got_hi}
+use Rattle.task_model.specs.Rows.{fetched_2_1, got_hi}
 use Rattle.task_laws.proofs.FileHolds.{renamed_holds}
 use Rattle.task_laws.proofs.rows.played_at_its_desk.Goals as goal
 use Rattle.ann_key.proofs.Booleans.{false_is_true as apart}

@@ -1,5 +1,5 @@
 use Rattle.ann_key.specs.KeyRefs.{parts_of, text_of}
-use Rattle.task_run.proofs.SentKeys.{chunk_sent}
+use Rattle.task_model.proofs.SentKeys.{chunk_sent}
 use Rattle.task_store.proofs.ChunkStoreWays.{chunk_from}
 use Rattle.task_store.proofs.chunk_store.ask_stored.Goals as goal
 

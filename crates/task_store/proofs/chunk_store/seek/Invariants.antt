@@ -1,6 +1,6 @@
 use Rattle.std.proofs.Common.{◌-◌, ◌≡◌, ◌≤◌}
 use Rattle.ann_key.specs.KeyRefs.{parts_of}
-use Rattle.task_run.specs.Askers.{IsSameTask}
+use Rattle.task_model.specs.Askers.{IsSameTask}
 use Rattle.task_store.proofs.ChunkStoreLoops.{Seeking}
 use Rattle.task_store.proofs.chunk_store.seek.Given as goal
 

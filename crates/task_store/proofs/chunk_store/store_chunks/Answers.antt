@@ -1,5 +1,5 @@
 use Rattle.std.proofs.Common.{sym}
-use Rattle.task_run.proofs.PlainRuns.{task_key_sent}
+use Rattle.task_model.proofs.PlainRuns.{task_key_sent}
 use Rattle.task_store.proofs.ChunkStoreRan.{refused_ran, other_size_ran, sized_ran, some_chunk, some_size, no_chunk}
 use Rattle.task_store.proofs.chunk_store.store_chunks.Goals as goal
 

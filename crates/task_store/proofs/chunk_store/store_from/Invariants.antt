@@ -1,6 +1,6 @@
 use Rattle.std.proofs.Common.{◌-◌, ◌≡◌, ◌≤◌}
 use Rattle.ann_key.specs.KeyRefs.{parts_of}
-use Rattle.task_run.specs.Askers.{IsSameTask}
+use Rattle.task_model.specs.Askers.{IsSameTask}
 use Rattle.task_store.proofs.ChunkStoreLoops.{Storing}
 use Rattle.task_store.proofs.chunk_store.store_from.Given as goal
 

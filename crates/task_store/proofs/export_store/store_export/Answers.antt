@@ -2,8 +2,8 @@ use Rattle.std.proofs.Common.{◌∙◌, sym}
 use Rattle.std.proofs.lemmas.Result.{err_from_is_err_and}
 use Rattle.std.specs.Prelude.{nat_lt, length}
 use Rattle.std.specs.Str.{is_utf8}
-use Rattle.task_run.proofs.ExportRuns.{name_in_line}
-use Rattle.task_run.proofs.PlainRuns.{task_key_sent}
+use Rattle.task_model.proofs.ExportRuns.{name_in_line}
+use Rattle.task_model.proofs.PlainRuns.{task_key_sent}
 use Rattle.task_store.proofs.StoreRuns.{named_in_line, sized_by}
 use Rattle.task_store.proofs.ExportStores.{store_refused_ran, store_unasked_ran, store_other_size_ran, store_once_ran}
 use Rattle.task_store.proofs.export_store.store_export.Goals as goal

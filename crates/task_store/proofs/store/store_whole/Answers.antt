@@ -2,7 +2,7 @@ use Rattle.std.proofs.Common.{◌∙◌, sym}
 use Rattle.std.proofs.lemmas.Result.{err_from_is_err_and}
 use Rattle.std.specs.Prelude.{nat_lt, length}
 use Rattle.std.specs.Str.{is_utf8}
-use Rattle.task_run.proofs.PlainRuns.{task_key_sent}
+use Rattle.task_model.proofs.PlainRuns.{task_key_sent}
 use Rattle.task_store.proofs.StoreRuns.{store_refused_ran, store_unasked_ran, store_other_size_ran, store_once_ran, named_in_line, or_memory, sized_by}
 use Rattle.task_store.proofs.store.store_whole.Goals as goal
 

@@ -1,5 +1,5 @@
 use Rattle.std.proofs.Common.{◌≡◌, true}
-use Rattle.task_run.specs.Askers.{are_layouts}
+use Rattle.task_model.specs.Askers.{are_layouts}
 use Rattle.task_tests.proofs.trial.layouts_of.Given as goal
 
 abbrev pub invariant-loop-layout : goal.invariant-loop-layout

@@ -3,7 +3,7 @@ use Rattle.journal_model.specs.declared.entry.What.TheVariants.{NoStart}
 use Rattle.journal_model.specs.declared.entry.Entry.{Entry}
 use Rattle.journal_model.proofs.Across.{nothing_legal}
 use Rattle.child_start.specs.Greetings.{Greeted}
-use Rattle.lone_rounds.specs.Stints.{main_entry}
+use Rattle.run_starts.specs.Stints.{main_entry}
 use Rattle.std.specs.Prelude.{option_map}
 use Rattle.ann_key.specs.KeyRefs.{text_of}
 use Rattle.special_cli.specs.Endings.{starts_in}

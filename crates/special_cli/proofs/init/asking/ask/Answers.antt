@@ -1,7 +1,7 @@
 use Rattle.std.proofs.Common.{List, [], ◌∷◌, ◌++◌, Some, ap, refl, sym, ◌∙◌, arith}
 use Rattle.journal_model.specs.declared.entry.What.TheVariants.{NoStart}
 use Rattle.journal_model.specs.declared.entry.Entry.{Entry}
-use Rattle.lone_rounds.specs.Stints.{main_entry}
+use Rattle.run_starts.specs.Stints.{main_entry}
 use Rattle.special_cli.specs.Endings.{starts_in}
 use Rattle.special_cli.specs.Setups.{setup_of}
 use Rattle.special_cli.proofs.Leaving.{leaves_child, leaves_failed, leaves_unstarted, one_laid}

@@ -1,6 +1,0 @@
-use Rattle.std.proofs.Common.{ℕ, List, ◌++◌, take}
-use Rattle.audit_run.specs.Intakes.{Took}
-use Rattle.audit_run.proofs.intake.Intake.take_piece.Given as goal
-
-abbrev pub invariant-loop-byte : goal.invariant-loop-byte
-invariant-loop-byte l = (bytes : List ℕ) → Took l.limits bytes l.initial.self → Took l.limits (bytes ++ take l.byte-index l.piece) l.self

@@ -1,0 +1,107 @@
+// The passes, links and desks of a round, dealt to its workers, and taken back.
+ghost use Rattle.std.specs.Prelude.{◌≡◌, ◌≤◌, ◌+◌, ◌++◌, [], All, map, reverse, vec_len, vec_capacity};
+ghost use Rattle.crew_tagged.specs.Backs.{roles_of};
+
+use ann_outside::{Desk, Sink, Source};
+use child_link::Lone;
+use crew_tagged::Worker;
+use crew_threads::Back;
+use hall::{Hall, Pass};
+use host_core::Core;
+use std::alloc::Global;
+use std::sync::Wait;
+use task_model::Setup;
+use task_text::Task;
+
+/// A worker that has its child for itself.
+pub(crate) type LoneWorker<'a, I, O, K, R> = Worker<'a, Lone<I, O>, K, R>;
+
+/// What the workers of a round have in common.
+#[derive(Drop)]
+pub(crate) struct Site<'a, R: Wait> {
+    pub rt: &'a R,
+    pub alloc: Global,
+    pub hall: &'a Hall<Core>,
+    pub tasks: &'a [Task],
+    pub setup: &'a Setup,
+}
+
+// A worker at the site.
+fn worker_at<'a, I: Sink, O: Source, K: Desk + Drop, R: Wait>(
+    site: &Site<'a, R>,
+    pass: Pass<Core>,
+    link: Lone<I, O>,
+    desk: K,
+) -> LoneWorker<'a, I, O, K, R>
+    ensures dealt { (result.pass ≡ pass) × (result.way ≡ link) × (result.desk ≡ desk) }
+    ensures placed { (result.hall.now ≡ site.now.hall.now) × (result.tasks.now ≡ site.now.tasks.now) × (result.setup.now ≡ site.now.setup.now) }
+{
+    Worker {
+        rt: site.rt,
+        alloc: site.alloc,
+        hall: site.hall,
+        tasks: site.tasks,
+        setup: site.setup,
+        pass,
+        way: link,
+        desk,
+    }
+}
+
+/// Deals the last passes to workers, one for each link and desk, from the last of them on.
+pub(crate) fn deal<'a, I: Sink, O: Source, K: Desk + Drop, R: Wait>(
+    site: &Site<'a, R>,
+    passes: &mut Vec<Pass<Core>>,
+    links: &mut Vec<Lone<I, O>>,
+    desks: &mut Vec<K>,
+    mut workers: Vec<LoneWorker<'a, I, O, K, R>>,
+) -> Vec<LoneWorker<'a, I, O, K, R>>
+    requires empty { workers.items ≡ [] }
+    requires room { vec_len desks.old ≤ vec_capacity workers }
+    requires many { (vec_len links.old ≡ vec_len desks.old) × (vec_len desks.old ≤ vec_len passes.old) }
+    ensures passes { passes.old.items ≡ passes.new.items ++ map (λ w. w.pass) (reverse result.items) }
+    ensures links { links.old.items ≡ map (λ w. w.way) (reverse result.items) }
+    ensures desks { desks.old.items ≡ map (λ w. w.desk) (reverse result.items) }
+    ensures none { (links.new.items ≡ []) × (desks.new.items ≡ []) }
+    ensures count { vec_len result ≡ vec_len desks.old }
+    ensures rooms { (vec_capacity passes.new ≡ vec_capacity passes.old) × (vec_capacity links.new ≡ vec_capacity links.old) × (vec_capacity desks.new ≡ vec_capacity desks.old) }
+    ensures placed { All (λ w. (w.hall.now ≡ site.now.hall.now) × (w.tasks.now ≡ site.now.tasks.now) × (w.setup.now ≡ site.now.setup.now)) result.items }
+{
+    'deals: while let Some(desk) = desks.pop() {
+        let Some(pass) = passes.pop() else {
+            unreachable!()
+        };
+        let Some(link) = links.pop() else {
+            unreachable!()
+        };
+        workers.push_reserved(worker_at(site, pass, link, desk));
+    }
+    workers
+}
+
+/// Takes the passes, links and desks back, from the last worker on.
+pub(crate) fn take_back<'a, I: Sink + Drop, O: Source + Drop, K: Desk + Drop, R: Wait>(
+    mut workers: Vec<Back<LoneWorker<'a, I, O, K, R>>>,
+    passes: &mut Vec<Pass<Core>>,
+    links: &mut Vec<Lone<I, O>>,
+    desks: &mut Vec<K>,
+)
+    requires passes { vec_len passes.old + vec_len workers ≤ vec_capacity passes.old }
+    requires links { vec_len links.old + vec_len workers ≤ vec_capacity links.old }
+    requires desks { vec_len desks.old + vec_len workers ≤ vec_capacity desks.old }
+    ensures passes { passes.new.items ≡ passes.old.items ++ map (λ w. w.pass) (reverse (roles_of workers.entry.items)) }
+    ensures links { links.new.items ≡ links.old.items ++ map (λ w. w.way) (reverse (roles_of workers.entry.items)) }
+    ensures desks { desks.new.items ≡ desks.old.items ++ map (λ w. w.desk) (reverse (roles_of workers.entry.items)) }
+{
+    'backs: while let Some(back) = workers.pop() {
+        let Worker {
+            pass,
+            way: link,
+            desk,
+            ..
+        } = back.role();
+        passes.push_reserved(pass);
+        links.push_reserved(link);
+        desks.push_reserved(desk);
+    }
+}

@@ -1,0 +1,27 @@
+use Rattle.std.proofs.Common.{sym, ◌∙◌, arith}
+use Rattle.std.proofs.lemmas.List.{length-map}
+use Rattle.crew_tagged.specs.Outcomes.{LinkStays}
+use Rattle.crew_tagged.specs.Tagged.{link_of}
+use Rattle.crew_tagged.proofs.Closing.{closes_done, closes_kept, fresh_from}
+use Rattle.crew_tagged.proofs.tagged.round_tagged_some.Goals as goal
+
+pub play-kit-requires-clause-fresh : goal.play-kit-requires-clause-fresh
+play-kit-requires-clause-fresh g c κs within =
+    let b = c.in-Ok.ensures in
+    fresh_from c.in-Ok.hall 1 c.in-Ok.passes.items b.passes.1 (λ k p there. (let it = b.fresh k p there in ((let is = it.0 in omega (arith, is)), it.1)))
+
+pub returns-in-Ok-clause-round : goal.returns-in-Ok-clause-round
+returns-in-Ok-clause-round g c =
+    let b = c.in-Ok.ensures in
+    let p = c.play-kit.ensures in
+    closes_done c.in-Ok.hall c.args.core.opening c.args.core.journal b.hall.1 b.hall.2 c.play-kit.result.0.passes.items c.close.result.journal c.close.result.opening (c.close.ensures, p.own.0) c.play-kit.result.1
+    c.args.setup.now (link_of c.args.link.ear c.args.link.mouth) (link_of c.play-kit.result.0.link.ear c.play-kit.result.0.link.mouth) _ _ _
+    (length-map c.args.desks.items _ ∙ sym c.args.desks.ok.0) c.requires.can p.left
+
+pub returns-in-Ok-clause-kept : goal.returns-in-Ok-clause-kept
+returns-in-Ok-clause-kept g c =
+    let b = c.in-Ok.ensures in
+    let p = c.play-kit.ensures in
+    closes_kept c.in-Ok.hall c.args.core.opening c.args.core.journal b.hall.1 b.hall.2 c.play-kit.result.0.passes.items c.close.result.journal c.close.result.opening (c.close.ensures, p.own.0) c.play-kit.result.1
+    (LinkStays c.args.link.ear c.play-kit.result.0.link.ear c.args.link.mouth c.play-kit.result.0.link.mouth c.args.desks.items c.play-kit.result.0.desks.items) c.in-Ok.passes.items
+    (fresh_from c.in-Ok.hall 1 c.in-Ok.passes.items b.passes.1 (λ k p there. (let it = b.fresh k p there in ((let is = it.0 in omega (arith, is)), it.1)))) p.kept

@@ -1,0 +1,129 @@
+// A round over one child that its workers share.
+ghost use Rattle.std.specs.Prelude.{◌≡◌, ◌≤◌, ◌<◌, ◌+◌, false, map, vec_len};
+ghost use Rattle.std.specs.List.{range_with_len};
+ghost use Rattle.annex_model.specs.Lines.{has_newline};
+ghost use Rattle.crew_tagged.specs.TaggedRounds.{TaggedLeaves};
+ghost use Rattle.crew_tagged.specs.Outcomes.{IfDone, IfKept, LinkStays};
+ghost use Rattle.crew_tagged.specs.Tagged.{TaggedCan, link_of};
+ghost use Rattle.crew_laws.specs.Laws.{GoesOn};
+ghost use Rattle.child_link.specs.Moves.{IsSameLink};
+ghost use Rattle.crew_worker.specs.Works.{AreTasks};
+
+use crate::dealt::Site;
+use crate::outcome::Outcome;
+use crate::played::{Kit, play};
+use ann_outside::{Desk, Sink, Source};
+use child_link::Lone;
+use hall::Hall;
+use host_core::Core;
+use std::alloc::Global;
+use std::marker::{Send, Sync};
+use std::sync::Wait;
+use std::thread::Threads;
+use task_model::Setup;
+use task_text::Task;
+
+/// What a round over one tagged child hands back: the core, the link, the desks in their order, and what came of it.
+#[derive(Drop)]
+pub struct TaggedRound<I: Sink, O: Source, K: Drop> {
+    pub core: Core,
+    pub link: Lone<I, O>,
+    pub desks: Vec<K>,
+    pub outcome: Outcome,
+}
+
+/// Runs tasks over a tagged child, in threads of which it tries to start `most`: an ear's, a mouth's and one worker's for each
+/// desk.
+pub fn round_tagged_some<
+    I: Sink + Send + Drop,
+    O: Source + Send + Drop,
+    K: Desk + Send + Drop,
+    R: Threads + Wait + Sync,
+>(
+    rt: &R,
+    alloc: Global,
+    most: usize,
+    core: Core,
+    tasks: &[Task],
+    setup: &Setup,
+    link: Lone<I, O>,
+    desks: Vec<K>,
+) -> TaggedRound<I, O, K>
+    requires desks { (0 < vec_len desks) × (vec_len desks ≤ 64) }
+    requires can { TaggedCan core.opening core.journal (link_of link.ear link.mouth) }
+    requires tasks { (core.opening.tasks ≡ tasks.now) × AreTasks tasks.now }
+    requires folder { has_newline setup.now.work ≡ false }
+    ensures round { IfDone result.outcome (GoesOn core.journal result.core.journal
+        (λ rest. TaggedLeaves core.opening setup.now (range_with_len 1 (3 + vec_len desks)) core.journal rest (link_of result.link.ear result.link.mouth)
+        (map K.told desks.items) (map K.told result.desks.items))) }
+    ensures kept { IfKept result.outcome ((result.core.journal ≡ core.journal) × LinkStays link.ear result.link.ear link.mouth result.link.mouth desks.items result.desks.items) }
+    ensures opening { result.core.opening ≡ core.opening }
+    ensures same { IsSameLink link.ear result.link.ear link.mouth result.link.mouth }
+{
+    let child = link.child();
+    let seats = desks.len() as u32 + 3;
+    match Hall::begin(alloc, core, seats) {
+        Err(core) => TaggedRound {
+            core,
+            link,
+            desks,
+            outcome: Outcome::NoMemory,
+        },
+        Ok((hall, passes)) => {
+            let site = Site {
+                rt,
+                alloc,
+                hall: &hall,
+                tasks,
+                setup,
+                child,
+            };
+            let kit = Kit {
+                passes,
+                link,
+                desks,
+            };
+            let (kit, outcome) = play(&site, most, kit);
+            let Kit {
+                passes,
+                link,
+                desks,
+            } = kit;
+            TaggedRound {
+                core: hall.close(passes),
+                link,
+                desks,
+                outcome,
+            }
+        }
+    }
+}
+
+/// The same with as many threads as there are roles.
+pub fn round_tagged<
+    I: Sink + Send + Drop,
+    O: Source + Send + Drop,
+    K: Desk + Send + Drop,
+    R: Threads + Wait + Sync,
+>(
+    rt: &R,
+    alloc: Global,
+    core: Core,
+    tasks: &[Task],
+    setup: &Setup,
+    link: Lone<I, O>,
+    desks: Vec<K>,
+) -> TaggedRound<I, O, K>
+    requires desks { (0 < vec_len desks) × (vec_len desks ≤ 64) }
+    requires can { TaggedCan core.opening core.journal (link_of link.ear link.mouth) }
+    requires tasks { (core.opening.tasks ≡ tasks.now) × AreTasks tasks.now }
+    requires folder { has_newline setup.now.work ≡ false }
+    ensures round { IfDone result.outcome (GoesOn core.journal result.core.journal
+        (λ rest. TaggedLeaves core.opening setup.now (range_with_len 1 (3 + vec_len desks)) core.journal rest (link_of result.link.ear result.link.mouth)
+        (map K.told desks.items) (map K.told result.desks.items))) }
+    ensures kept { IfKept result.outcome ((result.core.journal ≡ core.journal) × LinkStays link.ear result.link.ear link.mouth result.link.mouth desks.items result.desks.items) }
+    ensures opening { result.core.opening ≡ core.opening }
+    ensures same { IsSameLink link.ear result.link.ear link.mouth result.link.mouth }
+{
+    round_tagged_some(rt, alloc, usize::MAX, core, tasks, setup, link, desks)
+}

@@ -1,5 +1,0 @@
-use Rattle.link_crew.proofs.Halls.{stepped}
-use Rattle.link_crew.proofs.hall_door.HallDoorDoor.step.Goals as goal
-
-pub returns-clause-stepped : goal.returns-clause-stepped
-returns-clause-stepped g c = stepped c.args.self.now.hall.now c.args.self.now.pass.now c.enter.new.pass c.args.event c.enter.result c.enter.ensures.ok c.enter.ensures.err

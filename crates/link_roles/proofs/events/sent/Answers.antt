@@ -1,5 +1,0 @@
-use Rattle.link_roles.proofs.Replying.{sent_so}
-use Rattle.link_roles.proofs.events.sent.Goals as goal
-
-pub returns-clause-sends : goal.returns-clause-sends
-returns-clause-sends g c = sent_so c.args.child c.make-done.ensures.made

@@ -1,5 +1,0 @@
-use Rattle.link_roles.proofs.Writings.{lone_on}
-use Rattle.link_roles.proofs.lone.Lone.look_up.Goals as goal
-
-pub returns-clause-moved : goal.returns-clause-moved
-returns-clause-moved g c = lone_on c.args.self.now.ear c.args.self.now.mouth c.args.self.now.one_child c.verdict.ensures.passed

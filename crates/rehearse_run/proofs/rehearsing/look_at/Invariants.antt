@@ -1,8 +1,0 @@
-use Rattle.std.proofs.Common.{take}
-use Rattle.std.specs.Prelude.{All}
-use Rattle.rehearse_run.specs.Rehearsals.{IsQuiet}
-use Rattle.rehearse_run.proofs.rehearsing.look_at.Given as goal
-
--- those that were looked at
-abbrev pub invariant-looks : goal.invariant-looks
-invariant-looks g l = All IsQuiet (take l.wire-index l.wires)

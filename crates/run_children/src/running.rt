@@ -1,0 +1,72 @@
+ghost use Rattle.std.specs.Prelude.{◌≡◌, ◌≤◌, ◌<◌, ◌*◌, [], map, IsErr, vec_len, vec_capacity, false};
+ghost use Rattle.annex_model.specs.Lines.{has_newline};
+ghost use Rattle.child_end.specs.Programs.{Leaves};
+ghost use Rattle.child_start.specs.Cores.{IsSameCore};
+ghost use Rattle.run_children.specs.JobRuns.{RanJobs};
+ghost use Rattle.run_starts.specs.Rounds.{IsWhole};
+ghost use Rattle.crew_worker.specs.Works.{AreTasks};
+
+use crate::bench::Bench;
+use crate::setting::Setting;
+use crate::starting::start_children;
+use ann_key::NoMemory;
+use ann_outside::{Desk, Programs};
+use child_link::Wire;
+use run_starts::{Plan, answer_left};
+use std::alloc::Global;
+use std::marker::{Send, Sync};
+use std::sync::Wait;
+use std::thread::Threads;
+use task_text::Task;
+
+/// Does all tasks over children, and answers each. Over a child that takes tags, a worker for each desk does tasks side by side, in a thread
+/// of its own. After one that takes none, one more is started for each further desk, and each has a worker of its own. Where there are no
+/// threads, one worker does the tasks over the first. Where a child is lost the next start goes on; where none is left, the tasks that are
+/// left are answered `nochild`. `NoMemory` is answered where no memory was found to start a child or for a round; what was done until then
+/// stands in the journal.
+pub fn run_jobs<P: Programs, K: Desk + Send + Drop, R: Threads + Wait + Sync>(
+    rt: &R,
+    alloc: Global,
+    programs: &mut P,
+    plan: &Plan,
+    tasks: &[Task],
+    bench: Bench<K>,
+    wires: &mut Vec<Wire<P::Inlet, P::Outlet>>,
+) -> (Bench<K>, Result<(), NoMemory>)
+where
+    P::Inlet: Send + Drop,
+    P::Outlet: Send + Drop,
+    P::Stub: Drop,
+    requires empty { bench.core.journal ≡ [] }
+    requires tasks { (bench.core.opening.tasks ≡ tasks.now) × AreTasks tasks.now }
+    requires starts { (0 < plan.now.starts) × (plan.now.starts ≤ 16) }
+    requires folder { has_newline plan.now.setup.work ≡ false }
+    requires desks { (0 < vec_len bench.desks) × (vec_len bench.desks ≤ 64) }
+    requires room { plan.now.starts * vec_len bench.desks ≤ vec_capacity wires.old }
+    requires none { wires.old.items ≡ [] }
+    ensures ran { RanJobs bench.core.opening plan.now.setup plan.now.offers plan.now.starts result.0.core.journal (map K.told bench.desks.items) (map K.told result.0.desks.items) }
+    ensures whole { IsWhole bench.core.opening result.0.core.journal result.1 }
+    ensures leaves { Leaves (IsErr result.1) plan.now.program result.0.core.journal (P.told programs.old)
+        (P.told programs.new) wires.new.items }
+    ensures core { IsSameCore bench.core result.0.core }
+    ensures desks { vec_len result.0.desks ≡ vec_len bench.desks }
+{
+    let setting = Setting {
+        rt,
+        alloc,
+        plan,
+        tasks,
+    };
+    let (bench, started) = start_children(&setting, programs, bench, wires);
+    let mut bench = bench;
+    match started {
+        Ok(()) => {
+            if bench.core.unclaimed() > 0 {
+                answer_left(&mut bench.core);
+                return (bench, Ok(()));
+            }
+            (bench, Ok(()))
+        }
+        Err(NoMemory) => (bench, Err(NoMemory)),
+    }
+}

@@ -1,0 +1,289 @@
+-- What one start and what follows it comes to, and how a run stands between two starts.
+use Rattle.ann_outside.specs.Told.{DeskTold, ProgramsTold}
+use Rattle.std.specs.Prelude.{ℕ, ◌≡◌, ◌⊎◌, ◌≤◌, ◌+◌, ◌==◌, ◌&&◌, not, Bool, true, false, List, [], ◌∷◌, ◌++◌, Option, Some, None, is_some, option_map, Result, MatchResult}
+use Rattle.std.specs.List.{list_all, list_any}
+use Rattle.ann_key.specs.declared.bytes.NoMemory.{NoMemory}
+use Rattle.ann_outside.specs.Calls.{Gained}
+use Rattle.ann_outside.specs.Causes.{AddsOne, Stays}
+use Rattle.ann_outside.specs.Starts.{Starts}
+use Rattle.journal_model.specs.declared.answer.Answer.{Answer}
+use Rattle.journal_model.specs.declared.answer.Answer.TheVariants.{NotPrepared, Ended as EndedAnswer, Unsent as UnsentAnswer}
+use Rattle.journal_model.specs.declared.entry.What.{What}
+use Rattle.journal_model.specs.declared.entry.What.TheVariants.{Claim, Start, NoStart, Lead, Ask, Put, Sent, Mute, Got, End, Verdict as Settled, Lost, Answer as Answered, Note, Again}
+use Rattle.journal_model.specs.declared.entry.Entry.{Entry}
+use Rattle.journal_model.specs.declared.opening.Opening.{Opening}
+use Rattle.journal_model.specs.Journal.{any, is_ended, is_started}
+use Rattle.journal_model.specs.Legality.{Legal, count, is_busy, is_start, least_free, turn_of_task}
+use Rattle.journal_model.specs.Shares.{are_by}
+use Rattle.journal_model.specs.Halves.{EarValue, MouthValue}
+use Rattle.host_core.specs.declared.event.Reply.{Reply}
+use Rattle.host_core.specs.declared.event.Reply.TheVariants.{Task as TaskReply}
+use Rattle.host_core.specs.Steps.{are_all_claimed}
+use Rattle.child_link.specs.Alone.{Closes}
+use Rattle.crew_laws.specs.Tasks.{IsThrough, turns_by}
+use Rattle.child_start.specs.declared.greeting.Came.{Came}
+use Rattle.child_start.specs.declared.greeting.Came.TheVariants.{Ready, Refused, Ended, Unsent}
+use Rattle.task_model.specs.declared.setup.Setup.{Setup}
+use Rattle.task_model.specs.TaskRuns.{refused_at}
+use Rattle.crew_worker.specs.Works.{CanWork, NoneAtWork, TaskDone, WorkedAlone, CausedInTurn, all_calls, turns_of}
+use Rattle.task_model.specs.declared.turn.TaskTurn.{TaskTurn}
+use Rattle.child_link.specs.Wires.{WireValue}
+use Rattle.child_end.specs.Wires.{IsHeld, IsOfStart, came}
+use Rattle.child_end.specs.Programs.{AddsAll, RoseBy, is_failed_start, told}
+use Rattle.run_starts.specs.Starting.{AllOffer, AreEnded, AreSpent, children, is_any_start, is_elsewhere, is_offered, is_ready_untagged, is_spent}
+use Rattle.run_starts.specs.Rounds.{AllLostWell, AllStandNext, EndsClosed, HasRun, NoneUntaken, ends_for_memory, is_of_run}
+
+-- an entry of the main thread's own
+abbrev pub main_entry : What → Entry
+main_entry w = record { by = 0; what = w }
+
+-- ---- a task that is claimed without a child
+
+-- the task that the core claimed, and the turn of it that begins
+abbrev pub task_in : Reply → Option TaskTurn
+task_in (TaskReply task turn) = Some (record { task = task; turn = turn })
+task_in reply = None
+
+-- the least free task was claimed so; or nothing was done, and all are claimed
+abbrev pub ClaimsZero : Opening → List Entry → List Entry → Option TaskTurn → Type 0
+ClaimsZero o old new (Some u) = (least_free o old ≡ Some u.task) × (u.turn ≡ turn_of_task old u.task) × (new ≡ old ++ main_entry (Claim u.task 0) ∷ [])
+ClaimsZero o old new None = (new ≡ old) × (are_all_claimed o old ≡ true)
+
+-- one was claimed so and answered at once, each as is said of it; or nothing was done, and all are claimed
+abbrev pub AnswersOne : Opening → List Entry → List Entry → (ℕ → Answer) → Bool → Type 0
+AnswersOne o old new answer true = (t : ℕ) × (least_free o old ≡ Some t) × (new ≡ old ++ main_entry (Claim t 0) ∷ main_entry (Answered t (answer t)) ∷ [])
+AnswersOne o old new answer false = (new ≡ old) × (are_all_claimed o old ≡ true)
+
+-- there is such an entry, which ends a child for lack of memory
+abbrev pub is_memory_end : Option Entry → Bool
+is_memory_end None = false
+is_memory_end (Some e) = ends_for_memory e.what
+
+-- these tasks, one after the other
+abbrev pub answered_so : (ℕ → Answer) → List ℕ → List Entry
+answered_so answer [] = []
+answered_so answer (t ∷ ts) = main_entry (Claim t 0) ∷ main_entry (Answered t (answer t)) ∷ answered_so answer ts
+
+-- all that were left were claimed and answered so
+pub record AnswersLeft (o : Opening) (old new : List Entry) (answer : ℕ → Answer) : Type 0 where
+  pub tasks : List ℕ
+  pub is : new ≡ old ++ answered_so answer tasks
+  pub all : are_all_claimed o new ≡ true
+
+-- ---- over a child
+
+-- one task was answered so, where one was left, and the child was closed
+abbrev pub TurnsAway : Opening → ℕ → List Entry → List Entry → Answer → Type 0
+TurnsAway o c old new answer = (mid : List Entry) × ((b : Bool) × AnswersOne o old mid (λ t. answer) b) × Closes 0 c mid new
+
+-- tasks were done over the child until it was gone or all were claimed, and it was closed
+pub record HasServed (o : Opening) (setup : Setup) (c : ℕ) (old new : List Entry) (desk desk' : DeskTold) : Type 0 where
+  pub mid : List Entry
+  pub worked : WorkedAlone o setup 0 c old mid desk desk'
+  pub can : CanWork o c mid
+  pub through : IsThrough o mid c
+  pub closes : Closes 0 c mid new
+
+-- ---- what the child came to
+
+-- whether it is ready, and then whether it takes tags
+abbrev pub tagged_of : Came → Option Bool
+tagged_of (Ready tagged) = Some tagged
+tagged_of came = None
+
+-- the answer of a task that finds the child so: none where it is ready
+abbrev pub came_answer : Came → Option Answer
+came_answer (Ready tagged) = None
+came_answer (Refused verdict) = option_map NotPrepared (refused_at verdict)
+came_answer (Ended why) = Some (EndedAnswer why)
+came_answer Unsent = Some UnsentAnswer
+
+-- the child was started and has no open job, and no task is busy, in a legal journal
+pub record IsIdle (o : Opening) (c : ℕ) (seen : List Entry) : Type 0 where
+  pub legal : Legal o seen
+  pub started : is_started seen c ≡ true
+  pub rests : NoneAtWork c seen
+
+-- a child that is ready can work; one that isn't is idle, and there is an answer for it
+abbrev pub CanMeet : Opening → ℕ → List Entry → Came → Type 0
+CanMeet o c seen (Ready tagged) = CanWork o c seen
+CanMeet o c seen came = IsIdle o c seen × (is_some (came_answer came) ≡ true)
+
+-- Of a child that is ready tasks were done, and else one was answered; and the child was closed. `next` says whether ASYNC may be offered
+-- from then on.
+abbrev pub Meets : Opening → Setup → ℕ → List Entry → List Entry → Came → Bool → DeskTold → DeskTold → Type 0
+Meets o setup c old new (Ready tagged) next desk desk' = HasServed o setup c old new desk desk' × (next ≡ tagged)
+Meets o setup c old new came next desk desk' = ((answer : Answer) × (Some answer ≡ came_answer came) × TurnsAway o c old new answer) × (next ≡ true) × (desk' ≡ desk)
+
+-- ---- tasks that are done
+
+-- each of them has its run
+abbrev pub AllHaveRun : Opening → Setup → ℕ → List Entry → List TaskDone → Type 0
+AllHaveRun o setup limit journal [] = Unit {0}
+AllHaveRun o setup limit journal (r ∷ rs) = HasRun o setup limit journal r × AllHaveRun o setup limit journal rs
+
+-- The turns of tasks that the main thread claims among the entries, which stand after past, are run in the journal, one after the other,
+-- and the desk made the calls of these runs.
+pub record TasksDone (o : Opening) (setup : Setup) (limit : ℕ) (journal past entries : List Entry) (desk desk' : DeskTold) : Type 0 where
+  pub done : List TaskDone
+  pub claimed : turns_of done ≡ turns_by 0 past entries
+  pub ran : AllHaveRun o setup limit journal done
+  pub log_is : Gained desk.log desk'.log (all_calls done)
+  pub caused : CausedInTurn desk.counts done desk'.counts
+
+-- ---- one start
+
+-- what may stand after the start of c: no other start, and nothing of another child
+abbrev pub in_stint : ℕ → What → Bool
+in_stint c (Claim task child) = true
+in_stint c (Start child slot offer) = false
+in_stint c (NoStart slot) = false
+in_stint c (Lead child job line) = child == c
+in_stint c (Ask child job task line) = child == c
+in_stint c (Put child job line) = child == c
+in_stint c (Sent child) = child == c
+in_stint c (Mute child) = child == c
+in_stint c (Got child line) = child == c
+in_stint c (End child why) = child == c
+in_stint c (Settled child job verdict) = child == c
+in_stint c (Lost child task) = child == c
+in_stint c (Answered task answer) = true
+in_stint c (Note task chunk count) = true
+in_stint c (Again task answer) = true
+
+-- the number of the next child
+abbrev pub next_child : List Entry → ℕ
+next_child past = count is_start past + 1
+
+-- a start in slot 0, which gave the next child or none
+abbrev pub IsStart : List Entry → Bool → What → Type 0
+IsStart past offer first = (first ≡ Start (next_child past) 0 offer) ⊎ (first ≡ NoStart 0)
+
+-- Where a task is left, the journal has one start more, and what followed it, whoever made that, in turn. No task is busy after it; its
+-- child has ended; it is spent, or all tasks are claimed. `next` says whether ASYNC is offered from then on.
+pub record Stretch (o : Opening) (offer next : Bool) (first : What) (old new : List Entry) : Type 0 where
+  pub left : are_all_claimed o old ≡ false
+  pub later : List Entry
+  pub is : new ≡ old ++ main_entry first ∷ later
+  pub start : IsStart old offer first
+  pub turn : AllStandNext o (old ++ main_entry first ∷ []) later
+  pub within : list_all (λ e. in_stint (next_child old) e.what) later ≡ true
+  pub asks : list_all (λ e. is_of_run e.what) later ≡ true
+  pub lost : AllLostWell (old ++ main_entry first ∷ []) later
+  pub rest : (t : ℕ) → is_busy new t ≡ false
+  pub ended : list_all (is_ended new) (children (main_entry first ∷ [])) ≡ true
+  pub spent : (list_all (is_spent new) (children (main_entry first ∷ [])) ≡ true) ⊎ (are_all_claimed o new ≡ true)
+  pub untaken : NoneUntaken new
+  pub offers : next ≡ (offer && not (list_any (is_ready_untagged new) (children (main_entry first ∷ []))))
+
+-- the same, where the main thread made it, did the tasks and closed the child
+pub record Stint (o : Opening) (setup : Setup) (limit : ℕ) (offer next : Bool) (first : What) (old new : List Entry) (desk desk' : DeskTold) : Type 0 where
+  pub stretch : Stretch o offer next first old new
+  pub main : are_by 0 stretch.later ≡ true
+  pub done : TasksDone o setup limit new (old ++ main_entry first ∷ []) stretch.later desk desk'
+  pub last : are_all_claimed o new ≡ true → EndsClosed new
+
+-- ---- wires and programs
+
+-- the halves that a wire tells of
+abbrev pub ear_of : WireValue → EarValue
+ear_of wire = record { child = wire.child; given = wire.given; left = wire.left; faults = wire.read_faults; number = wire.outlet_number; held = wire.rest }
+
+abbrev pub mouth_of : WireValue → MouthValue
+mouth_of wire = record { child = wire.child; taken = wire.taken; faults = wire.write_faults; number = wire.inlet_number }
+
+-- its halves are wired to the journal, where the main thread served the child alone its requests were written before they were
+-- answered; the halves are those of the nth start, and are closed
+pub record IsLinked (starts : Option Starts) (journal : List Entry) (n : ℕ) (wire : WireValue) : Type 0 where
+  pub linked : IsHeld journal (ear_of wire) (mouth_of wire)
+  pub inlet : IsOfStart starts n wire.inlet_number
+  pub outlet : IsOfStart starts n wire.outlet_number
+  pub closed : (wire.is_inlet_open ≡ false) × (wire.is_outlet_open ≡ false)
+
+-- such a wire for each child that a start gave, in order, where n starts stand before these
+abbrev pub AreLinked : Option Starts → List Entry → ℕ → List (Option ℕ) → List WireValue → Type 0
+AreLinked starts journal n [] [] = Unit {0}
+AreLinked starts journal n (None ∷ cs) wires = AreLinked starts journal (n + 1) cs wires
+AreLinked starts journal n (Some c ∷ cs) (wire ∷ wires) = (wire.child ≡ c) × IsLinked starts journal (n + 1) wire × AreLinked starts journal (n + 1) cs wires
+AreLinked starts journal n _ _ = ⊥
+
+-- the programs were asked for this one once more, and the wires are those of its child, or none; a fault was counted if it failed
+pub record StartsOne (program : List ℕ) (journal : List Entry) (first : What) (before after : ProgramsTold) (wires wires' : List WireValue) : Type 0 where
+  pub adds : AddsAll before.starts after.starts (told program (main_entry first ∷ []))
+  pub new : List WireValue
+  pub laid : wires' ≡ wires ++ new
+  pub linked : AreLinked before.starts journal 0 (came (main_entry first ∷ [])) new
+  pub faults : RoseBy (count is_failed_start (main_entry first ∷ [])) before.faults after.faults
+  pub later : before.faults ≤ after.faults
+
+-- one start, in the journal and of the objects
+abbrev pub OneStart : Opening → Setup → ℕ → Bool → Bool → List ℕ → List Entry → List Entry → DeskTold → DeskTold → ProgramsTold → ProgramsTold → List WireValue → List WireValue → Type 0
+OneStart o setup limit offer next program old new desk desk' before after wires wires' =
+    (first : What) × Stint o setup limit offer next first old new desk desk' × StartsOne program new first before after wires wires'
+
+-- the programs were not asked, or once for nothing
+abbrev pub MayHaveAsked : List ℕ → ProgramsTold → ProgramsTold → Type 0
+MayHaveAsked program before after =
+    (Stays before.starts after.starts ⊎ ((b : Bool) × AddsOne before.starts after.starts (program, b))) × (before.faults ≤ after.faults)
+
+-- no memory was found to start a child: nothing was noted or done, though the programs may have been asked
+pub record Unstarted (program : List ℕ) (old new : List Entry) (desk desk' : DeskTold) (before after : ProgramsTold) (wires wires' : List WireValue) : Type 0 where
+  pub journal : new ≡ old
+  pub desk_is : desk' ≡ desk
+  pub wires_are : wires' ≡ wires
+  pub asked : MayHaveAsked program before after
+
+-- ---- between two starts
+
+-- the children have numbers up to n
+abbrev pub AreUpTo : ℕ → List (Option ℕ) → Type 0
+AreUpTo n [] = Unit {0}
+AreUpTo n (None ∷ cs) = AreUpTo n cs
+AreUpTo n (Some c ∷ cs) = (c ≤ n) × AreUpTo n cs
+
+-- So many starts were made, all in slot 0, each in its turn, offering ASYNC where it was to. Their children have ended, and are spent unless all
+-- tasks are claimed; no task is busy, and no start is left for one to take.
+pub record Spaced (o : Opening) (may : Bool) (made : ℕ) (offer : Bool) (journal : List Entry) : Type 0 where
+  pub legal : Legal o journal
+  pub slots : any is_elsewhere journal ≡ false
+  pub turn : AllStandNext o [] journal
+  pub starts : count is_any_start journal ≡ made
+  pub offers : AllOffer may [] journal
+  pub offered : offer ≡ (may && is_offered journal)
+  pub ended : AreEnded journal
+  pub asks : list_all (λ e. is_of_run e.what) journal ≡ true
+  pub lost : AllLostWell [] journal
+  pub rest : (t : ℕ) → is_busy journal t ≡ false
+  pub spent : AreSpent journal ⊎ (are_all_claimed o journal ≡ true)
+  pub untaken : NoneUntaken journal
+  pub few : AreUpTo (count is_start journal) (came journal)
+
+-- the same, where the main thread made all of it; each task that was claimed is done
+pub record Between (o : Opening) (setup : Setup) (may : Bool) (limit made : ℕ) (offer : Bool) (journal : List Entry) (desk desk' : DeskTold) : Type 0 where
+  pub spaced : Spaced o may made offer journal
+  pub main : are_by 0 journal ≡ true
+  pub done : TasksDone o setup limit journal [] journal desk desk'
+  pub last : are_all_claimed o journal ≡ true → EndsClosed journal
+
+-- the programs were asked for what the journal says, each of its children has its wire, and a fault was counted for each that failed
+pub record Kept (program : List ℕ) (journal : List Entry) (before after : ProgramsTold) (wires : List WireValue) : Type 0 where
+  pub linked : AreLinked before.starts journal 0 (came journal) wires
+  pub started : AddsAll before.starts after.starts (told program journal)
+  pub faults : RoseBy (count is_failed_start journal) before.faults after.faults
+  pub later : before.faults ≤ after.faults
+
+-- the same, where they may have been asked once more for lack of memory
+abbrev pub KeptOr : List ℕ → List Entry → ProgramsTold → ProgramsTold → List WireValue → Result (Unit {0}) NoMemory → Type 0
+KeptOr program journal before after wires result =
+    MatchResult result
+    (λ _. Kept program journal before after wires)
+    (λ _. (mid : ProgramsTold) × Kept program journal before mid wires × MayHaveAsked program mid after)
+
+-- all starts are made, or all tasks claimed
+abbrev pub IsOver : Opening → ℕ → ℕ → List Entry → Type 0
+IsOver o limit made journal = (made ≡ limit) ⊎ (are_all_claimed o journal ≡ true)
+
+-- The children were started, one after the other, until that, or until no memory was found to start one.
+abbrev pub HasStarted : Opening → Setup → Bool → ℕ → List Entry → DeskTold → DeskTold → Result (Unit {0}) NoMemory → Type 0
+HasStarted o setup may limit journal desk desk' result =
+    (made : ℕ) × (offer : Bool) × Between o setup may limit made offer journal desk desk' × (made ≤ limit) × MatchResult result (λ _. IsOver o limit made journal) (λ _. Unit {0})

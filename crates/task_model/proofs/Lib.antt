@@ -1,0 +1,16 @@
+pub mod Askings
+pub mod NamesBefore
+pub mod Texts
+pub mod Lists
+pub mod PlainRuns
+pub mod Gains
+pub mod Causes
+pub mod GetCallsLaws
+pub mod SentKeys
+pub mod FileNames
+pub mod GotLaws
+pub mod HeldLaws
+pub mod NamedRuns
+pub mod ExportRuns
+pub mod NamedVerdicts
+pub mod Across

@@ -1,5 +1,0 @@
-use Rattle.task_run.proofs.GotLaws.{got_needs_fit}
-use Rattle.task_run.proofs.run_laws.got_needs_fit.Goals as goal
-
-pub returns : goal.returns
-returns c = got_needs_fit
