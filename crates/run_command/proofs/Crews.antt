@@ -1,12 +1,10 @@
 -- What the desks of the workers tell.
 use Rattle.ann_outside.specs.Told.{DeskTold}
-use Rattle.std.proofs.Common.{◌≡◌, List, [], ◌∷◌, ◌++◌, refl, sym, ap, subst, Option}
+use Rattle.std.proofs.Common.{◌≡◌, List, [], ◌∷◌, ◌++◌, sym, subst}
 use Rattle.std.specs.Prelude.{map}
 use Rattle.std.proofs.lemmas.List.{map-append}
-use Rattle.ann_outside.specs.Calls.{Log, IsLogBlank}
-use Rattle.ann_outside.specs.DeskCauses.{Counts}
+use Rattle.ann_outside.specs.Calls.{IsLogBlank}
 use Rattle.ann_outside.specs.Desks.{no_counts}
-use Rattle.ann_outside.specs.Files.{Files}
 use Rattle.run_command.specs.Runs.{AreFresh, IsFresh}
 
 fresh_append : (desks : List DeskTold) (desk : DeskTold) → AreFresh desks → IsFresh desk → AreFresh (desks ++ desk ∷ [])

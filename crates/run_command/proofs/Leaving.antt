@@ -1,10 +1,10 @@
 -- What is left of a run's programs, and which desks were asked for.
 use Rattle.ann_outside.specs.Told.{DeskTold, ProgramsTold}
 use Rattle.std.proofs.Common.{◌≡◌, ◌≤◌, ◌+◌, inl, inr, ℕ, suc, List, [], ◌∷◌, ◌++◌, length, append_assoc, refl, sym, ap, subst, ◌∙◌, arith, true, false, Some, None, Option, Ok}
-use Rattle.std.specs.Prelude.{Result, IsErr, map}
+use Rattle.std.specs.Prelude.{Result, IsErr}
 use Rattle.std.specs.List.{range_with_len}
 use Rattle.std.proofs.lemmas.List.{append-nil, length-append, map-append}
-use Rattle.ann_outside.specs.Calls.{IsLogFrom, log_origin}
+use Rattle.ann_outside.specs.Calls.{IsLogFrom}
 use Rattle.ann_outside.specs.Causes.{AddsOne, Stays}
 use Rattle.ann_outside.specs.Desks.{Made}
 use Rattle.journal_model.specs.declared.entry.Entry.{Entry}
@@ -13,7 +13,7 @@ use Rattle.child_link.specs.Wires.{WireValue}
 use Rattle.child_end.specs.Wires.{AreWires, came}
 use Rattle.child_end.specs.Programs.{told, AddsAll, HaveStarted, Leaves, RoseBy, is_failed_start}
 use Rattle.run_starts.proofs.Leaving.{rose_still}
-use Rattle.run_command.specs.Runs.{AddsMade, BeganAs}
+use Rattle.run_command.specs.Runs.{AddsMade, BeganAs, origins_of}
 use Rattle.run_command.specs.Workings.{AddsWorkers}
 use Rattle.run_command.proofs.Origins.{began_more, began_same}
 use Rattle.ann_key.proofs.Lists.{range_next as range_more}

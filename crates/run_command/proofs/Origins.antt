@@ -3,7 +3,6 @@ use Rattle.ann_outside.specs.Told.{DeskTold}
 use Rattle.std.proofs.Common.{◌≡◌, ◌∙◌, ℕ, ◌+◌, List, [], ◌∷◌, ◌++◌, refl, sym, ap, subst, Option, Some, None}
 use Rattle.std.specs.Prelude.{map, option_map, IfSome}
 use Rattle.ann_outside.specs.Calls.{Log, Gained, IsLogFrom, log_origin}
-use Rattle.ann_outside.specs.DeskCauses.{Counts}
 use Rattle.ann_outside.specs.Desks.{Made}
 use Rattle.ann_outside.specs.Files.{Files}
 use Rattle.ann_outside.specs.Played.{ArePlayed}
@@ -13,7 +12,7 @@ use Rattle.journal_model.specs.declared.opening.Opening.{Opening}
 use Rattle.task_model.specs.declared.setup.Setup.{Setup}
 use Rattle.crew_worker.specs.Works.{all_calls}
 use Rattle.run_children.specs.Desks.{DesksDid}
-use Rattle.run_command.specs.Runs.{ArePlayedAt, BeganAs}
+use Rattle.run_command.specs.Runs.{ArePlayedAt, BeganAs, origins_of}
 
 gained_origin : (old new : Option Log) (calls : List Call) → Gained old new calls → log_origin new ≡ log_origin old
 gained_origin old new calls g = ap log_origin g ∙ same old

@@ -1,7 +1,7 @@
 -- From what a run begins with and what was worked to its end.
 use Rattle.ann_outside.specs.Told.{DeskTold}
 use Rattle.std.proofs.Common.{◌≡◌, ◌⊎◌, ℕ, List, [], length, sym, ap, subst, ◌∙◌, inl, inr, Bool, true, Option, Ok, Err}
-use Rattle.std.specs.Prelude.{Result, map}
+use Rattle.std.specs.Prelude.{Result}
 use Rattle.ann_outside.specs.Causes.{Rose}
 use Rattle.ann_outside.specs.Files.{Files}
 use Rattle.cli_words.specs.declared.command.RunWords.{RunWords}

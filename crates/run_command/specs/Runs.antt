@@ -1,6 +1,6 @@
 -- What comes of a run, by its end.
 use Rattle.ann_outside.specs.Told.{DeskTold}
-use Rattle.std.specs.Prelude.{ℕ, ◌≡◌, ◌⊎◌, ◌==◌, ◌≤◌, ◌<◌, if◌then◌else◌, true, List, [], ◌∷◌, ◌++◌, length, map, Option, Some, None, IfSome, Result, Ok, Err}
+use Rattle.std.specs.Prelude.{ℕ, ◌≡◌, ◌⊎◌, ◌≤◌, ◌<◌, true, List, [], ◌∷◌, ◌++◌, length, map, Option, Some, None, IfSome, Result, Ok, Err}
 use Rattle.std.specs.List.{range_with_len}
 use Rattle.ann_key.specs.declared.bytes.NoMemory.{NoMemory}
 use Rattle.ann_outside.specs.Causes.{Rose}
@@ -22,13 +22,9 @@ use Rattle.cli_words.specs.declared.command.RunWords.{RunWords}
 use Rattle.task_input.specs.declared.error.InputError.TheVariants as input
 use Rattle.task_input.specs.declared.limits.TheConstants.Limits.{TASKS}
 use Rattle.journal_model.specs.declared.answer.Answer.{Answer}
-use Rattle.journal_model.specs.declared.entry.What.{What}
-use Rattle.journal_model.specs.declared.entry.What.TheVariants.{Answer as Answered}
 use Rattle.journal_model.specs.declared.entry.Entry.{Entry}
 use Rattle.journal_model.specs.declared.opening.Opening.{Opening}
 use Rattle.journal_model.specs.Due.{replies_at}
-use Rattle.journal_model.specs.Journal.{each_of, first_of}
-use Rattle.journal_model.specs.Legality.{numbers_of}
 use Rattle.journal_model.specs.Projection.{JobFits}
 use Rattle.host_core.specs.Books.{notes_after}
 use Rattle.host_core.specs.Settings.{registers_after}

@@ -1,7 +1,6 @@
 use Rattle.std.proofs.Common.{refl, ◌∙◌, map, sym}
 use Rattle.std.proofs.lemmas.List.{length-map}
 use Rattle.run_command.proofs.Leaving.{leaves_nothing, adds_as_many}
-use Rattle.run_command.proofs.Origins.{of_tables}
 use Rattle.desk_file.proofs.Naming.{names_none}
 use Rattle.run_command.proofs.rounds.work.Goals as goal
 
