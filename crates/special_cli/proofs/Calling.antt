@@ -767,7 +767,7 @@ done w wish ran left status e runs told = subst (λ (l : Left). IsDone w wish st
 
 -- what follows of what was done
 pub called : (w : World) (wish : Option Command) (status : ℕ) (left : Left) → IsDone w wish status left → IsCalled w wish status left
-called w wish status left d = called_left w.clock w.before w.input left d.0 status w.out w.err d.1.1 wish d.1.0
+called w wish status left d = called_left w.clock w.before w.input left d.0 status w.out w.err d.2 wish d.1
 
 -- ---- the answers are few
 

@@ -26,7 +26,7 @@ impl<P: Programs, K: Desks> Model for Closing<P, K> {
     ghost view = { λ c. record {
       status = c.status;
       left = record {
-        outside = record { programs = record { starts = (P.told c.programs).starts; faults = (P.told c.programs).faults }; made = K.made c.desks };
+        outside = record { programs = P.told c.programs; made = K.made c.desks };
         journal = c.journal.entries;
         answers = c.answers.items;
         wires = c.wires.items;

@@ -13,5 +13,5 @@ impl<P: Programs, K: Desks> Model for Outside<P, K> {
 
     ghost Value = { OutsideValue };
 
-    ghost view = { λ o. record { programs = record { starts = (P.told o.programs).starts; faults = (P.told o.programs).faults }; made = K.made o.desks } };
+    ghost view = { λ o. record { programs = P.told o.programs; made = K.made o.desks } };
 }

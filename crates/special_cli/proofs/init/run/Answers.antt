@@ -31,22 +31,22 @@ returns-clause-ends g c =
           let is : w.in-Ok-Initialized.field-0 ≡ Initialized = rw w.in-Ok-Initialized.is at w.in-Ok-Initialized.field-0-is in
           ends_set c.args.words.now told (g.D.Desk.told w.keep-end.new.desk).files (g.D.Desk.told w.keep-end.new.desk).counts (g.D.Desk.told w.keep-end.new.desk).log table c.args.opening core.opening core.journal
           c.journal_of.result.entries w.in-Ok-Initialized.field-0 w.keep-end.result c.match-asked.end c.requires.begins same legal c.ask-asked.ensures.asked (outcome_ok core.journal c.ask-asked.result w.in-Ok-Initialized.field-0 w.in-Ok-Initialized.is c.ask-asked.ensures.outcome)
-          is w.keep-end.ensures.keeps w.end-is (ap (g.D.Desk.told) w.desk-is) c.journal_of.ensures
+          is w.keep-end.ensures.keeps w.end-is (ap g.D.Desk.told w.desk-is) c.journal_of.ensures
       | in-Ok-Stopped w ↦
           let is : w.in-Ok-Stopped.field-0 ≡ Stopped w.in-Ok-Stopped.answer = first_of (search rules, grind (arith, common_steps)) in
           ends_stopped c.args.words.now told table c.args.opening core.opening core.journal c.journal_of.result.entries w.in-Ok-Stopped.field-0 w.in-Ok-Stopped.answer c.match-asked.end c.requires.begins same legal
-          c.ask-asked.ensures.asked (outcome_ok core.journal c.ask-asked.result w.in-Ok-Stopped.field-0 w.in-Ok-Stopped.is c.ask-asked.ensures.outcome) is w.end-is (ap (g.D.Desk.told w.desk-is).files) c.journal_of.ensures
+          c.ask-asked.ensures.asked (outcome_ok core.journal c.ask-asked.result w.in-Ok-Stopped.field-0 w.in-Ok-Stopped.is c.ask-asked.ensures.outcome) is w.end-is (ap (λ d. (g.D.Desk.told d).files) w.desk-is) c.journal_of.ensures
       | in-Err w ↦
           ends_wanting c.args.words.now told table c.args.opening core.opening core.journal c.journal_of.result.entries c.match-asked.end c.requires.begins same legal c.ask-asked.ensures.asked w.end-is
-          (ap (g.D.Desk.told w.desk-is).files) c.journal_of.ensures
+          (ap (λ d. (g.D.Desk.told d).files) w.desk-is) c.journal_of.ensures
     ]
 
 pub returns-clause-calls : goal.returns-clause-calls
 returns-clause-calls g c =
     elim c.match-asked.branch [
-      | in-Ok-Initialized w ↦ subst (λ (log : Option Log). NamesOnly (IsInitFile c.args.words.now) (g.D.Desk.told c.args.desk.now).log log) (sym (ap (g.D.Desk.told w.desk-is).log)) w.keep-end.ensures.calls
-      | in-Ok-Stopped w ↦ names_none (ap (g.D.Desk.told w.desk-is).log)
-      | in-Err w ↦ names_none (ap (g.D.Desk.told w.desk-is).log)
+      | in-Ok-Initialized w ↦ subst (λ (log : Option Log). NamesOnly (IsInitFile c.args.words.now) (g.D.Desk.told c.args.desk.now).log log) (sym (ap (λ d. (g.D.Desk.told d).log) w.desk-is)) w.keep-end.ensures.calls
+      | in-Ok-Stopped w ↦ names_none (ap (λ d. (g.D.Desk.told d).log) w.desk-is)
+      | in-Err w ↦ names_none (ap (λ d. (g.D.Desk.told d).log) w.desk-is)
     ]
 
 pub returns-in_default-clause-calls : goal.returns-in_default-clause-calls
