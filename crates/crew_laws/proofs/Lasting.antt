@@ -26,11 +26,11 @@ use Rattle.ann_key.proofs.Booleans.{left_false as either_left, right_false as ei
 -- ---- the same verdicts
 
 -- the jobs are settled alike in both
-abbrev SameVerdicts : List Entry → List Entry → List (ℕ × ℕ) → Type 0
+abbrev pub SameVerdicts : List Entry → List Entry → List (ℕ × ℕ) → Type 0
 SameVerdicts j k [] = Unit {0}
 SameVerdicts j k (q ∷ qs) = (verdict_of j q.0 q.1 ≡ verdict_of k q.0 q.1) × SameVerdicts j k qs
 
-same_verdicts : (past more : List Entry) (qs : List (ℕ × ℕ)) → AllAsked past qs → list_any (λ q. is_open past q.0 q.1) qs ≡ false → SameVerdicts (past ++ more) past qs
+pub same_verdicts : (past more : List Entry) (qs : List (ℕ × ℕ)) → AllAsked past qs → list_any (λ q. is_open past q.0 q.1) qs ≡ false → SameVerdicts (past ++ more) past qs
 same_verdicts past more [] a h = tt
 same_verdicts past more (q ∷ qs) a h = (
   kept_verdict past more q.0 q.1 a.0 (either_left (is_open past q.0 q.1) (list_any (λ q. is_open past q.0 q.1) qs) h),
@@ -43,11 +43,11 @@ asked_split past (x ∷ xs) ys h = (let r = asked_split past xs ys h.1 in ((h.0,
 
 -- ---- along a stretch
 
-abbrev Alike : List Entry → List Entry → ℕ → List Entry → What → Type 0
+abbrev pub Alike : List Entry → List Entry → ℕ → List Entry → What → Type 0
 Alike j k t past w = asking_of j t past w ≡ asking_of k t past w
 
 -- an entry asks alike in both, where its job is settled alike
-alike : (j k : List Entry) (t : ℕ) (past xs : List Entry) (w : What) → SameVerdicts j k (cons_option (job_for t w) (each_of (job_for t) xs))
+pub alike : (j k : List Entry) (t : ℕ) (past xs : List Entry) (w : What) → SameVerdicts j k (cons_option (job_for t w) (each_of (job_for t) xs))
     → Alike j k t past w × SameVerdicts j k (each_of (job_for t) xs)
 alike j k t past xs (Ask child job task line) h = go (task == t) h
   where
@@ -61,14 +61,14 @@ alike j k t past xs (Ask child job task line) h = go (task == t) h
 alike j k t past xs (Lost child task) h = (refl, h)
 alike j k t past xs w h = (refl, h)
 
-askings_alike : (j k : List Entry) (t : ℕ) (past xs : List Entry) → SameVerdicts j k (each_of (job_for t) xs) → askings_from j t past xs ≡ askings_from k t past xs
+pub askings_alike : (j k : List Entry) (t : ℕ) (past xs : List Entry) → SameVerdicts j k (each_of (job_for t) xs) → askings_from j t past xs ≡ askings_from k t past xs
 askings_alike j k t past [] h = refl
 askings_alike j k t past (e ∷ xs) h =
     let a = alike j k t past xs e.what h in
     ap (λ (o : Option Asking). cons_option o (askings_from j t (past ++ e ∷ []) xs)) a.0
     ∙ ap (cons_option (asking_of k t past e.what)) (askings_alike j k t (past ++ e ∷ []) xs a.1)
 
-notings_alike : (j k : List Entry) (t : ℕ) (past : List Entry) (behind : ℕ) (xs : List Entry) → SameVerdicts j k (each_of (job_for t) xs)
+pub notings_alike : (j k : List Entry) (t : ℕ) (past : List Entry) (behind : ℕ) (xs : List Entry) → SameVerdicts j k (each_of (job_for t) xs)
     → notings_from j t past behind xs ≡ notings_from k t past behind xs
 notings_alike j k t past behind [] h = refl
 notings_alike j k t past behind (e ∷ xs) h =

@@ -1,18 +1,16 @@
 -- What a longer journal says of the notes of a task.
-use Rattle.std.proofs.Common.{◌≡◌, ℕ, ◌+◌, List, [], ◌∷◌, ◌++◌, length, refl, sym, ap, ◌∙◌, append_assoc, append-nil, arith, Bool, true, false, ◌==◌, cond, Some, None, Option}
-use Rattle.std.specs.Prelude.{option_map}
-use Rattle.std.specs.List.{list_any, cons_option}
-use Rattle.annex_model.specs.Messages.{host_reading}
-use Rattle.journal_model.specs.declared.verdict.Verdict.{Verdict}
+use Rattle.std.proofs.Common.{◌≡◌, ℕ, ◌+◌, List, [], ◌∷◌, ◌++◌, length, refl, sym, ap, ◌∙◌, append_assoc, append-nil, arith, false, ◌==◌, Some, None, Option, Bool}
+use Rattle.std.specs.List.{cons_option}
 use Rattle.journal_model.specs.declared.entry.What.{What}
-use Rattle.journal_model.specs.declared.entry.What.TheVariants.{Ask, Lost, Note}
+use Rattle.journal_model.specs.declared.entry.What.TheVariants.{Note}
 use Rattle.journal_model.specs.declared.entry.Entry.{Entry}
-use Rattle.journal_model.specs.Journal.{any, each_of, is_open, verdict_of, addressed}
+use Rattle.journal_model.specs.Journal.{any, each_of}
 use Rattle.journal_model.specs.Legality.{job_for, has_open_job}
 use Rattle.journal_model.proofs.Looks.{entry}
-use Rattle.journal_model.proofs.Working.{AllAsked, all_asked, kept_verdict}
+use Rattle.journal_model.proofs.Working.{all_asked}
 use Rattle.task_model.specs.Askers.{Asking, Noting}
-use Rattle.task_model.specs.Askings.{asking_of, askings_from, askings, noting_of, notings_from, name_before}
+use Rattle.task_model.specs.Askings.{asking_of, askings_from, askings, noting_of, notings_from}
+use Rattle.crew_laws.proofs.Lasting.{askings_alike, notings_alike, same_verdicts}
 use Rattle.crew_worker.specs.AtTasks.{notings}
 use Rattle.ann_key.proofs.Lists.{cons_option-append}
 use Rattle.ann_key.proofs.Numbers.{same_number as same}
@@ -22,50 +20,6 @@ use Rattle.ann_key.proofs.Booleans.{left_false as either_left, right_false as ei
 abbrev pub notes_for : ℕ → What → Bool
 notes_for t (Note task chunk count) = task == t
 notes_for t _ = false
-
--- ---- the same verdicts
-
--- the jobs are settled alike in both
-abbrev SameVerdicts : List Entry → List Entry → List (ℕ × ℕ) → Type 0
-SameVerdicts j k [] = Unit {0}
-SameVerdicts j k (q ∷ qs) = (verdict_of j q.0 q.1 ≡ verdict_of k q.0 q.1) × SameVerdicts j k qs
-
-same_verdicts : (past more : List Entry) (qs : List (ℕ × ℕ)) → AllAsked past qs → list_any (λ q. is_open past q.0 q.1) qs ≡ false → SameVerdicts (past ++ more) past qs
-same_verdicts past more [] a h = tt
-same_verdicts past more (q ∷ qs) a h = (
-  kept_verdict past more q.0 q.1 a.0 (either_left (is_open past q.0 q.1) (list_any (λ q. is_open past q.0 q.1) qs) h),
-  same_verdicts past more qs a.1 (either_right (is_open past q.0 q.1) (list_any (λ q. is_open past q.0 q.1) qs) h),
-)
-
--- an entry asks alike in both, where its job is settled alike
-alike : (j k : List Entry) (t : ℕ) (past xs : List Entry) (w : What) → SameVerdicts j k (cons_option (job_for t w) (each_of (job_for t) xs))
-    → (asking_of j t past w ≡ asking_of k t past w) × SameVerdicts j k (each_of (job_for t) xs)
-alike j k t past xs (Ask child job task line) h = go (task == t) h
-  where
-    asked : Verdict → Asking
-    asked v = record { request = host_reading (addressed past child line).1; name = name_before past child job; verdict = v }
-
-    go : (b : Bool) → SameVerdicts j k (cons_option (cond b (Some (child, job)) None) (each_of (job_for t) xs))
-        → (cond b (option_map asked (verdict_of j child job)) None ≡ cond b (option_map asked (verdict_of k child job)) None) × SameVerdicts j k (each_of (job_for t) xs)
-    go true h = (ap (option_map asked) h.0, h.1)
-    go false h = (refl, h)
-alike j k t past xs (Lost child task) h = (refl, h)
-alike j k t past xs w h = (refl, h)
-
-notings_alike : (j k : List Entry) (t : ℕ) (past : List Entry) (behind : ℕ) (xs : List Entry) → SameVerdicts j k (each_of (job_for t) xs)
-    → notings_from j t past behind xs ≡ notings_from k t past behind xs
-notings_alike j k t past behind [] h = refl
-notings_alike j k t past behind (e ∷ xs) h =
-    let a = alike j k t past xs e.what h in
-    ap (λ (o : Option Asking). cons_option (noting_of t behind e.what) (notings_from j t (past ++ e ∷ []) (behind + length (cons_option o [])) xs)) a.0
-    ∙ ap (cons_option (noting_of t behind e.what)) (notings_alike j k t (past ++ e ∷ []) (behind + length (cons_option (asking_of k t past e.what) [])) xs a.1)
-
-askings_alike : (j k : List Entry) (t : ℕ) (past xs : List Entry) → SameVerdicts j k (each_of (job_for t) xs) → askings_from j t past xs ≡ askings_from k t past xs
-askings_alike j k t past [] h = refl
-askings_alike j k t past (e ∷ xs) h =
-    let a = alike j k t past xs e.what h in
-    ap (λ (o : Option Asking). cons_option o (askings_from j t (past ++ e ∷ []) xs)) a.0
-    ∙ ap (cons_option (asking_of k t past e.what)) (askings_alike j k t (past ++ e ∷ []) xs a.1)
 
 -- ---- along the list
 
