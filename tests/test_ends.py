@@ -14,8 +14,12 @@ LAST = f"greet('ASYNC')\nserve({check_answers(c='SUCCESS')!r})\n"
      "foul CHECKPRESENT-SUCCESS WORM--a"),
     ("an answer about another key", 'say("J 2 CHECKPRESENT-SUCCESS WORM--c")\nhear()\n',
      "foul J 2 CHECKPRESENT-SUCCESS WORM--c"),
+    ("an answer about the other's key", 'say(a + "CHECKPRESENT-SUCCESS WORM--b")\nhear()\n',
+     "foul J 2 CHECKPRESENT-SUCCESS WORM--b"),
     ("ERROR with the tag of one job", 'say(b + "ERROR no disk")\nhear()\n',
      "ended error no disk"),
+    ("ERROR without a tag", 'say("ERROR gone")\nhear()\n',
+     "ended error gone"),
     ("nothing more", "",
      "ended eof"),
 ])
@@ -134,6 +138,26 @@ hear()
 """)
     out = "1 ended eof\n2 present\n3 present\n"
     expect_run(room, "./remote", checks("a", "b", "c"), out, jobs=2, starts=2, children=2, busy=2)
+
+
+GREETING = "VERSION 1\nEXTENSIONS ASYNC\nJ 1 PREPARE-SUCCESS\n"
+
+
+@limits(60)
+@table([(f"after {first} to {last - 1} bytes", first, last) for first, last in ((0, 16), (16, 32), (32, len(GREETING)))])
+def a_child_dies_within_its_greeting(room, first, last):
+    room.children("remote", *[f"""
+text = {GREETING[:count]!r}
+for line in text.split("\\n")[:-1]:
+    note(b"> ", line.encode())
+say_cut(text)
+os.close(1)
+while True:
+    hear()
+""" for count in range(first, last)])
+    starts = last - first
+    out = "".join(f"{task} ended eof\n" for task in range(1, starts + 1))
+    expect_run(room, "./remote", checks(*range(starts)), out, jobs=2, starts=starts, children=starts)
 
 
 def case_each_child_that_cannot_get_ready_costs_a_task(room):
