@@ -1,6 +1,6 @@
 """Children that take tags and end with jobs open, and the starts after them."""
 
-from harness import expect, limits, table
+from harness import audit, expect, limits, require, table
 from runs import check_answers, checks, expect_run
 
 BOTH = 'greet("ASYNC")\na, b = hear_all("CHECKPRESENT WORM--a", "CHECKPRESENT WORM--b")\n'
@@ -16,6 +16,8 @@ LAST = f"greet('ASYNC')\nserve({check_answers(c='SUCCESS')!r})\n"
      "foul J 2 CHECKPRESENT-SUCCESS WORM--c"),
     ("ERROR with the tag of one job", 'say(b + "ERROR no disk")\nhear()\n',
      "ended error no disk"),
+    ("ERROR without a tag", 'say("ERROR gone")\nhear()\n',
+     "ended error gone"),
     ("nothing more", "",
      "ended eof"),
 ])
@@ -23,6 +25,17 @@ def a_child_ends_with_both_jobs_and_the_next_does_the_rest(room, last_words, ans
     room.children("remote", BOTH + last_words, LAST)
     out = f"1 {answer}\n2 {answer}\n3 present\n"
     expect_run(room, "./remote", checks("a", "b", "c"), out, jobs=2, starts=2, children=2, busy=2)
+
+
+def case_an_answer_about_the_other_jobs_key_ends_both_jobs(room):
+    room.children("remote", BOTH + 'say(a + "CHECKPRESENT-SUCCESS WORM--b")\nhear()\n', LAST)
+    done = room.run_command("./remote", checks("a", "b", "c"), "--jobs", "2", "--starts", "2")
+    # Either check may have been asked first.
+    said = [line[2:] for line in room.text("remote.1.log").splitlines() if line.startswith("> ")]
+    answer = f"foul {said[-1]}"
+    require(said[-1].endswith(" CHECKPRESENT-SUCCESS WORM--b"), f"the child said {said[-1]}")
+    expect(done, (1, f"1 {answer}\n2 {answer}\n3 present\n", ""))
+    expect(audit(room.text("journal")), (0, "legal\n", ""), "the audit")
 
 
 def case_no_start_is_left_after_a_child_that_ended_with_both_jobs(room):
@@ -134,6 +147,26 @@ hear()
 """)
     out = "1 ended eof\n2 present\n3 present\n"
     expect_run(room, "./remote", checks("a", "b", "c"), out, jobs=2, starts=2, children=2, busy=2)
+
+
+GREETING = "VERSION 1\nEXTENSIONS ASYNC\nJ 1 PREPARE-SUCCESS\n"
+
+
+@limits(60)
+@table([(f"after {first} to {last - 1} bytes", first, last) for first, last in ((0, 16), (16, 32), (32, len(GREETING)))])
+def a_child_dies_within_its_greeting(room, first, last):
+    room.children("remote", *[f"""
+text = {GREETING[:count]!r}
+for line in text.split("\\n")[:-1]:
+    note(b"> ", line.encode())
+say_cut(text)
+os.close(1)
+while True:
+    hear()
+""" for count in range(first, last)])
+    starts = last - first
+    out = "".join(f"{task} ended eof\n" for task in range(1, starts + 1))
+    expect_run(room, "./remote", checks(*range(starts)), out, jobs=2, starts=starts, children=starts)
 
 
 def case_each_child_that_cannot_get_ready_costs_a_task(room):

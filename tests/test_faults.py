@@ -1,6 +1,7 @@
 """What the programs say where a stream or a file fails."""
 
 import os
+import shutil
 import time
 
 from faults import closed_output, failing_input, limited
@@ -129,6 +130,14 @@ def a_kept_file_that_cannot_be_replaced_is_told_after_the_answer(room, tasks):
     require(room.has("keep/full"), "what is in the place of the kept file stays")
 
 
+def case_an_init_whose_answer_cannot_be_written_has_kept_what_was_set(room):
+    furnish(room)
+    with open("/dev/full", "wb") as full:
+        done = finish(room.start([SPECIAL, "init", "./remote.sh", UUID, "keep", "a=c"], stdout=full))
+    expect(done, Done(5, "", ""))
+    expect(room.text("keep"), "annex-keep 1\nconfig a c\nstate WORM--a there\n", "the kept file")
+
+
 def case_where_nothing_fails_the_same_files_are_written(room):
     furnish(room)
     room.write("keep", "annex-keep 1\nconfig a b\n")
@@ -147,6 +156,18 @@ def case_a_journal_file_that_cannot_be_made_is_told_and_the_kept_file_was_writte
     room.mkdir("journal")
     expect(journaled(room), Done(6, "1 present\n", FAILED))
     expect(room.text("keep"), "annex-keep 1\nstate WORM--a there\n", "the kept file")
+
+
+def case_a_journal_file_that_cannot_be_written_to_stays_as_it_was(room):
+    # A program that runs can't be written to.
+    furnish(room)
+    shutil.copy(SPECIAL, room.path("journal"))
+    before = room.read("journal")
+    running = room.start(["./journal", "audit"])
+    expect(journaled(room), Done(6, "1 present\n", FAILED))
+    require(room.read("journal") == before, "the file is as it was")
+    expect(room.text("keep"), "annex-keep 1\nstate WORM--a there\n", "the kept file")
+    expect(finish(running, EMPTY), Done(0, "legal\n", ""), "the program that ran")
 
 
 # The kept file has 33 bytes; the lines of the journal end after 16, 58, 70 and 82 bytes.

@@ -26,7 +26,7 @@ def library(room, source):
 
 def tells_of_memory(done):
     """The run says that it is out of memory: at its end, or in an answer. A start that fails may have failed for memory."""
-    return done.status == 7 or (done.status == 1 and any(line.split()[1] in ("memory", "startfault") for line in done.out.splitlines()))
+    return (done.status, done.err) == (7, "special: memory\n") or (done.status == 1 and any(line.split()[1] in ("memory", "startfault") for line in done.out.splitlines()))
 
 
 @table([

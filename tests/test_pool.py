@@ -160,6 +160,20 @@ def many_tasks_are_answered_once_by_many_children(room, children, tasks):
     expect_run(room, "./remote", lines, out, jobs=children, children=children)
 
 
+@limits(60)
+def case_answers_of_children_without_tags_come_in_pieces_of_each_size(room):
+    count, most = 240, 60
+    lines, answers, out = many_checks(count)
+    room.children("remote", *[f"""
+greet()
+size = 0
+for _, words in requests():
+    size = size % {most} + 1
+    say_in_pieces(size, "DEBUG wait", {answers!r}[" ".join(words)])
+"""] * 2)
+    expect_run(room, "./remote", lines, out, jobs=2, children=2)
+
+
 # It answers as many_checks has it, and is quick to start.
 QUICK = """
 echo "VERSION 1"
