@@ -4,27 +4,15 @@ ghost use Rattle.crew_tagged.specs.Backs.{roles_of};
 
 use ann_outside::{Desk, Sink, Source};
 use child_link::Lone;
+use crew_shared::Site;
 use crew_tagged::Worker;
 use crew_threads::Back;
-use hall::{Hall, Pass};
+use hall::Pass;
 use host_core::Core;
-use std::alloc::Global;
 use std::sync::Wait;
-use task_model::Setup;
-use task_text::Task;
 
 /// A worker that has its child for itself.
 pub(crate) type LoneWorker<'a, I, O, K, R> = Worker<'a, Lone<I, O>, K, R>;
-
-/// What the workers of a round have in common.
-#[derive(Drop)]
-pub(crate) struct Site<'a, R: Wait> {
-    pub rt: &'a R,
-    pub alloc: Global,
-    pub hall: &'a Hall<Core>,
-    pub tasks: &'a [Task],
-    pub setup: &'a Setup,
-}
 
 // A worker at the site.
 fn worker_at<'a, I: Sink, O: Source, K: Desk + Drop, R: Wait>(

@@ -12,9 +12,10 @@ ghost use Rattle.crew_pool.specs.Left.{PoolLeft, done_if};
 ghost use Rattle.crew_tagged.specs.PoolChildren.{PoolCan};
 ghost use Rattle.crew_pool.specs.Pool.{AreAsBefore, AreSameLinks};
 
-use crate::dealt::{LoneWorker, Site, deal, take_back};
+use crate::dealt::{LoneWorker, deal, take_back};
 use ann_outside::{Desk, Sink, Source};
 use child_link::Lone;
+use crew_shared::Site;
 use crew_tagged::Outcome;
 use crew_threads::{Back, Refused, Room, any_ran, run_workers};
 use hall::Pass;
@@ -53,10 +54,8 @@ fn rooms<'a, I: Sink + Drop, O: Source + Drop, K: Desk + Drop, R: Wait>(
     ensures { IfSome result (λ r. (r.0 ≡ seats) × (r.1.items ≡ []) × (seats ≤ vec_capacity r.1)) }
 {
     let room = Room::new(alloc, seats)?;
-    match Vec::with_capacity(alloc, seats) {
-        Ok(workers) => Some((room, workers)),
-        Err(_) => None,
-    }
+    let workers = Vec::with_capacity(alloc, seats).ok()?;
+    Some((room, workers))
 }
 
 // Makes the workers.

@@ -32,7 +32,15 @@ pub struct TaggedRound<I: Sink, O: Source, K: Drop> {
     pub outcome: Outcome,
 }
 
-/// Runs tasks over a tagged child, in threads of which it tries to start `most`: an ear's, a mouth's and one worker's for each
+/// Where the threads of a round are started, and how many of them are tried at most.
+#[derive(Drop)]
+pub struct Starter<'a, R: Threads + Wait> {
+    pub rt: &'a R,
+    pub alloc: Global,
+    pub most: usize,
+}
+
+/// Runs tasks over a tagged child, in as many threads at most as the starter tries: an ear's, a mouth's and one worker's for each
 /// desk.
 pub fn round_tagged_some<
     I: Sink + Send + Drop,
@@ -40,9 +48,7 @@ pub fn round_tagged_some<
     K: Desk + Send + Drop,
     R: Threads + Wait + Sync,
 >(
-    rt: &R,
-    alloc: Global,
-    most: usize,
+    starter: &Starter<'_, R>,
     core: Core,
     tasks: &[Task],
     setup: &Setup,
@@ -62,7 +68,7 @@ pub fn round_tagged_some<
 {
     let child = link.child();
     let seats = desks.len() as u32 + 3;
-    match Hall::begin(alloc, core, seats) {
+    match Hall::begin(starter.alloc, core, seats) {
         Err(core) => TaggedRound {
             core,
             link,
@@ -71,8 +77,8 @@ pub fn round_tagged_some<
         },
         Ok((hall, passes)) => {
             let site = Site {
-                rt,
-                alloc,
+                rt: starter.rt,
+                alloc: starter.alloc,
                 hall: &hall,
                 tasks,
                 setup,
@@ -83,7 +89,7 @@ pub fn round_tagged_some<
                 link,
                 desks,
             };
-            let (kit, outcome) = play(&site, most, kit);
+            let (kit, outcome) = play(&site, starter.most, kit);
             let Kit {
                 passes,
                 link,
@@ -125,5 +131,10 @@ pub fn round_tagged<
     ensures opening { result.core.opening ≡ core.opening }
     ensures same { IsSameLink link.ear result.link.ear link.mouth result.link.mouth }
 {
-    round_tagged_some(rt, alloc, usize::MAX, core, tasks, setup, link, desks)
+    let starter = Starter {
+        rt,
+        alloc,
+        most: usize::MAX,
+    };
+    round_tagged_some(&starter, core, tasks, setup, link, desks)
 }
