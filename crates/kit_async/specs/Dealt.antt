@@ -1,6 +1,5 @@
--- What a kit deals to its roles, and the roles as they begin.
-use Rattle.std.specs.Prelude.{ℕ, ◌≡◌, ◌≤◌, ◌+◌, List, [], ◌∷◌, ◌++◌, None, All, map, reverse, vec_capacity}
-use Rattle.std.specs.Global.{Vec}
+-- The passes with which a kit begins, the numbers of its workers, and its roles as they begin.
+use Rattle.std.specs.Prelude.{ℕ, ◌≡◌, ◌+◌, List, [], ◌∷◌, None, All, map, reverse}
 use Rattle.kit_serve.specs.Limits.{longest_line}
 use Rattle.kit_async_core.specs.Halls.{KitHall, KitPass}
 use Rattle.kit_async_roles.specs.Passes.{Stands}
@@ -17,24 +16,6 @@ AreNumbered n (k ∷ ks) = (k ≡ n) × AreNumbered (n + 1) ks
 abbrev pub AreFresh : KitHall → ℕ → List KitPass → Type 0
 AreFresh h n [] = Unit {0}
 AreFresh h n (p ∷ ps) = (Stands h n p × (p.links ≡ [])) × AreFresh h (n + 1) ps
-
--- ---- what is dealt
-
--- room for so many, and nothing in it
-pub record IsRoomFor {X : Type 0} (n : ℕ) (xs : Vec X) : Type 0 where
-  pub none : xs.items ≡ []
-  pub room : n ≤ vec_capacity xs
-
--- the last ones were dealt, and their room stays
-pub record Deals {X : Type 0} (old new : Vec X) (dealt : List X) : Type 0 where
-  pub items : old.items ≡ new.items ++ dealt
-  pub room : vec_capacity new ≡ vec_capacity old
-
--- so were all of them
-pub record DealsAll {X : Type 0} (old new : Vec X) (dealt : List X) : Type 0 where
-  pub items : old.items ≡ dealt
-  pub none : new.items ≡ []
-  pub room : vec_capacity new ≡ vec_capacity old
 
 -- ---- the roles as they begin
 

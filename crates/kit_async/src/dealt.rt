@@ -1,6 +1,7 @@
 // The passes and the remotes of a kit, dealt to its workers, and taken back.
 ghost use Rattle.std.specs.Prelude.{◌≡◌, ◌≤◌, ◌<◌, ◌+◌, ◌^◌, ◌++◌, map, reverse, vec_len, vec_capacity};
-ghost use Rattle.kit_async.specs.Dealt.{Deals, DealsAll, IsRoomFor, WorkersBegin};
+ghost use Rattle.crew_threads.specs.Dealing.{Deals, DealsAll, IsRoomFor};
+ghost use Rattle.kit_async.specs.Dealt.{WorkersBegin};
 
 use crate::roles::Worker;
 use hall::{Hall, Pass};

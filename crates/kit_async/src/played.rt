@@ -1,13 +1,14 @@
 // The roles of a kit: they are made, run in threads or by the calling thread, and taken apart again.
 ghost use Rattle.std.specs.Prelude.{◌≡◌, ◌≤◌, ◌<◌, ◌+◌, ◌^◌, ◌++◌, ℕ, List, [], ◌∷◌, None, true, All, IfSome, length, map, reverse, vec_len, vec_capacity};
 ghost use Rattle.crew_threads.specs.BackRole.{role_of};
+ghost use Rattle.crew_threads.specs.Dealing.{IsRoomFor};
 ghost use Rattle.crew_laws.specs.Pairs.{Pairwise};
 ghost use Rattle.hall.specs.Passes.{IsPassOf};
 ghost use Rattle.kit_serve.specs.Limits.{longest_line};
 ghost use Rattle.kit_async_roles.specs.Passes.{Stands};
 ghost use Rattle.kit_async_roles.specs.Reading.{ear_of};
 ghost use Rattle.kit_async_roles.specs.Writing.{mouth_of};
-ghost use Rattle.kit_async.specs.Dealt.{AreFresh, IsRoomFor, ReaderBegins, WorkersBegin, WriterBegins};
+ghost use Rattle.kit_async.specs.Dealt.{AreFresh, ReaderBegins, WorkersBegin, WriterBegins};
 ghost use Rattle.kit_async.specs.Endings.{AllWorked, ReaderDid, WriterDid};
 ghost use Rattle.kit_async.specs.Turns.{ReaderGoes, ReaderRuns, WorkerGoes, WriterGoes, WriterRuns, hand_at};
 
@@ -58,7 +59,7 @@ type Rooms<'a, K, R> = (Room<Worker<'a, K, R>>, Workers<'a, K, R>, Workers<'a, K
 
 // Room for so many workers, and for what comes back of them.
 fn rooms<'a, K: Remote + Drop, R: Wait>(alloc: Global, seats: usize) -> Option<Rooms<'a, K, R>>
-    ensures { IfSome result (λ r. (r.0 ≡ seats) × (r.1.items ≡ []) × (seats ≤ vec_capacity r.1) × (r.2.items ≡ []) × (seats ≤ vec_capacity r.2)) }
+    ensures { IfSome result (λ r. (r.0 ≡ seats) × IsRoomFor seats r.1 × IsRoomFor seats r.2) }
 {
     let room = Room::new(alloc, seats)?;
     let workers = Vec::with_capacity(alloc, seats).ok()?;

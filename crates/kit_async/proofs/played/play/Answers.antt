@@ -25,10 +25,11 @@ returns-in_default-clause-worked g c = workers_idle (λ k. hand_of (g.K.Remote.c
 
 pub run-crew-requires-clause-room : goal.run-crew-requires-clause-room
 run-crew-requires-clause-room g c κs within =
-    let same = as_many (λ w. w.remote) c.args.kit.remotes.items c.cast-crew.result.0.workers.items c.cast-crew.ensures.remotes in (
+    let same = as_many (λ w. w.remote) c.args.kit.remotes.items c.cast-crew.result.0.workers.items c.cast-crew.ensures.remotes in
+    let room = c.in-Some.ensures.2 in (
       omega (arith, same, c.cast-crew.result.0.workers.ok.0, c.args.kit.remotes.ok.0, c.requires.remotes.0),
       omega (arith, same, c.cast-crew.result.0.workers.ok.0, c.args.kit.remotes.ok.0, c.in-Some.ensures.0),
-      record { none = c.in-Some.ensures.3; room = omega (arith, same, c.cast-crew.result.0.workers.ok.0, c.args.kit.remotes.ok.0, c.in-Some.ensures.4) },
+      record { none = room.none; room = omega (arith, same, c.cast-crew.result.0.workers.ok.0, c.args.kit.remotes.ok.0, room.room) },
     )
 
 pub run-crew-requires-clause-reader : goal.run-crew-requires-clause-reader
