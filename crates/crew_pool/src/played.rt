@@ -1,5 +1,5 @@
 // The workers of a round over a pool: they are made, run in threads and taken apart again.
-ghost use Rattle.std.specs.Prelude.{◌≡◌, ◌≤◌, ◌+◌, [], ◌∷◌, All, IfSome, length, map, reverse, vec_len, vec_capacity};
+ghost use Rattle.std.specs.Prelude.{◌≡◌, ◌≤◌, ◌+◌, ◌∷◌, All, IfSome, length, map, reverse, vec_len};
 ghost use Rattle.std.specs.List.{list_any};
 ghost use Rattle.crew_threads.specs.BackRole.{has_run};
 ghost use Rattle.crew_threads.specs.Dealing.{IsRoomFor};

@@ -1,5 +1,5 @@
 // The roles of a round over a child that its workers share: they are made, run in threads and taken apart again.
-ghost use Rattle.std.specs.Prelude.{◌≡◌, ◌≤◌, ◌+◌, ◌||◌, [], ◌∷◌, true, false, All, IfSome, length, map, reverse, vec_len, vec_capacity};
+ghost use Rattle.std.specs.Prelude.{◌≡◌, ◌≤◌, ◌+◌, ◌||◌, ◌∷◌, true, false, All, IfSome, length, map, reverse, vec_len};
 ghost use Rattle.std.specs.List.{list_any};
 ghost use Rattle.crew_threads.specs.BackRole.{has_run, role_of};
 ghost use Rattle.crew_threads.specs.Dealing.{IsRoomFor};
