@@ -63,7 +63,7 @@ pub record IsThroughAt (h : HallValue Entry Opening) (ends : List LoneTells) : T
 pub record MayPlay (h : HallValue Entry Opening) (tasks : List Task) (setup : Setup) (links : List LinkValue) (passes : List CorePass) : Type 0 where
   pub fresh : AreFresh h 1 passes
   pub can : PoolCan h.fixed h.start links
-  pub run : CanRunTasks h tasks setup
+  pub run : CanRunTasks h.fixed tasks setup
 
 -- The passes of the main thread, which has done nothing, and of the workers, their links and their desks, as they began and as
 -- they end.

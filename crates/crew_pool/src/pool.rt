@@ -1,11 +1,10 @@
 // A round over a pool of children without tags, each with a worker of its own.
-ghost use Rattle.std.specs.Prelude.{◌≡◌, ◌≤◌, ◌<◌, ◌+◌, false, map, vec_len};
+ghost use Rattle.std.specs.Prelude.{◌≡◌, ◌≤◌, ◌<◌, ◌+◌, map, vec_len};
 ghost use Rattle.std.specs.List.{range_with_len};
-ghost use Rattle.annex_model.specs.Lines.{has_newline};
 ghost use Rattle.crew_tagged.specs.Outcomes.{IfDone, IfKept};
+ghost use Rattle.crew_tagged.specs.Roles.{CanRunTasks};
 ghost use Rattle.crew_tagged.specs.Tagged.{link_of};
 ghost use Rattle.crew_laws.specs.Laws.{GoesOn};
-ghost use Rattle.crew_worker.specs.Works.{AreTasks};
 ghost use Rattle.crew_tagged.specs.PoolChildren.{PoolCan};
 ghost use Rattle.crew_pool.specs.Pool.{AreAsBefore, AreSameLinks, PoolLeaves};
 
@@ -49,8 +48,7 @@ pub fn round_pool_some<
 ) -> PoolRound<I, O, K>
     requires desks { (vec_len desks ≡ vec_len links) × (0 < vec_len desks) × (vec_len desks ≤ 64) }
     requires can { PoolCan core.opening core.journal (map (λ l. link_of l.ear l.mouth) links.items) }
-    requires tasks { (core.opening.tasks ≡ tasks.now) × AreTasks tasks.now }
-    requires folder { has_newline setup.now.work ≡ false }
+    requires run { CanRunTasks core.opening tasks.now setup.now }
     ensures round { IfDone result.outcome (GoesOn core.journal result.core.journal
         (λ rest. PoolLeaves core.opening setup.now (range_with_len 1 (1 + vec_len desks)) core.journal rest
         (map (λ l. link_of l.ear l.mouth) links.items) (map (λ l. link_of l.ear l.mouth) result.links.items) (map K.told desks.items) (map K.told result.desks.items))) }
@@ -112,8 +110,7 @@ pub fn round_pool<
 ) -> PoolRound<I, O, K>
     requires desks { (vec_len desks ≡ vec_len links) × (0 < vec_len desks) × (vec_len desks ≤ 64) }
     requires can { PoolCan core.opening core.journal (map (λ l. link_of l.ear l.mouth) links.items) }
-    requires tasks { (core.opening.tasks ≡ tasks.now) × AreTasks tasks.now }
-    requires folder { has_newline setup.now.work ≡ false }
+    requires run { CanRunTasks core.opening tasks.now setup.now }
     ensures round { IfDone result.outcome (GoesOn core.journal result.core.journal
         (λ rest. PoolLeaves core.opening setup.now (range_with_len 1 (1 + vec_len desks)) core.journal rest
         (map (λ l. link_of l.ear l.mouth) links.items) (map (λ l. link_of l.ear l.mouth) result.links.items) (map K.told desks.items) (map K.told result.desks.items))) }

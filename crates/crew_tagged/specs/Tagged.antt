@@ -39,7 +39,7 @@ AreFresh h first (p ∷ ps) = (IsFresh h p × (p.number ≡ first)) × AreFresh 
 pub record MayPlay (h : HallValue Entry Opening) (tasks : List Task) (setup : Setup) (l : LinkValue) (passes : List CorePass) : Type 0 where
   pub fresh : AreFresh h 1 passes
   pub can : TaggedCan h.fixed h.start l
-  pub run : CanRunTasks h tasks setup
+  pub run : CanRunTasks h.fixed tasks setup
 
 -- one of the passes has seen that there is nothing more to do for the child
 pub record HasThrough (h : HallValue Entry Opening) (c : ℕ) (passes : List CorePass) : Type 0 where

@@ -1,13 +1,12 @@
 // A round over one child that its workers share.
-ghost use Rattle.std.specs.Prelude.{◌≡◌, ◌≤◌, ◌<◌, ◌+◌, false, map, vec_len};
+ghost use Rattle.std.specs.Prelude.{◌≡◌, ◌≤◌, ◌<◌, ◌+◌, map, vec_len};
 ghost use Rattle.std.specs.List.{range_with_len};
-ghost use Rattle.annex_model.specs.Lines.{has_newline};
 ghost use Rattle.crew_tagged.specs.TaggedRounds.{TaggedLeaves};
 ghost use Rattle.crew_tagged.specs.Outcomes.{IfDone, IfKept, LinkStays};
+ghost use Rattle.crew_tagged.specs.Roles.{CanRunTasks};
 ghost use Rattle.crew_tagged.specs.Tagged.{TaggedCan, link_of};
 ghost use Rattle.crew_laws.specs.Laws.{GoesOn};
 ghost use Rattle.child_link.specs.Moves.{IsSameLink};
-ghost use Rattle.crew_worker.specs.Works.{AreTasks};
 
 use crate::dealt::Site;
 use crate::outcome::Outcome;
@@ -57,8 +56,7 @@ pub fn round_tagged_some<
 ) -> TaggedRound<I, O, K>
     requires desks { (0 < vec_len desks) × (vec_len desks ≤ 64) }
     requires can { TaggedCan core.opening core.journal (link_of link.ear link.mouth) }
-    requires tasks { (core.opening.tasks ≡ tasks.now) × AreTasks tasks.now }
-    requires folder { has_newline setup.now.work ≡ false }
+    requires run { CanRunTasks core.opening tasks.now setup.now }
     ensures round { IfDone result.outcome (GoesOn core.journal result.core.journal
         (λ rest. TaggedLeaves core.opening setup.now (range_with_len 1 (3 + vec_len desks)) core.journal rest (link_of result.link.ear result.link.mouth)
         (map K.told desks.items) (map K.told result.desks.items))) }
@@ -122,8 +120,7 @@ pub fn round_tagged<
 ) -> TaggedRound<I, O, K>
     requires desks { (0 < vec_len desks) × (vec_len desks ≤ 64) }
     requires can { TaggedCan core.opening core.journal (link_of link.ear link.mouth) }
-    requires tasks { (core.opening.tasks ≡ tasks.now) × AreTasks tasks.now }
-    requires folder { has_newline setup.now.work ≡ false }
+    requires run { CanRunTasks core.opening tasks.now setup.now }
     ensures round { IfDone result.outcome (GoesOn core.journal result.core.journal
         (λ rest. TaggedLeaves core.opening setup.now (range_with_len 1 (3 + vec_len desks)) core.journal rest (link_of result.link.ear result.link.mouth)
         (map K.told desks.items) (map K.told result.desks.items))) }

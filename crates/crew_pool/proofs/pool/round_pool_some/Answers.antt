@@ -1,9 +1,10 @@
-use Rattle.std.proofs.Common.{List, refl, ap, subst, sym, ◌∙◌, arith}
+use Rattle.std.proofs.Common.{List, refl, subst, sym, ◌∙◌, arith}
 use Rattle.std.specs.Prelude.{map}
 use Rattle.std.proofs.lemmas.List.{length-map}
 use Rattle.journal_model.specs.declared.entry.Entry.{Entry}
 use Rattle.journal_model.specs.declared.opening.Opening.{Opening}
 use Rattle.crew_tagged.specs.PoolChildren.{PoolCan}
+use Rattle.crew_tagged.specs.Roles.{CanRunTasks}
 use Rattle.crew_tagged.specs.Tagged.{link_of}
 use Rattle.crew_tagged.proofs.Closing.{closes_kept, fresh_from}
 use Rattle.crew_pool.specs.Pool.{AreAsBefore}
@@ -18,7 +19,7 @@ play-kit-requires-clause-may g c κs within =
     record {
       fresh = fresh_from c.in-Ok.hall 1 c.in-Ok.passes.items b.passes.1 (λ k p there. (let it = b.fresh k p there in ((let is = it.0 in omega (arith, is)), it.1)));
       can = subst (λ (o : Opening). PoolCan o c.in-Ok.hall.start links) (sym b.hall.2) (subst (λ (j : List Entry). PoolCan c.args.core.opening j links) (sym b.hall.1) c.requires.can);
-      run = record { tasks_are = ap (λ (o : Opening). o.tasks) b.hall.2 ∙ c.requires.tasks.0; spelled = c.requires.tasks.1; folder = c.requires.folder };
+      run = subst (λ (o : Opening). CanRunTasks o c.args.tasks.now c.args.setup.now) (sym b.hall.2) c.requires.run;
     }
 
 pub returns-in-Ok-clause-round : goal.returns-in-Ok-clause-round
