@@ -41,7 +41,7 @@ jobs_asked {n = n} {a = a} {new = new} c t name q v (inl s) =
 jobs_asked c t name q v (inr s) = moved_by s (rw (same c, same t) refl) (λ none u. u)
 
 -- by what the request came to, where nothing was made without memory
-module _ (o : Opening) (n t : ℕ) (a : Bool) (old new : List Entry) (c : ℕ) (name : Option (List ℕ)) (q : HostMessage) {Known : ℕ → Type 0} where
+module _ (o : Opening) (n t : ℕ) (a : Bool) (old new : List Entry) (c : ℕ) (name : Option (List ℕ)) (q : HostMessage) (Known : ℕ → Type 0) where
   pub asked_as : (result : Result Verdict NoMemory) → AtTask o n t old → Legal o new → IfOk result (HasAsked o n a never old new c t name q Known) → OnErr result (Passed n a old new)
       → AskedFor o n t old new name q result
   asked_as (Ok v) at legal has none = asked o n t c name q v (never_untasked t) at legal has
