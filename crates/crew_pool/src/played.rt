@@ -53,8 +53,10 @@ fn rooms<'a, I: Sink + Drop, O: Source + Drop, K: Desk + Drop, R: Wait>(
     ensures { IfSome result (λ r. (r.0 ≡ seats) × IsRoomFor seats r.1) }
 {
     let room = Room::new(alloc, seats)?;
-    let workers = Vec::with_capacity(alloc, seats).ok()?;
-    Some((room, workers))
+    match Vec::with_capacity(alloc, seats) {
+        Ok(workers) => Some((room, workers)),
+        Err(_) => None,
+    }
 }
 
 // Makes the workers.

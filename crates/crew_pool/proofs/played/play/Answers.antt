@@ -33,17 +33,20 @@ run_workers-backs-requires-clause-can g c κs within =
     c.cast-workers.result.0.items c.args.kit.links.items k.links k.placed c.requires.may.can.each)
     fresh.1
 
-pub gather-requires-clause-rooms : goal.gather-requires-clause-rooms
-gather-requires-clause-rooms g c =
+pub gather-requires : goal.gather-requires
+gather-requires g c =
     let k = c.cast-workers.ensures in
     let same = pairwise_length _ _ _ c.run_workers-backs.ensures in
     let passes = k.rooms.0 in
     let links = k.rooms.1 in
-    let desks = k.rooms.2 in (
-      record { none = passes.none; room = omega (arith, same, passes.room, c.cast-workers.result.0.ok.0, c.run_workers-backs.result.0.ok.0) },
-      record { none = links.none; room = omega (arith, same, links.room, c.cast-workers.result.0.ok.0, c.run_workers-backs.result.0.ok.0) },
-      record { none = desks.none; room = omega (arith, same, desks.room, c.cast-workers.result.0.ok.0, c.run_workers-backs.result.0.ok.0) },
-    )
+    let desks = k.rooms.2 in
+    record {
+      rooms = (
+        record { none = passes.none; room = omega (arith, same, passes.room, c.cast-workers.result.0.ok.0, c.run_workers-backs.result.0.ok.0) },
+        record { none = links.none; room = omega (arith, same, links.room, c.cast-workers.result.0.ok.0, c.run_workers-backs.result.0.ok.0) },
+        record { none = desks.none; room = omega (arith, same, desks.room, c.cast-workers.result.0.ok.0, c.run_workers-backs.result.0.ok.0) },
+      );
+    }
 
 pub returns : goal.returns
 returns g c =

@@ -57,15 +57,18 @@ run-crew-requires-clause-workers g c κs within =
     let fresh = subst (AreFresh c.args.site.now.hall.now 1) k.passes c.requires.fresh in
     may_work (λ w. w.hall.now) (λ w. w.number) (λ w. w.pass) (λ w. hand_of (g.K.Remote.calls w.remote) (g.K.Remote.settings w.remote)) c.args.site.now.hall.now c.cast-crew.result.0.workers.items k.workers.placed k.workers.numbers fresh.1.1
 
-pub gather-requires-clause-rooms : goal.gather-requires-clause-rooms
-gather-requires-clause-rooms g c =
+pub gather-requires : goal.gather-requires
+gather-requires g c =
     let k = c.cast-crew.ensures in
     let same = pairwise_length _ _ _ c.run-crew.ensures.worked in
     let passes = k.rooms.0 in
-    let remotes = k.rooms.1 in (
-      record { none = passes.none; room = omega (arith, same, passes.room, c.cast-crew.result.0.workers.ok.0, c.run-crew.result.workers.ok.0) },
-      record { none = remotes.none; room = omega (arith, same, remotes.room, c.cast-crew.result.0.workers.ok.0, c.run-crew.result.workers.ok.0) },
-    )
+    let remotes = k.rooms.1 in
+    record {
+      rooms = (
+        record { none = passes.none; room = omega (arith, same, passes.room, c.cast-crew.result.0.workers.ok.0, c.run-crew.result.workers.ok.0) },
+        record { none = remotes.none; room = omega (arith, same, remotes.room, c.cast-crew.result.0.workers.ok.0, c.run-crew.result.workers.ok.0) },
+      );
+    }
 
 pub returns-clause-own : goal.returns-clause-own
 returns-clause-own g c =
