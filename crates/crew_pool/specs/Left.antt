@@ -15,7 +15,10 @@ use Rattle.crew_tagged.specs.Coming.{IsFresh}
 use Rattle.crew_tagged.specs.declared.outcome.Outcome.{Outcome}
 use Rattle.crew_tagged.specs.declared.outcome.Outcome.TheVariants.{Done, NoMemory, NoThreads}
 use Rattle.crew_threads.specs.declared.slot.Refused.{Refused}
+use Rattle.crew_tagged.specs.PoolChildren.{PoolCan}
+use Rattle.crew_tagged.specs.Roles.{CanRunTasks}
 use Rattle.crew_tagged.specs.Tagged.{AreFresh}
+use Rattle.task_text.specs.declared.task.Task.{Task}
 
 -- by whether a worker ran, and whether one got no thread
 abbrev pub done_if : Bool → Option Refused → Outcome
@@ -54,6 +57,13 @@ pub record IsThroughAt (h : HallValue Entry Opening) (ends : List LoneTells) : T
   pub end : LoneTells
   pub there : slice_get ends place ≡ Some end
   pub through : IsThrough h.fixed (seen_of end.pass) end.link.ear.child
+
+-- The workers of a round over these links may play by these passes: those of the hall's begin, where the round may begin and the tasks can
+-- be run.
+pub record MayPlay (h : HallValue Entry Opening) (tasks : List Task) (setup : Setup) (links : List LinkValue) (passes : List CorePass) : Type 0 where
+  pub fresh : AreFresh h 1 passes
+  pub can : PoolCan h.fixed h.start links
+  pub run : CanRunTasks h.fixed tasks setup
 
 -- The passes of the main thread, which has done nothing, and of the workers, their links and their desks, as they began and as
 -- they end.

@@ -1,30 +1,20 @@
 // The passes, links and desks of a round, dealt to its workers, and taken back.
-ghost use Rattle.std.specs.Prelude.{◌≡◌, ◌≤◌, ◌+◌, ◌++◌, [], All, map, reverse, vec_len, vec_capacity};
+ghost use Rattle.std.specs.Prelude.{◌≡◌, ◌≤◌, ◌+◌, ◌++◌, All, map, reverse, vec_len, vec_capacity};
+ghost use Rattle.crew_pool.specs.Sites.{IsAt};
 ghost use Rattle.crew_tagged.specs.Backs.{roles_of};
+ghost use Rattle.crew_threads.specs.Dealing.{Deals, DealsAll, IsRoomFor};
 
 use ann_outside::{Desk, Sink, Source};
 use child_link::Lone;
+use crew_shared::Site;
 use crew_tagged::Worker;
 use crew_threads::Back;
-use hall::{Hall, Pass};
+use hall::Pass;
 use host_core::Core;
-use std::alloc::Global;
 use std::sync::Wait;
-use task_model::Setup;
-use task_text::Task;
 
 /// A worker that has its child for itself.
 pub(crate) type LoneWorker<'a, I, O, K, R> = Worker<'a, Lone<I, O>, K, R>;
-
-/// What the workers of a round have in common.
-#[derive(Drop)]
-pub(crate) struct Site<'a, R: Wait> {
-    pub rt: &'a R,
-    pub alloc: Global,
-    pub hall: &'a Hall<Core>,
-    pub tasks: &'a [Task],
-    pub setup: &'a Setup,
-}
 
 // A worker at the site.
 fn worker_at<'a, I: Sink, O: Source, K: Desk + Drop, R: Wait>(
@@ -34,7 +24,7 @@ fn worker_at<'a, I: Sink, O: Source, K: Desk + Drop, R: Wait>(
     desk: K,
 ) -> LoneWorker<'a, I, O, K, R>
     ensures dealt { (result.pass ≡ pass) × (result.way ≡ link) × (result.desk ≡ desk) }
-    ensures placed { (result.hall.now ≡ site.now.hall.now) × (result.tasks.now ≡ site.now.tasks.now) × (result.setup.now ≡ site.now.setup.now) }
+    ensures placed { IsAt site.now result }
 {
     Worker {
         rt: site.rt,
@@ -56,16 +46,13 @@ pub(crate) fn deal<'a, I: Sink, O: Source, K: Desk + Drop, R: Wait>(
     desks: &mut Vec<K>,
     mut workers: Vec<LoneWorker<'a, I, O, K, R>>,
 ) -> Vec<LoneWorker<'a, I, O, K, R>>
-    requires empty { workers.items ≡ [] }
-    requires room { vec_len desks.old ≤ vec_capacity workers }
+    requires room { IsRoomFor (vec_len desks.old) workers }
     requires many { (vec_len links.old ≡ vec_len desks.old) × (vec_len desks.old ≤ vec_len passes.old) }
-    ensures passes { passes.old.items ≡ passes.new.items ++ map (λ w. w.pass) (reverse result.items) }
-    ensures links { links.old.items ≡ map (λ w. w.way) (reverse result.items) }
-    ensures desks { desks.old.items ≡ map (λ w. w.desk) (reverse result.items) }
-    ensures none { (links.new.items ≡ []) × (desks.new.items ≡ []) }
+    ensures passes { Deals passes.old passes.new (map (λ w. w.pass) (reverse result.items)) }
+    ensures links { DealsAll links.old links.new (map (λ w. w.way) (reverse result.items)) }
+    ensures desks { DealsAll desks.old desks.new (map (λ w. w.desk) (reverse result.items)) }
     ensures count { vec_len result ≡ vec_len desks.old }
-    ensures rooms { (vec_capacity passes.new ≡ vec_capacity passes.old) × (vec_capacity links.new ≡ vec_capacity links.old) × (vec_capacity desks.new ≡ vec_capacity desks.old) }
-    ensures placed { All (λ w. (w.hall.now ≡ site.now.hall.now) × (w.tasks.now ≡ site.now.tasks.now) × (w.setup.now ≡ site.now.setup.now)) result.items }
+    ensures placed { All (IsAt site.now) result.items }
 {
     'deals: while let Some(desk) = desks.pop() {
         let Some(pass) = passes.pop() else {

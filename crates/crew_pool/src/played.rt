@@ -1,20 +1,20 @@
 // The workers of a round over a pool: they are made, run in threads and taken apart again.
-ghost use Rattle.std.specs.Prelude.{◌≡◌, ◌≤◌, ◌+◌, [], ◌∷◌, false, All, IfSome, length, map, reverse, vec_len, vec_capacity};
-ghost use Rattle.annex_model.specs.Lines.{has_newline};
+ghost use Rattle.std.specs.Prelude.{◌≡◌, ◌≤◌, ◌+◌, ◌∷◌, All, IfSome, length, map, reverse, vec_len};
 ghost use Rattle.std.specs.List.{list_any};
 ghost use Rattle.crew_threads.specs.BackRole.{has_run};
+ghost use Rattle.crew_threads.specs.Dealing.{IsRoomFor};
 ghost use Rattle.crew_tagged.specs.Backs.{roles_of};
 ghost use Rattle.crew_tagged.specs.Outcomes.{IfDone, IfKept};
-ghost use Rattle.crew_tagged.specs.Tagged.{AreFresh, link_of};
+ghost use Rattle.crew_tagged.specs.Tagged.{link_of};
 ghost use Rattle.hall.specs.Passes.{IsPassOf};
-ghost use Rattle.crew_worker.specs.Works.{AreTasks};
-ghost use Rattle.crew_pool.specs.Left.{PoolLeft, done_if};
-ghost use Rattle.crew_tagged.specs.PoolChildren.{PoolCan};
+ghost use Rattle.crew_pool.specs.Left.{MayPlay, PoolLeft, done_if};
 ghost use Rattle.crew_pool.specs.Pool.{AreAsBefore, AreSameLinks};
+ghost use Rattle.crew_pool.specs.Sites.{IsAt};
 
-use crate::dealt::{LoneWorker, Site, deal, take_back};
+use crate::dealt::{LoneWorker, deal, take_back};
 use ann_outside::{Desk, Sink, Source};
 use child_link::Lone;
+use crew_shared::Site;
 use crew_tagged::Outcome;
 use crew_threads::{Back, Refused, Room, any_ran, run_workers};
 use hall::Pass;
@@ -50,7 +50,7 @@ fn rooms<'a, I: Sink + Drop, O: Source + Drop, K: Desk + Drop, R: Wait>(
     alloc: Global,
     seats: usize,
 ) -> Option<Rooms<'a, I, O, K, R>>
-    ensures { IfSome result (λ r. (r.0 ≡ seats) × (r.1.items ≡ []) × (seats ≤ vec_capacity r.1)) }
+    ensures { IfSome result (λ r. (r.0 ≡ seats) × IsRoomFor seats r.1) }
 {
     let room = Room::new(alloc, seats)?;
     match Vec::with_capacity(alloc, seats) {
@@ -65,16 +65,13 @@ fn cast<'a, I: Sink, O: Source, K: Desk + Drop, R: Wait>(
     kit: Kit<I, O, K>,
     workers: Workers<'a, I, O, K, R>,
 ) -> (Workers<'a, I, O, K, R>, Rest<I, O, K>)
-    requires empty { workers.items ≡ [] }
-    requires room { vec_len kit.desks ≤ vec_capacity workers }
-    requires many { (vec_len kit.links ≡ vec_len kit.desks) × (vec_len kit.passes ≡ 1 + vec_len kit.desks) }
+    requires room { IsRoomFor (vec_len kit.desks) workers × (vec_len kit.links ≡ vec_len kit.desks) × (vec_len kit.passes ≡ 1 + vec_len kit.desks) }
     ensures passes { kit.passes.items ≡ result.1.main ∷ map (λ w. w.pass) (reverse result.0.items) }
     ensures links { kit.links.items ≡ map (λ w. w.way) (reverse result.0.items) }
     ensures desks { kit.desks.items ≡ map (λ w. w.desk) (reverse result.0.items) }
-    ensures placed { All (λ w. (w.hall.now ≡ site.now.hall.now) × (w.tasks.now ≡ site.now.tasks.now) × (w.setup.now ≡ site.now.setup.now)) result.0.items }
-    ensures none { (result.1.room.passes.items ≡ []) × (result.1.room.links.items ≡ []) × (result.1.room.desks.items ≡ []) }
+    ensures placed { All (IsAt site.now) result.0.items }
     ensures count { vec_len result.0 ≡ vec_len kit.desks }
-    ensures rooms { (1 + vec_len result.0 ≤ vec_capacity result.1.room.passes) × (vec_len result.0 ≤ vec_capacity result.1.room.links) × (vec_len result.0 ≤ vec_capacity result.1.room.desks) }
+    ensures rooms { IsRoomFor (1 + vec_len result.0) result.1.room.passes × IsRoomFor (vec_len result.0) result.1.room.links × IsRoomFor (vec_len result.0) result.1.room.desks }
 {
     let Kit {
         mut passes,
@@ -98,8 +95,7 @@ fn gather<'a, I: Sink + Drop, O: Source + Drop, K: Desk + Drop, R: Wait>(
     backs: Backs<'a, I, O, K, R>,
     rest: Rest<I, O, K>,
 ) -> Kit<I, O, K>
-    requires none { (rest.room.passes.items ≡ []) × (rest.room.links.items ≡ []) × (rest.room.desks.items ≡ []) }
-    requires rooms { (1 + vec_len backs ≤ vec_capacity rest.room.passes) × (vec_len backs ≤ vec_capacity rest.room.links) × (vec_len backs ≤ vec_capacity rest.room.desks) }
+    requires rooms { IsRoomFor (1 + vec_len backs) rest.room.passes × IsRoomFor (vec_len backs) rest.room.links × IsRoomFor (vec_len backs) rest.room.desks }
     ensures passes { result.passes.items ≡ rest.main ∷ map (λ w. w.pass) (reverse (roles_of backs.entry.items)) }
     ensures links { result.links.items ≡ map (λ w. w.way) (reverse (roles_of backs.entry.items)) }
     ensures desks { result.desks.items ≡ map (λ w. w.desk) (reverse (roles_of backs.entry.items)) }
@@ -144,10 +140,7 @@ pub(crate) fn play<
     R: Threads + Wait + Sync,
 >(site: &Site<'a, R>, most: usize, kit: Kit<I, O, K>) -> (Kit<I, O, K>, Outcome)
     requires desks { (vec_len kit.links ≡ vec_len kit.desks) × (vec_len kit.desks ≤ 64) × (vec_len kit.passes ≡ 1 + vec_len kit.desks) }
-    requires fresh { AreFresh site.now.hall.now 1 kit.passes.items }
-    requires can { PoolCan site.now.hall.now.fixed site.now.hall.now.start (map (λ l. link_of l.ear l.mouth) kit.links.items) }
-    requires tasks { (site.now.hall.now.fixed.tasks ≡ site.now.tasks.now) × AreTasks site.now.tasks.now }
-    requires folder { has_newline site.now.setup.now.work ≡ false }
+    requires may { MayPlay site.now.hall.now site.now.tasks.now site.now.setup.now (map (λ l. link_of l.ear l.mouth) kit.links.items) kit.passes.items }
     ensures own { All (IsPassOf site.now.hall.now) result.0.passes.items × (length result.0.passes.items ≡ length kit.passes.items) }
     ensures left { IfDone result.1 (PoolLeft site.now.hall.now site.now.setup.now
         (map (λ l. link_of l.ear l.mouth) kit.links.items) (map (λ l. link_of l.ear l.mouth) result.0.links.items)

@@ -1,19 +1,18 @@
 // A round over a pool of children without tags, each with a worker of its own.
-ghost use Rattle.std.specs.Prelude.{◌≡◌, ◌≤◌, ◌<◌, ◌+◌, false, map, vec_len};
+ghost use Rattle.std.specs.Prelude.{◌≡◌, ◌≤◌, ◌<◌, ◌+◌, map, vec_len};
 ghost use Rattle.std.specs.List.{range_with_len};
-ghost use Rattle.annex_model.specs.Lines.{has_newline};
 ghost use Rattle.crew_tagged.specs.Outcomes.{IfDone, IfKept};
+ghost use Rattle.crew_tagged.specs.Roles.{CanRunTasks};
 ghost use Rattle.crew_tagged.specs.Tagged.{link_of};
 ghost use Rattle.crew_laws.specs.Laws.{GoesOn};
-ghost use Rattle.crew_worker.specs.Works.{AreTasks};
 ghost use Rattle.crew_tagged.specs.PoolChildren.{PoolCan};
 ghost use Rattle.crew_pool.specs.Pool.{AreAsBefore, AreSameLinks, PoolLeaves};
 
-use crate::dealt::Site;
 use crate::played::{Kit, play};
 use ann_outside::{Desk, Sink, Source};
 use child_link::Lone;
-use crew_tagged::Outcome;
+use crew_shared::Site;
+use crew_tagged::{Outcome, Starter};
 use hall::Hall;
 use host_core::Core;
 use std::alloc::Global;
@@ -32,17 +31,15 @@ pub struct PoolRound<I: Sink, O: Source, K: Drop> {
     pub outcome: Outcome,
 }
 
-/// Runs tasks over a pool of children, in threads of which it tries to start `most`: one worker's for each link, with the desk at
-/// its place.
+/// Runs tasks over a pool of children, in as many threads at most as the starter tries: one worker's for each link, with the desk
+/// at its place.
 pub fn round_pool_some<
     I: Sink + Send + Drop,
     O: Source + Send + Drop,
     K: Desk + Send + Drop,
     R: Threads + Wait + Sync,
 >(
-    rt: &R,
-    alloc: Global,
-    most: usize,
+    starter: &Starter<'_, R>,
     core: Core,
     tasks: &[Task],
     setup: &Setup,
@@ -51,8 +48,7 @@ pub fn round_pool_some<
 ) -> PoolRound<I, O, K>
     requires desks { (vec_len desks ≡ vec_len links) × (0 < vec_len desks) × (vec_len desks ≤ 64) }
     requires can { PoolCan core.opening core.journal (map (λ l. link_of l.ear l.mouth) links.items) }
-    requires tasks { (core.opening.tasks ≡ tasks.now) × AreTasks tasks.now }
-    requires folder { has_newline setup.now.work ≡ false }
+    requires run { CanRunTasks core.opening tasks.now setup.now }
     ensures round { IfDone result.outcome (GoesOn core.journal result.core.journal
         (λ rest. PoolLeaves core.opening setup.now (range_with_len 1 (1 + vec_len desks)) core.journal rest
         (map (λ l. link_of l.ear l.mouth) links.items) (map (λ l. link_of l.ear l.mouth) result.links.items) (map K.told desks.items) (map K.told result.desks.items))) }
@@ -61,7 +57,7 @@ pub fn round_pool_some<
     ensures same { AreSameLinks (map (λ l. link_of l.ear l.mouth) links.items) (map (λ l. link_of l.ear l.mouth) result.links.items) × (vec_len result.desks ≡ vec_len desks) }
 {
     let seats = desks.len() as u32 + 1;
-    match Hall::begin(alloc, core, seats) {
+    match Hall::begin(starter.alloc, core, seats) {
         Err(core) => PoolRound {
             core,
             links,
@@ -70,8 +66,8 @@ pub fn round_pool_some<
         },
         Ok((hall, passes)) => {
             let site = Site {
-                rt,
-                alloc,
+                rt: starter.rt,
+                alloc: starter.alloc,
                 hall: &hall,
                 tasks,
                 setup,
@@ -81,7 +77,7 @@ pub fn round_pool_some<
                 links,
                 desks,
             };
-            let (kit, outcome) = play(&site, most, kit);
+            let (kit, outcome) = play(&site, starter.most, kit);
             let Kit {
                 passes,
                 links,
@@ -114,8 +110,7 @@ pub fn round_pool<
 ) -> PoolRound<I, O, K>
     requires desks { (vec_len desks ≡ vec_len links) × (0 < vec_len desks) × (vec_len desks ≤ 64) }
     requires can { PoolCan core.opening core.journal (map (λ l. link_of l.ear l.mouth) links.items) }
-    requires tasks { (core.opening.tasks ≡ tasks.now) × AreTasks tasks.now }
-    requires folder { has_newline setup.now.work ≡ false }
+    requires run { CanRunTasks core.opening tasks.now setup.now }
     ensures round { IfDone result.outcome (GoesOn core.journal result.core.journal
         (λ rest. PoolLeaves core.opening setup.now (range_with_len 1 (1 + vec_len desks)) core.journal rest
         (map (λ l. link_of l.ear l.mouth) links.items) (map (λ l. link_of l.ear l.mouth) result.links.items) (map K.told desks.items) (map K.told result.desks.items))) }
@@ -123,5 +118,10 @@ pub fn round_pool<
     ensures opening { result.core.opening ≡ core.opening }
     ensures same { AreSameLinks (map (λ l. link_of l.ear l.mouth) links.items) (map (λ l. link_of l.ear l.mouth) result.links.items) × (vec_len result.desks ≡ vec_len desks) }
 {
-    round_pool_some(rt, alloc, usize::MAX, core, tasks, setup, links, desks)
+    let starter = Starter {
+        rt,
+        alloc,
+        most: usize::MAX,
+    };
+    round_pool_some(&starter, core, tasks, setup, links, desks)
 }

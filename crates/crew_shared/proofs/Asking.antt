@@ -1,5 +1,5 @@
 -- What a request of a task adds, over a child that others read and write.
-use Rattle.std.proofs.Common.{◌≡◌, ℕ, List, refl, subst, Bool, true, Option, Some, None, inl, inr}
+use Rattle.std.proofs.Common.{◌≡◌, ℕ, List, refl, subst, Bool, true, Option, Some, None, inl, inr, Ok, Err, IfOk, OnErr}
 use Rattle.std.specs.List.{list_all}
 use Rattle.std.specs.Prelude.{Result}
 use Rattle.ann_key.specs.declared.bytes.NoMemory.{NoMemory}
@@ -9,13 +9,17 @@ use Rattle.journal_model.specs.declared.entry.What.{What}
 use Rattle.journal_model.specs.declared.entry.What.TheVariants.{Note}
 use Rattle.journal_model.specs.declared.entry.Entry.{Entry}
 use Rattle.journal_model.specs.declared.opening.Opening.{Opening}
+use Rattle.journal_model.specs.Legality.{Legal}
 use Rattle.journal_model.specs.Shares.{Moved, is_of_child}
 use Rattle.host_core.specs.Steps.{asking}
 use Rattle.child_link.specs.Asks.{Grows, HasAsked, never}
+use Rattle.child_link.specs.Doors.{Passed}
+use Rattle.child_link.proofs.Asking.{grows_on}
 use Rattle.child_link.proofs.Roles.{moved_both, moved_by, moved_wider}
 use Rattle.crew_worker.specs.AtTasks.{AtTask, AskedFor}
 use Rattle.crew_worker.specs.KnownLayouts.{IsBook}
 use Rattle.crew_worker.specs.Noting.{by_noting}
+use Rattle.crew_worker.proofs.Pairs.{asked, never_untasked, passed}
 use Rattle.crew_worker.proofs.Serving.{at_asked}
 use Rattle.crew_worker.specs.Servings.{by_jobs}
 use Rattle.crew_shared.specs.Jobs.{JobsOn}
@@ -35,6 +39,17 @@ jobs_asked {n = n} {a = a} {new = new} c t name q v (inl s) =
     let k : Moved n a (by_jobs c t) (is_of_child c) s.mid new (Unit {0}) (Unit {0}) = moved_wider (never_jobs c t) (λ w h. h) s.on (λ own k u. u) in
     moved_both refl refl (moved_by s.asked (jobs_asks s.asked.past c t q name) (λ none u. u)) record { more = k.more; is = k.is; own = k.own; lone = k.lone; kept = λ h u. u }
 jobs_asked c t name q v (inr s) = moved_by s (rw (same c, same t) refl) (λ none u. u)
+
+-- by what the request came to, where nothing was made without memory
+module _ (o : Opening) (n t : ℕ) (a : Bool) (old new : List Entry) (c : ℕ) (name : Option (List ℕ)) (q : HostMessage) (Known : ℕ → Type 0) where
+  pub asked_as : (result : Result Verdict NoMemory) → AtTask o n t old → Legal o new → IfOk result (HasAsked o n a never old new c t name q Known) → OnErr result (Passed n a old new)
+      → AskedFor o n t old new name q result
+  asked_as (Ok v) at legal has none = asked o n t c name q v (never_untasked t) at legal has
+  asked_as (Err e) at legal has none = passed o n t at legal none
+
+  pub grows_as : (result : Result Verdict NoMemory) → IfOk result (HasAsked o n a never old new c t name q Known) → OnErr result (Passed n a old new) → Grows n a (by_jobs c t) old new
+  grows_as (Ok v) has none = jobs_asked c t name q v has
+  grows_as (Err e) has none = grows_on none
 
 note_jobs : (c t : ℕ) (w : What) → by_noting t w ≡ true → by_jobs c t w ≡ true
 note_jobs c t (Note task chunk count) h = h

@@ -33,10 +33,7 @@ fn ask_for<D: Door, R: Wait>(
     ensures grows { Grows (D.view door.old).number (D.view door.old).alone (by_jobs child task) (D.view door.old).seen (D.view door.new).seen }
     ensures door { IsSameDoor (D.view door.old) (D.view door.new) }
 {
-    match ask_job(rt, alloc, door, child, task, request) {
-        Ok(verdict) => Ok(verdict),
-        Err(NoMemory) => Err(NoMemory),
-    }
+    ask_job(rt, alloc, door, child, task, request)
 }
 
 /// Asks for one task over a child that other threads read and write. It waits for each verdict.

@@ -8,6 +8,6 @@ mod turns;
 mod way;
 
 pub use job_asker::JobAsker;
-pub use passes::run_worker;
+pub use passes::{Site, run_worker};
 pub use turns::work;
 pub use way::Shared;

@@ -280,7 +280,7 @@ may_hold h h₀ p c is fresh started =
     subst (λ x. CanHold x p c) (sym is) (record { pass = fresh.pass; started = subst (λ (l : List Entry). is_started l c ≡ true) (fresh_seen h p fresh) started })
 
 pub may_work : (h h₀ : HallValue Entry Opening) (p : CorePass) (tasks tasks₀ : List Task) (setup setup₀ : Setup) (c c₀ : ℕ) → h₀ ≡ h → tasks₀ ≡ tasks → setup₀ ≡ setup → c₀ ≡ c
-    → IsFresh h p → CanRunTasks h tasks setup → CanServe h.fixed c h.start → CanWork h₀ p tasks₀ setup₀ c₀
+    → IsFresh h p → CanRunTasks h.fixed tasks setup → CanServe h.fixed c h.start → CanWork h₀ p tasks₀ setup₀ c₀
 may_work h h₀ p tasks tasks₀ setup setup₀ c c₀ hall_is tasks_is setup_is child_is fresh run serves =
     subst (λ x. CanWork x p tasks₀ setup₀ c₀) (sym hall_is)
     (subst (λ x. CanWork h p x setup₀ c₀) (sym tasks_is)

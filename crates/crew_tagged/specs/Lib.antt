@@ -3,6 +3,7 @@ pub mod Outcomes
 pub mod Settled
 pub mod Tagged
 pub mod Roles
+pub mod Sites
 pub mod Crewing
 pub mod TaggedRounds
 pub mod Coming

@@ -42,14 +42,14 @@ pub record MouthRan (h : HallValue Entry Opening) (p q : CorePass) (m w : MouthV
   pub over : Says h.fixed p.number (seen_of q) (Fetch m.child) Over
 
 -- the tasks are the run's, which lines spell, and the folder's name has no line's end
-pub record CanRunTasks (h : HallValue Entry Opening) (tasks : List Task) (setup : Setup) : Type 0 where
-  pub tasks_are : h.fixed.tasks ≡ tasks
+pub record CanRunTasks (o : Opening) (tasks : List Task) (setup : Setup) : Type 0 where
+  pub tasks_are : o.tasks ≡ tasks
   pub spelled : AreTasks tasks
   pub folder : has_newline setup.work ≡ false
 
 pub record CanWork (h : HallValue Entry Opening) (p : CorePass) (tasks : List Task) (setup : Setup) (c : ℕ) : Type 0 where
   pub pass : IsPassOf h p
-  pub run : CanRunTasks h tasks setup
+  pub run : CanRunTasks h.fixed tasks setup
   pub can : CanServe h.fixed c (seen_of p)
 
 -- it worked until there was nothing more to do

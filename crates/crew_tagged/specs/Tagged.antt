@@ -10,9 +10,11 @@ use Rattle.crew_laws.specs.Tasks.{IsThrough}
 use Rattle.crew_laws.specs.Rounds.{CorePass, LinkValue, KeepsPost, EarEnds, MouthEnds, IsAtRest}
 use Rattle.crew_laws.specs.Laws.{MayBeginTagged}
 use Rattle.task_model.specs.declared.setup.Setup.{Setup}
+use Rattle.task_text.specs.declared.task.Task.{Task}
 use Rattle.crew_worker.specs.Works.{CanServe}
 use Rattle.crew_tagged.specs.Coming.{IsFresh}
 use Rattle.crew_tagged.specs.Crewing.{AllManned, WorkerTells}
+use Rattle.crew_tagged.specs.Roles.{CanRunTasks}
 use Rattle.crew_tagged.specs.TaggedRounds.{passes_of, desks_of}
 
 abbrev pub link_of : EarValue → MouthValue → LinkValue
@@ -31,6 +33,13 @@ pub record TaggedCan (o : Opening) (journal : List Entry) (l : LinkValue) : Type
 abbrev pub AreFresh : HallValue Entry Opening → ℕ → List CorePass → Type 0
 AreFresh h first [] = Unit {0}
 AreFresh h first (p ∷ ps) = (IsFresh h p × (p.number ≡ first)) × AreFresh h (first + 1) ps
+
+-- The roles of a round over this link may play by these passes: those of the hall's begin, where the round may begin and the tasks can be
+-- run.
+pub record MayPlay (h : HallValue Entry Opening) (tasks : List Task) (setup : Setup) (l : LinkValue) (passes : List CorePass) : Type 0 where
+  pub fresh : AreFresh h 1 passes
+  pub can : TaggedCan h.fixed h.start l
+  pub run : CanRunTasks h.fixed tasks setup
 
 -- one of the passes has seen that there is nothing more to do for the child
 pub record HasThrough (h : HallValue Entry Opening) (c : ℕ) (passes : List CorePass) : Type 0 where

@@ -1,6 +1,8 @@
 // The passes and desks of a round, dealt to its workers, and taken back.
-ghost use Rattle.std.specs.Prelude.{◌≡◌, ◌≤◌, ◌+◌, ◌++◌, [], All, map, reverse, vec_len, vec_capacity};
+ghost use Rattle.std.specs.Prelude.{◌≡◌, ◌≤◌, ◌+◌, ◌++◌, All, map, reverse, vec_len, vec_capacity};
 ghost use Rattle.crew_tagged.specs.Backs.{roles_of};
+ghost use Rattle.crew_tagged.specs.Sites.{IsAt};
+ghost use Rattle.crew_threads.specs.Dealing.{Deals, DealsAll, IsRoomFor};
 
 use crate::Worker;
 use ann_outside::Desk;
@@ -34,7 +36,7 @@ fn worker_at<'a, K: Desk + Drop, R: Wait>(
     desk: K,
 ) -> SharedWorker<'a, K, R>
     ensures dealt { (result.pass ≡ pass) × (result.desk ≡ desk) }
-    ensures placed { (result.hall.now ≡ site.now.hall.now) × (result.tasks.now ≡ site.now.tasks.now) × (result.setup.now ≡ site.now.setup.now) × (result.way.child ≡ site.now.child) }
+    ensures placed { IsAt site.now result }
 {
     Worker {
         rt: site.rt,
@@ -58,15 +60,12 @@ pub(crate) fn deal<'a, K: Desk + Drop, R: Wait>(
     desks: &mut Vec<K>,
     mut workers: Vec<SharedWorker<'a, K, R>>,
 ) -> Vec<SharedWorker<'a, K, R>>
-    requires empty { workers.items ≡ [] }
-    requires room { vec_len desks.old ≤ vec_capacity workers }
+    requires room { IsRoomFor (vec_len desks.old) workers }
     requires many { vec_len desks.old ≤ vec_len passes.old }
-    ensures passes { passes.old.items ≡ passes.new.items ++ map (λ w. w.pass) (reverse result.items) }
-    ensures desks { desks.old.items ≡ map (λ w. w.desk) (reverse result.items) }
-    ensures none { desks.new.items ≡ [] }
+    ensures passes { Deals passes.old passes.new (map (λ w. w.pass) (reverse result.items)) }
+    ensures desks { DealsAll desks.old desks.new (map (λ w. w.desk) (reverse result.items)) }
     ensures count { vec_len result ≡ vec_len desks.old }
-    ensures rooms { (vec_capacity desks.new ≡ vec_capacity desks.old) × (vec_capacity passes.new ≡ vec_capacity passes.old) }
-    ensures placed { All (λ w. (w.hall.now ≡ site.now.hall.now) × (w.tasks.now ≡ site.now.tasks.now) × (w.setup.now ≡ site.now.setup.now) × (w.way.child ≡ site.now.child)) result.items }
+    ensures placed { All (IsAt site.now) result.items }
 {
     'deals: while let Some(desk) = desks.pop() {
         let Some(pass) = passes.pop() else {

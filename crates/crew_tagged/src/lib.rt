@@ -13,5 +13,5 @@ mod worker;
 pub use ear::EarRole;
 pub use mouth::MouthRole;
 pub use outcome::Outcome;
-pub use tagged::{TaggedRound, round_tagged, round_tagged_some};
+pub use tagged::{Starter, TaggedRound, round_tagged, round_tagged_some};
 pub use worker::Worker;

@@ -1,18 +1,18 @@
 // The roles of a round over a child that its workers share: they are made, run in threads and taken apart again.
-ghost use Rattle.std.specs.Prelude.{◌≡◌, ◌≤◌, ◌+◌, ◌||◌, [], ◌∷◌, true, false, All, IfSome, length, map, reverse, vec_len, vec_capacity};
-ghost use Rattle.annex_model.specs.Lines.{has_newline};
+ghost use Rattle.std.specs.Prelude.{◌≡◌, ◌≤◌, ◌+◌, ◌||◌, ◌∷◌, true, false, All, IfSome, length, map, reverse, vec_len};
 ghost use Rattle.std.specs.List.{list_any};
 ghost use Rattle.crew_threads.specs.BackRole.{has_run, role_of};
+ghost use Rattle.crew_threads.specs.Dealing.{IsRoomFor};
 ghost use Rattle.crew_tagged.specs.Backs.{roles_of};
 ghost use Rattle.crew_tagged.specs.Outcomes.{IfDone, IfKept, LinkStays};
 ghost use Rattle.crew_tagged.specs.Settled.{Settles};
-ghost use Rattle.crew_tagged.specs.Tagged.{AreFresh, CrewLeft, TaggedCan, link_of};
+ghost use Rattle.crew_tagged.specs.Sites.{IsAt};
+ghost use Rattle.crew_tagged.specs.Tagged.{CrewLeft, MayPlay, link_of};
 ghost use Rattle.hall.specs.Passes.{IsPassOf, seen_of};
 ghost use Rattle.journal_model.specs.declared.verdict.Why.TheVariants.{Memory};
 ghost use Rattle.journal_model.specs.Journal.{is_ended, is_started};
 ghost use Rattle.child_link.specs.Doors.{Ends};
 ghost use Rattle.child_link.specs.Moves.{IsSameLink};
-ghost use Rattle.crew_worker.specs.Works.{AreTasks};
 
 use crate::dealt::{SharedWorker, Site, deal, take_back};
 use crate::outcome::Outcome;
@@ -57,7 +57,7 @@ type Rooms<'a, K, R> = (Room<SharedWorker<'a, K, R>>, Vec<SharedWorker<'a, K, R>
 
 // Room for so many workers.
 fn rooms<'a, K: Desk + Drop, R: Wait>(alloc: Global, seats: usize) -> Option<Rooms<'a, K, R>>
-    ensures { IfSome result (λ r. (r.0 ≡ seats) × (r.1.items ≡ []) × (seats ≤ vec_capacity r.1)) }
+    ensures { IfSome result (λ r. (r.0 ≡ seats) × IsRoomFor seats r.1) }
 {
     let room = Room::new(alloc, seats)?;
     let workers = Vec::with_capacity(alloc, seats).ok()?;
@@ -70,17 +70,13 @@ fn cast<'a, I: Sink, O: Source, K: Desk + Drop, R: Wait>(
     kit: Kit<I, O, K>,
     workers: Vec<SharedWorker<'a, K, R>>,
 ) -> (Roles<'a, I, O, K, R>, Rest<K>)
-    requires empty { workers.items ≡ [] }
-    requires room { vec_len kit.desks ≤ vec_capacity workers }
+    requires room { IsRoomFor (vec_len kit.desks) workers }
     requires many { vec_len kit.passes ≡ 3 + vec_len kit.desks }
     ensures passes { kit.passes.items ≡ result.1.main ∷ result.0.ear.pass ∷ result.0.mouth.pass ∷ map (λ w. w.pass) (reverse result.0.workers.items) }
     ensures desks { kit.desks.items ≡ map (λ w. w.desk) (reverse result.0.workers.items) }
     ensures link { (result.0.ear.ear ≡ kit.link.ear) × (result.0.mouth.mouth ≡ kit.link.mouth) }
-    ensures holders { (result.0.ear.hall.now ≡ site.now.hall.now) × (result.0.mouth.hall.now ≡ site.now.hall.now) }
-    ensures placed { All (λ w. (w.hall.now ≡ site.now.hall.now) × (w.tasks.now ≡ site.now.tasks.now) × (w.setup.now ≡ site.now.setup.now) × (w.way.child ≡ site.now.child))
-        result.0.workers.items }
-    ensures none { (result.1.passes.items ≡ []) × (result.1.desks.items ≡ []) }
-    ensures rooms { (3 + vec_len result.0.workers ≤ vec_capacity result.1.passes) × (vec_len result.0.workers ≤ vec_capacity result.1.desks) }
+    ensures placed { (result.0.ear.hall.now ≡ site.now.hall.now) × (result.0.mouth.hall.now ≡ site.now.hall.now) × All (IsAt site.now) result.0.workers.items }
+    ensures rooms { IsRoomFor (3 + vec_len result.0.workers) result.1.passes × IsRoomFor (vec_len result.0.workers) result.1.desks }
 {
     let Kit {
         mut passes,
@@ -125,8 +121,7 @@ fn gather<'a, I: Sink, O: Source, K: Desk + Drop, R: Wait>(
     rest: Rest<K>,
 ) -> Kit<I, O, K>
     requires one_child { (role_of backs.mouth).mouth.child ≡ (role_of backs.ear).ear.child }
-    requires none { (rest.passes.items ≡ []) × (rest.desks.items ≡ []) }
-    requires rooms { (3 + vec_len backs.workers ≤ vec_capacity rest.passes) × (vec_len backs.workers ≤ vec_capacity rest.desks) }
+    requires rooms { IsRoomFor (3 + vec_len backs.workers) rest.passes × IsRoomFor (vec_len backs.workers) rest.desks }
     ensures passes { result.passes.items ≡ rest.main ∷ (role_of backs.entry.ear).pass ∷ (role_of backs.entry.mouth).pass ∷ map (λ w. w.pass) (reverse (roles_of backs.entry.workers.items)) }
     ensures desks { result.desks.items ≡ map (λ w. w.desk) (reverse (roles_of backs.entry.workers.items)) }
     ensures link { (result.link.ear ≡ (role_of backs.entry.ear).ear) × (result.link.mouth ≡ (role_of backs.entry.mouth).mouth) }
@@ -208,11 +203,8 @@ pub(crate) fn play<
     R: Threads + Wait + Sync,
 >(site: &Site<'a, R>, most: usize, kit: Kit<I, O, K>) -> (Kit<I, O, K>, Outcome)
     requires desks { (vec_len kit.desks ≤ 64) × (vec_len kit.passes ≡ 3 + vec_len kit.desks) }
-    requires fresh { AreFresh site.now.hall.now 1 kit.passes.items }
     requires child { site.now.child ≡ kit.link.ear.child }
-    requires can { TaggedCan site.now.hall.now.fixed site.now.hall.now.start (link_of kit.link.ear kit.link.mouth) }
-    requires tasks { (site.now.hall.now.fixed.tasks ≡ site.now.tasks.now) × AreTasks site.now.tasks.now }
-    requires folder { has_newline site.now.setup.now.work ≡ false }
+    requires may { MayPlay site.now.hall.now site.now.tasks.now site.now.setup.now (link_of kit.link.ear kit.link.mouth) kit.passes.items }
     ensures own { All (IsPassOf site.now.hall.now) result.0.passes.items × (length result.0.passes.items ≡ length kit.passes.items) }
     ensures left { IfDone result.1 (CrewLeft site.now.hall.now site.now.setup.now kit.link.ear.child (link_of result.0.link.ear result.0.link.mouth)
         result.0.passes.items (map K.told kit.desks.items) (map K.told result.0.desks.items)) }

@@ -1,13 +1,12 @@
 // A round over one child that its workers share.
-ghost use Rattle.std.specs.Prelude.{◌≡◌, ◌≤◌, ◌<◌, ◌+◌, false, map, vec_len};
+ghost use Rattle.std.specs.Prelude.{◌≡◌, ◌≤◌, ◌<◌, ◌+◌, map, vec_len};
 ghost use Rattle.std.specs.List.{range_with_len};
-ghost use Rattle.annex_model.specs.Lines.{has_newline};
 ghost use Rattle.crew_tagged.specs.TaggedRounds.{TaggedLeaves};
 ghost use Rattle.crew_tagged.specs.Outcomes.{IfDone, IfKept, LinkStays};
+ghost use Rattle.crew_tagged.specs.Roles.{CanRunTasks};
 ghost use Rattle.crew_tagged.specs.Tagged.{TaggedCan, link_of};
 ghost use Rattle.crew_laws.specs.Laws.{GoesOn};
 ghost use Rattle.child_link.specs.Moves.{IsSameLink};
-ghost use Rattle.crew_worker.specs.Works.{AreTasks};
 
 use crate::dealt::Site;
 use crate::outcome::Outcome;
@@ -32,7 +31,15 @@ pub struct TaggedRound<I: Sink, O: Source, K: Drop> {
     pub outcome: Outcome,
 }
 
-/// Runs tasks over a tagged child, in threads of which it tries to start `most`: an ear's, a mouth's and one worker's for each
+/// Where the threads of a round are started, and how many of them are tried at most.
+#[derive(Drop)]
+pub struct Starter<'a, R: Threads + Wait> {
+    pub rt: &'a R,
+    pub alloc: Global,
+    pub most: usize,
+}
+
+/// Runs tasks over a tagged child, in as many threads at most as the starter tries: an ear's, a mouth's and one worker's for each
 /// desk.
 pub fn round_tagged_some<
     I: Sink + Send + Drop,
@@ -40,9 +47,7 @@ pub fn round_tagged_some<
     K: Desk + Send + Drop,
     R: Threads + Wait + Sync,
 >(
-    rt: &R,
-    alloc: Global,
-    most: usize,
+    starter: &Starter<'_, R>,
     core: Core,
     tasks: &[Task],
     setup: &Setup,
@@ -51,8 +56,7 @@ pub fn round_tagged_some<
 ) -> TaggedRound<I, O, K>
     requires desks { (0 < vec_len desks) × (vec_len desks ≤ 64) }
     requires can { TaggedCan core.opening core.journal (link_of link.ear link.mouth) }
-    requires tasks { (core.opening.tasks ≡ tasks.now) × AreTasks tasks.now }
-    requires folder { has_newline setup.now.work ≡ false }
+    requires run { CanRunTasks core.opening tasks.now setup.now }
     ensures round { IfDone result.outcome (GoesOn core.journal result.core.journal
         (λ rest. TaggedLeaves core.opening setup.now (range_with_len 1 (3 + vec_len desks)) core.journal rest (link_of result.link.ear result.link.mouth)
         (map K.told desks.items) (map K.told result.desks.items))) }
@@ -62,7 +66,7 @@ pub fn round_tagged_some<
 {
     let child = link.child();
     let seats = desks.len() as u32 + 3;
-    match Hall::begin(alloc, core, seats) {
+    match Hall::begin(starter.alloc, core, seats) {
         Err(core) => TaggedRound {
             core,
             link,
@@ -71,8 +75,8 @@ pub fn round_tagged_some<
         },
         Ok((hall, passes)) => {
             let site = Site {
-                rt,
-                alloc,
+                rt: starter.rt,
+                alloc: starter.alloc,
                 hall: &hall,
                 tasks,
                 setup,
@@ -83,7 +87,7 @@ pub fn round_tagged_some<
                 link,
                 desks,
             };
-            let (kit, outcome) = play(&site, most, kit);
+            let (kit, outcome) = play(&site, starter.most, kit);
             let Kit {
                 passes,
                 link,
@@ -116,8 +120,7 @@ pub fn round_tagged<
 ) -> TaggedRound<I, O, K>
     requires desks { (0 < vec_len desks) × (vec_len desks ≤ 64) }
     requires can { TaggedCan core.opening core.journal (link_of link.ear link.mouth) }
-    requires tasks { (core.opening.tasks ≡ tasks.now) × AreTasks tasks.now }
-    requires folder { has_newline setup.now.work ≡ false }
+    requires run { CanRunTasks core.opening tasks.now setup.now }
     ensures round { IfDone result.outcome (GoesOn core.journal result.core.journal
         (λ rest. TaggedLeaves core.opening setup.now (range_with_len 1 (3 + vec_len desks)) core.journal rest (link_of result.link.ear result.link.mouth)
         (map K.told desks.items) (map K.told result.desks.items))) }
@@ -125,5 +128,10 @@ pub fn round_tagged<
     ensures opening { result.core.opening ≡ core.opening }
     ensures same { IsSameLink link.ear result.link.ear link.mouth result.link.mouth }
 {
-    round_tagged_some(rt, alloc, usize::MAX, core, tasks, setup, link, desks)
+    let starter = Starter {
+        rt,
+        alloc,
+        most: usize::MAX,
+    };
+    round_tagged_some(&starter, core, tasks, setup, link, desks)
 }

@@ -1,6 +1,6 @@
 // A worker in a thread.
 use ann_outside::Desk;
-use crew_shared::run_worker;
+use crew_shared::{Site, run_worker};
 use crew_threads::Role;
 use crew_worker::Way;
 use hall::{Hall, Pass};
@@ -44,9 +44,14 @@ impl<'a, W: Way, K: Desk, R: Wait> Role for Worker<'a, W, K, R> {
             mut way,
             mut desk,
         } = self;
-        run_worker(
-            rt, alloc, hall, &mut pass, tasks, setup, &mut way, &mut desk,
-        );
+        let site = Site {
+            rt,
+            alloc,
+            hall,
+            tasks,
+            setup,
+        };
+        run_worker(&site, &mut pass, &mut way, &mut desk);
         Worker {
             rt,
             alloc,

@@ -1,6 +1,7 @@
 // The passes and the remotes of a kit, dealt to its workers, and taken back.
-ghost use Rattle.std.specs.Prelude.{◌≡◌, ◌≤◌, ◌<◌, ◌+◌, ◌^◌, ◌++◌, [], All, map, reverse, vec_len, vec_capacity};
-ghost use Rattle.kit_async.specs.Dealt.{AreNumbered};
+ghost use Rattle.std.specs.Prelude.{◌≡◌, ◌≤◌, ◌<◌, ◌+◌, ◌^◌, ◌++◌, map, reverse, vec_len, vec_capacity};
+ghost use Rattle.crew_threads.specs.Dealing.{Deals, DealsAll, IsRoomFor};
+ghost use Rattle.kit_async.specs.Dealt.{WorkersBegin};
 
 use crate::roles::Worker;
 use hall::{Hall, Pass};
@@ -43,17 +44,12 @@ pub(crate) fn deal<'a, K: Remote + Drop, R: Wait>(
     remotes: &mut Vec<K>,
     mut workers: Vec<Worker<'a, K, R>>,
 ) -> Vec<Worker<'a, K, R>>
-    requires empty { workers.items ≡ [] }
-    requires room { vec_len remotes.old ≤ vec_capacity workers }
-    requires many { vec_len remotes.old ≤ vec_len passes.old }
-    requires few { vec_len remotes.old < 2 ^ 32 }
-    ensures passes { passes.old.items ≡ passes.new.items ++ map (λ w. w.pass) (reverse result.items) }
-    ensures remotes { remotes.old.items ≡ map (λ w. w.remote) (reverse result.items) }
-    ensures none { remotes.new.items ≡ [] }
+    requires room { IsRoomFor (vec_len remotes.old) workers }
+    requires many { (vec_len remotes.old ≤ vec_len passes.old) × (vec_len remotes.old < 2 ^ 32) }
+    ensures passes { Deals passes.old passes.new (map (λ w. w.pass) (reverse result.items)) }
+    ensures remotes { DealsAll remotes.old remotes.new (map (λ w. w.remote) (reverse result.items)) }
     ensures count { vec_len result ≡ vec_len remotes.old }
-    ensures rooms { (vec_capacity remotes.new ≡ vec_capacity remotes.old) × (vec_capacity passes.new ≡ vec_capacity passes.old) }
-    ensures numbers { AreNumbered 0 (map (λ w. w.number) (reverse result.items)) }
-    ensures placed { All (λ w. w.hall.now ≡ site.now.hall.now) result.items }
+    ensures workers { WorkersBegin site.now.hall.now result.items }
 {
     'deals: while let Some(remote) = remotes.pop() {
         let Some(pass) = passes.pop() else {

@@ -1,13 +1,14 @@
 // The roles of a kit: they are made, run in threads or by the calling thread, and taken apart again.
 ghost use Rattle.std.specs.Prelude.{◌≡◌, ◌≤◌, ◌<◌, ◌+◌, ◌^◌, ◌++◌, ℕ, List, [], ◌∷◌, None, true, All, IfSome, length, map, reverse, vec_len, vec_capacity};
 ghost use Rattle.crew_threads.specs.BackRole.{role_of};
+ghost use Rattle.crew_threads.specs.Dealing.{IsRoomFor};
 ghost use Rattle.crew_laws.specs.Pairs.{Pairwise};
 ghost use Rattle.hall.specs.Passes.{IsPassOf};
 ghost use Rattle.kit_serve.specs.Limits.{longest_line};
 ghost use Rattle.kit_async_roles.specs.Passes.{Stands};
 ghost use Rattle.kit_async_roles.specs.Reading.{ear_of};
 ghost use Rattle.kit_async_roles.specs.Writing.{mouth_of};
-ghost use Rattle.kit_async.specs.Dealt.{AreFresh, AreNumbered};
+ghost use Rattle.kit_async.specs.Dealt.{AreFresh, ReaderBegins, WorkersBegin, WriterBegins};
 ghost use Rattle.kit_async.specs.Endings.{AllWorked, ReaderDid, WriterDid};
 ghost use Rattle.kit_async.specs.Turns.{ReaderGoes, ReaderRuns, WorkerGoes, WriterGoes, WriterRuns, hand_at};
 
@@ -58,7 +59,7 @@ type Rooms<'a, K, R> = (Room<Worker<'a, K, R>>, Workers<'a, K, R>, Workers<'a, K
 
 // Room for so many workers, and for what comes back of them.
 fn rooms<'a, K: Remote + Drop, R: Wait>(alloc: Global, seats: usize) -> Option<Rooms<'a, K, R>>
-    ensures { IfSome result (λ r. (r.0 ≡ seats) × (r.1.items ≡ []) × (seats ≤ vec_capacity r.1) × (r.2.items ≡ []) × (seats ≤ vec_capacity r.2)) }
+    ensures { IfSome result (λ r. (r.0 ≡ seats) × IsRoomFor seats r.1 × IsRoomFor seats r.2) }
 {
     let room = Room::new(alloc, seats)?;
     let workers = Vec::with_capacity(alloc, seats).ok()?;
@@ -72,17 +73,13 @@ fn cast<'a, K: Remote + Drop, S: Source, W: Sink, R: Wait>(
     kit: Kit<K, S, W>,
     workers: Workers<'a, K, R>,
 ) -> (Roles<'a, K, S, W, R>, Rest<K>)
-    requires empty { workers.items ≡ [] }
-    requires room { vec_len kit.remotes ≤ vec_capacity workers }
-    requires many { (vec_len kit.passes ≡ 2 + vec_len kit.remotes) × (vec_len kit.remotes < 2 ^ 32) }
+    requires room { IsRoomFor (vec_len kit.remotes) workers × (vec_len kit.passes ≡ 2 + vec_len kit.remotes) × (vec_len kit.remotes < 2 ^ 32) }
     ensures passes { kit.passes.items ≡ result.0.ear.pass ∷ result.0.mouth.pass ∷ map (λ w. w.pass) (reverse result.0.workers.items) }
     ensures remotes { kit.remotes.items ≡ map (λ w. w.remote) (reverse result.0.workers.items) }
-    ensures reader { (result.0.ear.source ≡ kit.source) × (result.0.ear.splitter.bytes ≡ []) × (result.0.ear.splitter.limit ≡ longest_line) × (result.0.ear.why ≡ None) }
-    ensures writer { (result.0.mouth.sink ≡ kit.sink) × (result.0.mouth.why ≡ None) }
-    ensures holders { (result.0.ear.hall.now ≡ site.now.hall.now) × (result.0.mouth.hall.now ≡ site.now.hall.now) × All (λ w. w.hall.now ≡ site.now.hall.now) result.0.workers.items }
-    ensures numbers { AreNumbered 0 (map (λ w. w.number) (reverse result.0.workers.items)) }
-    ensures none { (result.1.passes.items ≡ []) × (result.1.remotes.items ≡ []) }
-    ensures rooms { (2 + vec_len result.0.workers ≤ vec_capacity result.1.passes) × (vec_len result.0.workers ≤ vec_capacity result.1.remotes) }
+    ensures reader { ReaderBegins site.now.hall.now kit.source result.0.ear }
+    ensures writer { WriterBegins site.now.hall.now kit.sink result.0.mouth }
+    ensures workers { WorkersBegin site.now.hall.now result.0.workers.items }
+    ensures rooms { IsRoomFor (2 + vec_len result.0.workers) result.1.passes × IsRoomFor (vec_len result.0.workers) result.1.remotes }
 {
     let Kit {
         mut passes,
@@ -166,8 +163,7 @@ fn run<
     backs: Workers<'a, K, R>,
     crew: Roles<'a, K, S, W, R>,
 ) -> Roles<'a, K, S, W, R>
-    requires few { (vec_len crew.workers < 1000) × (vec_len crew.workers ≤ room) }
-    requires backs { (backs.items ≡ []) × (vec_len crew.workers ≤ vec_capacity backs) }
+    requires room { (vec_len crew.workers < 1000) × (vec_len crew.workers ≤ room) × IsRoomFor (vec_len crew.workers) backs }
     requires reader { Stands crew.ear.hall.now 1 crew.ear.pass × ((S.told crew.ear.source).is_open ≡ true) × (crew.ear.splitter.limit ≡ longest_line) × (crew.ear.why ≡ None) }
     requires writer { Stands crew.mouth.hall.now 2 crew.mouth.pass × ((W.told crew.mouth.sink).is_open ≡ true) × (crew.mouth.why ≡ None) }
     requires workers { All (λ w. Stands w.hall.now (w.number + 3) w.pass) crew.workers.items }
@@ -197,8 +193,7 @@ fn gather<'a, K: Remote + Drop, S: Source + Drop, W: Sink + Drop, R: Wait>(
     crew: Roles<'a, K, S, W, R>,
     rest: Rest<K>,
 ) -> (Kit<K, S, W>, RoleEnds)
-    requires none { (rest.passes.items ≡ []) × (rest.remotes.items ≡ []) }
-    requires rooms { (2 + vec_len crew.workers ≤ vec_capacity rest.passes) × (vec_len crew.workers ≤ vec_capacity rest.remotes) }
+    requires rooms { IsRoomFor (2 + vec_len crew.workers) rest.passes × IsRoomFor (vec_len crew.workers) rest.remotes }
     ensures passes { result.0.passes.items ≡ crew.entry.ear.pass ∷ crew.entry.mouth.pass ∷ map (λ w. w.pass) (reverse crew.entry.workers.items) }
     ensures remotes { result.0.remotes.items ≡ map (λ w. w.remote) (reverse crew.entry.workers.items) }
     ensures ends { (result.0.source ≡ crew.entry.ear.source) × (result.0.sink ≡ crew.entry.mouth.sink) × (result.1.read ≡ crew.entry.ear.why) × (result.1.wrote ≡ crew.entry.mouth.why) }

@@ -6,7 +6,7 @@ use Rattle.ann_outside.specs.Told.{SinkTold, SourceTold}
 use Rattle.wire_line.specs.HeldBytes.{has_line, TakesPiece}
 use Rattle.kit_serve.specs.Limits.{longest_line, read_size}
 use Rattle.kit_serve.specs.declared.end.End.{End}
-use Rattle.kit_serve.specs.declared.end.End.TheVariants.{Eof}
+use Rattle.kit_serve.specs.declared.end.End.TheVariants.{Eof, ReadFault}
 
 -- the piece that was read is told and is held. It is empty only where the reading ended
 pub record ReadsOn {T : Type 0} (given given' : Option (List ℕ)) (held held' : List ℕ) (result : Result T End) : Type 0 where
@@ -65,3 +65,17 @@ pub record Leaves (old new : Half) (fault : Type 0) : Type 0 where
 -- the end of the host's lines comes only where the source has nothing left
 abbrev pub IsSpent : Option End → Option (List ℕ) → Type 0
 IsSpent end left = end ≡ Some Eof → IfSome left (λ bytes. bytes ≡ [])
+
+-- So a source is left by what came to this end, or to none.
+pub record LeavesSource (old new : SourceTold) (end : Option End) : Type 0 where
+  pub spent : IsSpent end new.left
+  pub leaves : Leaves (source_half old) (source_half new) (end ≡ Some ReadFault)
+
+-- ---- where a turn may be taken
+
+-- The source and the sink are open, a host's line may be so long, the voice isn't over, and all that the sink took was handed on.
+pub record MayTurn (source : SourceTold) (sink : SinkTold) (is_flushed is_over : Bool) (longest : ℕ) : Type 0 where
+  pub opened : (source.is_open ≡ true) × (sink.is_open ≡ true)
+  pub limit : longest ≡ longest_line
+  pub live : is_over ≡ false
+  pub flushed : is_flushed ≡ true

@@ -1,12 +1,9 @@
-ghost use Rattle.std.specs.Prelude.{◌≡◌, ◌≤◌, ◌⊎◌, ◌<◌, ◌+◌, [], ℕ, List, not, true, false, IsTrue, None, Some, Err, OnOk, OnErr, IfErr, IfSome};
-ghost use Rattle.std.specs.Io.KnownBytes.{Appends};
+ghost use Rattle.std.specs.Prelude.{◌≡◌, ◌+◌, [], ℕ, true, false, Some, Err, OnOk, IfErr, IfSome};
 ghost use Rattle.annex_model.specs.Lines.{has_newline};
-ghost use Rattle.ann_outside.specs.Causes.{Rose};
-ghost use Rattle.kit_core.specs.Stages.{is_last, Follows};
 ghost use Rattle.kit_serve.specs.Limits.{longest_line, read_size};
 ghost use Rattle.kit_serve.specs.declared.end.End.TheVariants.{Eof, Bad, ReadFault, WriteFault, Memory};
 ghost use Rattle.kit_serve.specs.Sessions.{Serves, told_of};
-ghost use Rattle.kit_serve.specs.Turns.{end_of, sink_half, source_half, IsSpent, Leaves, ReadsOn, ReadsOnce, Turned, streams_of};
+ghost use Rattle.kit_serve.specs.Turns.{end_of, sink_half, source_half, Leaves, LeavesSource, MayTurn, ReadsOn, ReadsOnce, Turned, streams_of};
 ghost use Rattle.kit_serve.specs.Voices.{bytes_of, Bytes, Hears, Talking, Talked};
 
 use crate::end::End;
@@ -66,9 +63,8 @@ pub fn fill<S: Ear>(splitter: &mut Splitter, source: &mut S) -> Result<(), End>
     ensures reads { ReadsOn (S.told source.old).given (S.told source.new).given splitter.old.bytes splitter.new.bytes result }
     ensures once { ReadsOnce (S.rooms source.old) (S.rooms source.new) }
     ensures kept { IfErr result (λ _. splitter.new.bytes ≡ splitter.old.bytes) }
-    ensures spent { IsSpent (end_of result) (S.told source.new).left }
     ensures others { (result ≡ Err Bad → ⊥) × (result ≡ Err WriteFault → ⊥) }
-    ensures source { Leaves (source_half (S.told source.old)) (source_half (S.told source.new)) (end_of result ≡ Some ReadFault) }
+    ensures source { LeavesSource (S.told source.old) (S.told source.new) (end_of result) }
     ensures limit { splitter.new.limit ≡ splitter.old.limit }
 {
     if splitter.reserve(READ_SIZE).is_err() {
@@ -93,10 +89,7 @@ pub fn turn<V: Voice, S: Ear, W: Mouth>(
     source: &mut S,
     sink: &mut W,
 ) -> Result<(), End>
-    requires open { ((S.told source.old).is_open ≡ true) × ((W.told sink.old).is_open ≡ true) }
-    requires limit { splitter.old.limit ≡ longest_line }
-    requires live { V.is_over voice.old ≡ false }
-    requires flushed { W.is_flushed sink.old ≡ true }
+    requires may { MayTurn (S.told source.old) (W.told sink.old) (W.is_flushed sink.old) (V.is_over voice.old) splitter.old.limit }
     ensures goes { OnOk result ((begun : V) (old : Bytes) (turns : ℕ) → Talking V.spoke begun old (bytes_of (S.told source.old) (W.told sink.old)) voice.old splitter.old.bytes turns
         → Talking V.spoke begun old (bytes_of (S.told source.new) (W.told sink.new)) voice.new splitter.new.bytes (turns + 1)) }
     ensures ended { IfErr result (λ end. (begun : V) (old : Bytes) (turns : ℕ)
@@ -105,8 +98,7 @@ pub fn turn<V: Voice, S: Ear, W: Mouth>(
     ensures turned { Turned (streams_of (S.rooms source.old) (S.told source.old) (W.told sink.old) (W.is_flushed sink.old))
         (streams_of (S.rooms source.new) (S.told source.new) (W.told sink.new) (W.is_flushed sink.new)) splitter.old.bytes }
     ensures next { ((end_of result ≡ Some WriteFault → ⊥) → W.is_flushed sink.new ≡ true) × OnOk result (V.is_over voice.new ≡ false) × (splitter.new.limit ≡ longest_line) }
-    ensures spent { IsSpent (end_of result) (S.told source.new).left }
-    ensures source { Leaves (source_half (S.told source.old)) (source_half (S.told source.new)) (end_of result ≡ Some ReadFault) }
+    ensures source { LeavesSource (S.told source.old) (S.told source.new) (end_of result) }
     ensures sink { Leaves (sink_half (W.told sink.old)) (sink_half (W.told sink.new)) (end_of result ≡ Some WriteFault) }
 {
     match splitter.first() {
@@ -127,15 +119,11 @@ fn converse<V: Voice, S: Ear, W: Mouth>(
     source: &mut S,
     sink: &mut W,
 ) -> End
-    requires open { ((S.told source.old).is_open ≡ true) × ((W.told sink.old).is_open ≡ true) }
-    requires limit { splitter.old.limit ≡ longest_line }
-    requires live { V.is_over voice.old ≡ false }
-    requires flushed { W.is_flushed sink.old ≡ true }
+    requires may { MayTurn (S.told source.old) (W.told sink.old) (W.is_flushed sink.old) (V.is_over voice.old) splitter.old.limit }
     ensures ended { (begun : V) (old : Bytes) → Talking V.spoke begun old (bytes_of (S.told source.old) (W.told sink.old)) voice.old splitter.old.bytes 0
         → Talked V.spoke V.is_over V.is_foul V.lacks begun old (bytes_of (S.told source.new) (W.told sink.new)) voice.new result }
     ensures flushed { (result ≡ WriteFault → ⊥) → W.is_flushed sink.new ≡ true }
-    ensures spent { IsSpent (Some result) (S.told source.new).left }
-    ensures source { Leaves (source_half (S.told source.old)) (source_half (S.told source.new)) (result ≡ ReadFault) }
+    ensures source { LeavesSource (S.told source.old) (S.told source.new) (Some result) }
     ensures sink { Leaves (sink_half (W.told sink.old)) (sink_half (W.told sink.new)) (result ≡ WriteFault) }
 {
     for _ in 0..u64::MAX {
@@ -159,8 +147,7 @@ pub fn talk<V: Voice, S: Ear, W: Mouth>(
     requires begins { V.spoke voice.old voice.old [] [] }
     ensures ended { Talked V.spoke V.is_over V.is_foul V.lacks voice.old (bytes_of (S.told source.old) (W.told sink.old)) (bytes_of (S.told source.new) (W.told sink.new)) voice.new result }
     ensures flushed { (result ≡ WriteFault → ⊥) → W.is_flushed sink.new ≡ true }
-    ensures spent { IsSpent (Some result) (S.told source.new).left }
-    ensures source { Leaves (source_half (S.told source.old)) (source_half (S.told source.new)) (result ≡ ReadFault) }
+    ensures source { LeavesSource (S.told source.old) (S.told source.new) (Some result) }
     ensures sink { Leaves (sink_half (W.told sink.old)) (sink_half (W.told sink.new)) (result ≡ WriteFault) }
 {
     match write_version(sink) {

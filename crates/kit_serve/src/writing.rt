@@ -1,7 +1,7 @@
-ghost use Rattle.std.specs.Prelude.{◌≡◌, ◌≤◌, ◌++◌, ◌∷◌, [], ℕ, codes, take, true, OnOk, OnErr};
+ghost use Rattle.std.specs.Prelude.{◌≡◌, ◌++◌, ◌∷◌, [], ℕ, codes, take, true, OnOk};
 ghost use Rattle.std.specs.Io.KnownBytes.{Appends};
 ghost use Rattle.annex_model.specs.Lines.{text};
-ghost use Rattle.ann_outside.specs.Causes.{HasCause, Rose, StaysUntold};
+ghost use Rattle.ann_outside.specs.Causes.{HasCause, StaysUntold};
 
 use crate::streams::Mouth;
 use ann_outside::{Failed, Sink, write_all};
@@ -13,11 +13,8 @@ pub fn write_line<W: Sink>(sink: &mut W, line: &[u8]) -> Result<(), Failed>
     ensures ok { OnOk result (Appends (W.told sink.old).taken (W.told sink.new).taken (line.now ++ 10 ∷ [])) }
     ensures prefix { (n : ℕ) × Appends (W.told sink.old).taken (W.told sink.new).taken (take n (line.now ++ 10 ∷ [])) }
     ensures silent { StaysUntold (W.told sink.old).taken (W.told sink.new).taken }
-    ensures later { (W.told sink.old).faults ≤ (W.told sink.new).faults }
-    ensures done { OnOk result ((W.told sink.new).faults ≡ (W.told sink.old).faults) }
-    ensures err { OnErr result (Rose (W.told sink.old).faults (W.told sink.new).faults) }
-    ensures open { (W.told sink.new).is_open ≡ true }
-    ensures number { (W.told sink.new).number ≡ (W.told sink.old).number }
+    ensures cause { HasCause (W.told sink.old).faults (W.told sink.new).faults result }
+    ensures stays { ((W.told sink.new).is_open ≡ true) × ((W.told sink.new).number ≡ (W.told sink.old).number) }
 {
     write_all(sink, line)?;
     write_all(sink, b"\n")
@@ -31,8 +28,7 @@ pub fn write_version<W: Mouth>(sink: &mut W) -> Result<(), Failed>
     ensures flushed { OnOk result (W.is_flushed sink.new ≡ true) }
     ensures silent { StaysUntold (W.told sink.old).taken (W.told sink.new).taken }
     ensures cause { HasCause (W.told sink.old).faults (W.told sink.new).faults result }
-    ensures open { (W.told sink.new).is_open ≡ true }
-    ensures number { (W.told sink.new).number ≡ (W.told sink.old).number }
+    ensures stays { ((W.told sink.new).is_open ≡ true) × ((W.told sink.new).number ≡ (W.told sink.old).number) }
 {
     write_line(sink, b"VERSION 1")?;
     sink.hand_on()
@@ -46,8 +42,7 @@ pub(super) fn write_lines<W: Mouth>(sink: &mut W, lines: &Lines) -> Result<(), F
     ensures flushed { OnOk result (W.is_flushed sink.new ≡ true) }
     ensures silent { StaysUntold (W.told sink.old).taken (W.told sink.new).taken }
     ensures cause { HasCause (W.told sink.old).faults (W.told sink.new).faults result }
-    ensures open { (W.told sink.new).is_open ≡ true }
-    ensures number { (W.told sink.new).number ≡ (W.told sink.old).number }
+    ensures stays { ((W.told sink.new).is_open ≡ true) × ((W.told sink.new).number ≡ (W.told sink.old).number) }
 {
     for line in lines.view() {
         write_line(sink, line.view())?;

@@ -1,7 +1,8 @@
 -- What one line and one read do.
-use Rattle.std.specs.Prelude.{ℕ, ◌≡◌, List, take, Option, Result, Ok, Err}
+use Rattle.std.specs.Prelude.{ℕ, ◌≡◌, ◌≤◌, true, List, [], take, Option, Some, None, Result, Ok, Err, IfSome}
 use Rattle.std.specs.Io.KnownBytes.{Appends}
-use Rattle.ann_outside.specs.Causes.{StaysUntold}
+use Rattle.ann_outside.specs.Causes.{Rose, StaysUntold}
+use Rattle.ann_outside.specs.Told.{SinkTold, SourceTold}
 use Rattle.wire_line.specs.HeldBytes.{TakesPiece}
 use Rattle.plain_carry.specs.Carries.{Passing, passed_text}
 use Rattle.plain_carry.specs.declared.end.End.{End}
@@ -36,3 +37,24 @@ Passes P taken taken' line (Err Memory) = taken' ≡ taken
 Passes P taken taken' line (Err Eof) = ⊥
 Passes P taken taken' line (Err Long) = ⊥
 Passes P taken taken' line (Err ReadFault) = ⊥
+
+-- ---- ends, and their causes
+
+-- why a call ended, if it did
+abbrev pub end_of : {T : Type 0} → Result T End → Option End
+end_of (Ok x) = None
+end_of (Err end) = Some end
+
+-- The source is open still. Where its lines came to an end it has nothing left. Its count of faults rose where reading failed, and
+-- never falls.
+pub record LeavesSource (old new : SourceTold) (why : Option End) : Type 0 where
+  pub end : why ≡ Some Eof → IfSome new.left (λ bytes. bytes ≡ [])
+  pub read_fault : why ≡ Some ReadFault → Rose old.faults new.faults
+  pub later : old.faults ≤ new.faults
+  pub opened : new.is_open ≡ true
+
+-- The sink is open still. Its count of faults rose where writing failed, and never falls.
+pub record LeavesSink (old new : SinkTold) (why : Option End) : Type 0 where
+  pub write_fault : why ≡ Some WriteFault → Rose old.faults new.faults
+  pub later : old.faults ≤ new.faults
+  pub opened : new.is_open ≡ true

@@ -1,9 +1,7 @@
-ghost use Rattle.std.specs.Prelude.{◌≡◌, ◌≤◌, [], ℕ, List, Option, true, false, Err, OnOk, IfErr, IfSome};
-ghost use Rattle.annex_model.specs.Lines.{has_newline};
-ghost use Rattle.ann_outside.specs.Causes.{Rose};
+ghost use Rattle.std.specs.Prelude.{◌≡◌, Some, true, Err, OnOk, IfErr};
 ghost use Rattle.plain_carry.specs.Carries.{longest_line, told_of, Carries, ComesTo, GoesOn};
-ghost use Rattle.plain_carry.specs.Turns.{Passes, ReadsOn};
-ghost use Rattle.plain_carry.specs.declared.end.End.TheVariants.{Eof, Long, ReadFault, WriteFault};
+ghost use Rattle.plain_carry.specs.Turns.{end_of, LeavesSink, LeavesSource, Passes, ReadsOn};
+ghost use Rattle.plain_carry.specs.declared.end.End.TheVariants.{Long, WriteFault};
 
 use crate::end::End;
 use crate::way::Way;
@@ -23,9 +21,7 @@ pub const READ_SIZE: usize = 4096;
 fn pass_line<V: Way, W: Sink>(way: &mut V, sink: &mut W, line: &[u8]) -> Result<(), End>
     requires { (W.told sink.old).is_open ≡ true }
     ensures passes { Passes V.passes (W.told sink.old).taken (W.told sink.new).taken line.now result }
-    ensures later { (W.told sink.old).faults ≤ (W.told sink.new).faults }
-    ensures fault { result ≡ Err WriteFault → Rose (W.told sink.old).faults (W.told sink.new).faults }
-    ensures open { (W.told sink.new).is_open ≡ true }
+    ensures sink { LeavesSink (W.told sink.old) (W.told sink.new) (end_of result) }
 {
     match way.pass(line) {
         Ok(Some(passed)) => match write_line(sink, passed.view()) {
@@ -42,12 +38,9 @@ fn fill<S: Source>(splitter: &mut Splitter, source: &mut S) -> Result<(), End>
     requires { (S.told source.old).is_open ≡ true }
     ensures reads { ReadsOn (S.told source.old).given (S.told source.new).given splitter.old.bytes splitter.new.bytes }
     ensures kept { IfErr result (λ _. splitter.new.bytes ≡ splitter.old.bytes) }
-    ensures end { result ≡ Err Eof → IfSome (S.told source.new).left (λ bytes. bytes ≡ []) }
-    ensures fault { result ≡ Err ReadFault → Rose (S.told source.old).faults (S.told source.new).faults }
     ensures others { (result ≡ Err Long → ⊥) × (result ≡ Err WriteFault → ⊥) }
-    ensures later { (S.told source.old).faults ≤ (S.told source.new).faults }
+    ensures source { LeavesSource (S.told source.old) (S.told source.new) (end_of result) }
     ensures limit { splitter.new.limit ≡ splitter.old.limit }
-    ensures open { (S.told source.new).is_open ≡ true }
 {
     if splitter.reserve(READ_SIZE).is_err() {
         return Err(End::Memory);
@@ -70,17 +63,13 @@ fn turn<V: Way, S: Source, W: Sink>(
     source: &mut S,
     sink: &mut W,
 ) -> Result<(), End>
-    requires source { (S.told source.old).is_open ≡ true }
-    requires sink { (W.told sink.old).is_open ≡ true }
+    requires open { ((S.told source.old).is_open ≡ true) × ((W.told sink.old).is_open ≡ true) }
     requires limit { splitter.old.limit ≡ longest_line }
     ensures goes { OnOk result (GoesOn V.passes (told_of (S.told source.old) (W.told sink.old)) (told_of (S.told source.new) (W.told sink.new)) splitter.old.bytes splitter.new.bytes) }
     ensures ended { IfErr result (ComesTo V.passes (told_of (S.told source.old) (W.told sink.old)) (told_of (S.told source.new) (W.told sink.new)) splitter.old.bytes) }
-    ensures end { result ≡ Err Eof → IfSome (S.told source.new).left (λ bytes. bytes ≡ []) }
-    ensures read_fault { result ≡ Err ReadFault → Rose (S.told source.old).faults (S.told source.new).faults }
-    ensures write_fault { result ≡ Err WriteFault → Rose (W.told sink.old).faults (W.told sink.new).faults }
-    ensures later { ((S.told source.old).faults ≤ (S.told source.new).faults) × ((W.told sink.old).faults ≤ (W.told sink.new).faults) }
+    ensures source { LeavesSource (S.told source.old) (S.told source.new) (end_of result) }
+    ensures sink { LeavesSink (W.told sink.old) (W.told sink.new) (end_of result) }
     ensures limit { splitter.new.limit ≡ longest_line }
-    ensures open { ((S.told source.new).is_open ≡ true) × ((W.told sink.new).is_open ≡ true) }
 {
     match splitter.first() {
         Next::Line(line) => {
@@ -100,15 +89,11 @@ fn take_turns<V: Way, S: Source, W: Sink>(
     source: &mut S,
     sink: &mut W,
 ) -> End
-    requires source { (S.told source.old).is_open ≡ true }
-    requires sink { (W.told sink.old).is_open ≡ true }
+    requires open { ((S.told source.old).is_open ≡ true) × ((W.told sink.old).is_open ≡ true) }
     requires limit { splitter.old.limit ≡ longest_line }
     ensures ended { ComesTo V.passes (told_of (S.told source.old) (W.told sink.old)) (told_of (S.told source.new) (W.told sink.new)) splitter.old.bytes result }
-    ensures end { result ≡ Eof → IfSome (S.told source.new).left (λ bytes. bytes ≡ []) }
-    ensures read_fault { result ≡ ReadFault → Rose (S.told source.old).faults (S.told source.new).faults }
-    ensures write_fault { result ≡ WriteFault → Rose (W.told sink.old).faults (W.told sink.new).faults }
-    ensures later { ((S.told source.old).faults ≤ (S.told source.new).faults) × ((W.told sink.old).faults ≤ (W.told sink.new).faults) }
-    ensures open { ((S.told source.new).is_open ≡ true) × ((W.told sink.new).is_open ≡ true) }
+    ensures source { LeavesSource (S.told source.old) (S.told source.new) (Some result) }
+    ensures sink { LeavesSink (W.told sink.old) (W.told sink.new) (Some result) }
 {
     for _ in 0..u64::MAX {
         match turn(way, splitter, source, sink) {
@@ -130,11 +115,8 @@ pub fn carry<V: Way, S: Source, W: Sink>(
     requires source { (S.told source.old).is_open ≡ true }
     requires sink { (W.told sink.old).is_open ≡ true }
     ensures carries { Carries V.passes (told_of (S.told source.old) (W.told sink.old)) (told_of (S.told source.new) (W.told sink.new)) result }
-    ensures end { result ≡ Eof → IfSome (S.told source.new).left (λ bytes. bytes ≡ []) }
-    ensures read_fault { result ≡ ReadFault → Rose (S.told source.old).faults (S.told source.new).faults }
-    ensures write_fault { result ≡ WriteFault → Rose (W.told sink.old).faults (W.told sink.new).faults }
-    ensures later { ((S.told source.old).faults ≤ (S.told source.new).faults) × ((W.told sink.old).faults ≤ (W.told sink.new).faults) }
-    ensures open { ((S.told source.new).is_open ≡ true) × ((W.told sink.new).is_open ≡ true) }
+    ensures source { LeavesSource (S.told source.old) (S.told source.new) (Some result) }
+    ensures sink { LeavesSink (W.told sink.old) (W.told sink.new) (Some result) }
 {
     let mut splitter = Splitter::new(alloc, LONGEST_LINE);
     take_turns(way, &mut splitter, source, sink)

@@ -12,7 +12,7 @@ use ann_outside::{MemChild, MemDesk, MemPrograms, MemSink, MemSource};
 use child_link::Lone;
 use child_start::{Came, Greeting, Mode, greet};
 use chunk_log::NoteBook;
-use crew_tagged::{Outcome, TaggedRound, round_tagged_some};
+use crew_tagged::{Outcome, Starter, TaggedRound, round_tagged_some};
 use crew_worker::know_book;
 use host_core::Core;
 use journal_model::{Identity, Opening};
@@ -131,7 +131,12 @@ fn round<R: Threads + Wait + Abort + Sync>(
     // The core comes last, so that no path that fails drops one: that takes long to check.
     let mut core = Core::new(alloc, opening)?;
     let link = ready(rt, alloc, &mut programs, &mut core);
-    Ok(round_tagged_some(rt, alloc, threads, core, tasks.view(), &setup, link, desks))
+    let starter = Starter {
+        rt,
+        alloc,
+        most: threads,
+    };
+    Ok(round_tagged_some(&starter, core, tasks.view(), &setup, link, desks))
 }
 
 // Without threads for an ear, a mouth and some worker nothing is done. One worker's is enough.

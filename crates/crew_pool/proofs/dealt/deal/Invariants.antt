@@ -1,5 +1,6 @@
 use Rattle.std.proofs.Common.{◌≡◌, ◌≤◌, ◌+◌, ◌++◌, map, vec_len, vec_capacity}
 use Rattle.std.specs.Prelude.{All, reverse}
+use Rattle.crew_pool.specs.Sites.{IsAt}
 use Rattle.crew_pool.proofs.dealt.deal.Given as goal
 
 abbrev pub invariant-deals : goal.invariant-deals
@@ -11,7 +12,7 @@ invariant-deals g l = record {
   many : (vec_len l.links ≡ vec_len l.desks) × (vec_len l.desks ≤ vec_len l.passes);
   room : vec_len l.desks + vec_len l.workers ≤ vec_capacity l.workers;
   rooms : (vec_capacity l.passes ≡ vec_capacity l.initial.passes) × (vec_capacity l.links ≡ vec_capacity l.initial.links) × (vec_capacity l.desks ≡ vec_capacity l.initial.desks);
-  placed : All (λ w. (w.hall.now ≡ l.site.hall.now) × (w.tasks.now ≡ l.site.tasks.now) × (w.setup.now ≡ l.site.setup.now)) l.workers.items;
+  placed : All (IsAt l.site) l.workers.items;
 }
 
 abbrev pub decreases-deals : goal.decreases-deals

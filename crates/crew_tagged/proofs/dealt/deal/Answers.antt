@@ -1,5 +1,6 @@
-use Rattle.std.proofs.Common.{◌≡◌, ◌∙◌, arith}
+use Rattle.std.proofs.Common.{◌∙◌, arith}
 use Rattle.crew_threads.proofs.Dealing.{all_pushed, dealt}
+use Rattle.crew_tagged.specs.Sites.{IsAt}
 use Rattle.crew_tagged.proofs.dealt.deal.Goals as goal
 
 pub deals-preserved : goal.deals-preserved
@@ -13,6 +14,5 @@ deals-preserved g c =
       many = omega (arith, c.in-Some.ensures.len, c.in-Some-pop.ensures.len, i.many);
       room = omega (arith, c.in-Some.ensures.len, p.len, p.capacity, i.room);
       rooms = (c.in-Some.ensures.capacity ∙ i.rooms.0, c.in-Some-pop.ensures.capacity ∙ i.rooms.1);
-      placed = all_pushed c.deals.workers.items c.push_reserved.new.self.items c.worker_at.result p.items
-          (λ w. (w.hall.now ≡ c.args.site.now.hall.now) × (w.tasks.now ≡ c.args.site.now.tasks.now) × (w.setup.now ≡ c.args.site.now.setup.now) × (w.way.child ≡ c.args.site.now.child)) i.placed c.worker_at.ensures.placed;
+      placed = all_pushed c.deals.workers.items c.push_reserved.new.self.items c.worker_at.result p.items (IsAt c.args.site.now) i.placed c.worker_at.ensures.placed;
     }

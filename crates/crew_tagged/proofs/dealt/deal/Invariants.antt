@@ -1,5 +1,6 @@
 use Rattle.std.proofs.Common.{◌≡◌, ◌≤◌, ◌+◌, ◌++◌, map, vec_len, vec_capacity}
 use Rattle.std.specs.Prelude.{All, reverse}
+use Rattle.crew_tagged.specs.Sites.{IsAt}
 use Rattle.crew_tagged.proofs.dealt.deal.Given as goal
 
 abbrev pub invariant-deals : goal.invariant-deals
@@ -10,7 +11,7 @@ invariant-deals g l = record {
   many : vec_len l.desks ≤ vec_len l.passes;
   room : vec_len l.desks + vec_len l.workers ≤ vec_capacity l.workers;
   rooms : (vec_capacity l.desks ≡ vec_capacity l.initial.desks) × (vec_capacity l.passes ≡ vec_capacity l.initial.passes);
-  placed : All (λ w. (w.hall.now ≡ l.site.hall.now) × (w.tasks.now ≡ l.site.tasks.now) × (w.setup.now ≡ l.site.setup.now) × (w.way.child ≡ l.site.child)) l.workers.items;
+  placed : All (IsAt l.site) l.workers.items;
 }
 
 abbrev pub decreases-deals : goal.decreases-deals

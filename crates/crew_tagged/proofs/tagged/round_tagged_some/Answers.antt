@@ -1,14 +1,22 @@
-use Rattle.std.proofs.Common.{sym, ◌∙◌, arith}
+use Rattle.std.proofs.Common.{List, subst, sym, ◌∙◌, arith}
 use Rattle.std.proofs.lemmas.List.{length-map}
+use Rattle.journal_model.specs.declared.entry.Entry.{Entry}
+use Rattle.journal_model.specs.declared.opening.Opening.{Opening}
 use Rattle.crew_tagged.specs.Outcomes.{LinkStays}
-use Rattle.crew_tagged.specs.Tagged.{link_of}
+use Rattle.crew_tagged.specs.Roles.{CanRunTasks}
+use Rattle.crew_tagged.specs.Tagged.{TaggedCan, link_of}
 use Rattle.crew_tagged.proofs.Closing.{closes_done, closes_kept, fresh_from}
 use Rattle.crew_tagged.proofs.tagged.round_tagged_some.Goals as goal
 
-pub play-kit-requires-clause-fresh : goal.play-kit-requires-clause-fresh
-play-kit-requires-clause-fresh g c κs within =
+pub play-kit-requires-clause-may : goal.play-kit-requires-clause-may
+play-kit-requires-clause-may g c κs within =
     let b = c.in-Ok.ensures in
-    fresh_from c.in-Ok.hall 1 c.in-Ok.passes.items b.passes.1 (λ k p there. (let it = b.fresh k p there in ((let is = it.0 in omega (arith, is)), it.1)))
+    record {
+      fresh = fresh_from c.in-Ok.hall 1 c.in-Ok.passes.items b.passes.1 (λ k p there. (let it = b.fresh k p there in ((let is = it.0 in omega (arith, is)), it.1)));
+      can = subst (λ (o : Opening). TaggedCan o c.in-Ok.hall.start (link_of c.args.link.ear c.args.link.mouth)) (sym b.hall.2)
+          (subst (λ (j : List Entry). TaggedCan c.args.core.opening j (link_of c.args.link.ear c.args.link.mouth)) (sym b.hall.1) c.requires.can);
+      run = subst (λ (o : Opening). CanRunTasks o c.args.tasks.now c.args.setup.now) (sym b.hall.2) c.requires.run;
+    }
 
 pub returns-in-Ok-clause-round : goal.returns-in-Ok-clause-round
 returns-in-Ok-clause-round g c =

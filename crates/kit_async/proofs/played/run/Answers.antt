@@ -18,7 +18,7 @@ use Rattle.kit_async.proofs.played.run.Goals as goal
 pub workers_of-workers-requires-clause-room : goal.workers_of-workers-requires-clause-room
 workers_of-workers-requires-clause-room g c =
     let same = pairwise_length _ _ _ c.run_whole_crew-ear.ensures.workers in
-    omega (arith, same, c.args.crew.workers.ok.0, c.run_whole_crew-ear.result.workers.ok.0, c.requires.backs.1)
+    omega (arith, same, c.args.crew.workers.ok.0, c.run_whole_crew-ear.result.workers.ok.0, c.requires.room.2.room)
 
 pub serve_unless-requires-clause-reader : goal.serve_unless-requires-clause-reader
 serve_unless-requires-clause-reader g c =

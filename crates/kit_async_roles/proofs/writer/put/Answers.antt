@@ -9,4 +9,4 @@ returns-clause-sink g c =
     flushed_leaves (sink_half (w.told c.args.sink.now))
     (sink_half (w.told c.write_line.new.sink))
     (sink_half (w.told c.flush.new.self)) c.flush.result
-    c.in_ok-write_line.ensures.done c.flush.ensures.cause c.flush.ensures.open c.flush.ensures.number c.write_line.ensures.number
+    c.in_ok-write_line.ensures.cause.done c.flush.ensures.cause c.flush.ensures.open c.flush.ensures.number c.write_line.ensures.stays.1

@@ -17,7 +17,7 @@ returns-in-Line-clause-goes g c =
     c.args.voice.now c.hear-heard.new.voice held c.drop_line.new.self.bytes c.hear-heard.result
     (subst (λ (l : List ℕ). Hears v.spoke v.is_over v.is_foul v.lacks c.args.voice.now c.hear-heard.new.voice (g.W.Sink.told c.args.sink.now).taken (g.W.Sink.told c.hear-heard.new.sink).taken l c.hear-heard.result)
     c.in-Line.ensures.next.1 c.hear-heard.ensures.heard)
-    c.drop_line.ensures.cut (subst (λ (n : ℕ). IsTrue (has_line n held)) c.requires.limit c.in-Line.ensures.next.0)
+    c.drop_line.ensures.cut (subst (λ (n : ℕ). IsTrue (has_line n held)) c.requires.may.limit c.in-Line.ensures.next.0)
 
 pub returns-in-Line-clause-ended : goal.returns-in-Line-clause-ended
 returns-in-Line-clause-ended g c =
@@ -27,15 +27,15 @@ returns-in-Line-clause-ended g c =
     c.args.voice.now c.hear-heard.new.voice held c.drop_line.new.self.bytes c.hear-heard.result
     (subst (λ (l : List ℕ). Hears v.spoke v.is_over v.is_foul v.lacks c.args.voice.now c.hear-heard.new.voice (g.W.Sink.told c.args.sink.now).taken (g.W.Sink.told c.hear-heard.new.sink).taken l c.hear-heard.result)
     c.in-Line.ensures.next.1 c.hear-heard.ensures.heard)
-    c.drop_line.ensures.cut c.drop_line.ensures.line (subst (λ (n : ℕ). IsTrue (has_line n held)) c.requires.limit c.in-Line.ensures.next.0) c.requires.live
+    c.drop_line.ensures.cut c.drop_line.ensures.line (subst (λ (n : ℕ). IsTrue (has_line n held)) c.requires.may.limit c.in-Line.ensures.next.0) c.requires.may.live
 
 pub returns-in-Long-clause-ended : goal.returns-in-Long-clause-ended
 returns-in-Long-clause-ended g c =
     let v = g.V.Voice in
     let held = c.args.splitter.now.bytes in
     long_ends v.spoke v.is_over v.is_foul v.lacks _ c.args.voice.now held
-    (long_line held (subst (λ (n : ℕ). IsTrue (not (has_line n held))) c.requires.limit c.in-Long.ensures.next.0)
-    (subst (λ (n : ℕ). n < length held) c.requires.limit c.in-Long.ensures.next.1)) c.requires.live
+    (long_line held (subst (λ (n : ℕ). IsTrue (not (has_line n held))) c.requires.may.limit c.in-Long.ensures.next.0)
+    (subst (λ (n : ℕ). n < length held) c.requires.may.limit c.in-Long.ensures.next.1)) c.requires.may.live
 
 pub returns-in-More-clause-goes : goal.returns-in-More-clause-goes
 returns-in-More-clause-goes g c =
@@ -48,15 +48,15 @@ returns-in-More-clause-ended g c =
     let held = c.args.splitter.now.bytes in
     read_ends v.spoke v.is_over v.is_foul v.lacks (g.S.Source.told c.args.source.now).given (g.S.Source.told c.fill.new.source).given (g.W.Sink.told c.args.sink.now).taken c.args.voice.now
     held c.fill.new.splitter.bytes c.fill.result c.fill.ensures.reads c.fill.ensures.kept
-    (no_line held (subst (λ (n : ℕ). IsTrue (not (has_line n held))) c.requires.limit c.in-More.ensures.next.0)
-    (subst (λ (n : ℕ). length held ≤ n) c.requires.limit c.in-More.ensures.next.1)) c.requires.live c.fill.ensures.others.0 c.fill.ensures.others.1
+    (no_line held (subst (λ (n : ℕ). IsTrue (not (has_line n held))) c.requires.may.limit c.in-More.ensures.next.0)
+    (subst (λ (n : ℕ). length held ≤ n) c.requires.may.limit c.in-More.ensures.next.1)) c.requires.may.live c.fill.ensures.others.0 c.fill.ensures.others.1
 
 pub returns-in-Line-clause-turned : goal.returns-in-Line-clause-turned
 returns-in-Line-clause-turned g c =
     let held = c.args.splitter.now.bytes in
-    turned_line _ _ held (subst (λ (n : ℕ). IsTrue (has_line n held)) c.requires.limit c.in-Line.ensures.next.0) refl refl
+    turned_line _ _ held (subst (λ (n : ℕ). IsTrue (has_line n held)) c.requires.may.limit c.in-Line.ensures.next.0) refl refl
 
 pub returns-in-More-clause-turned : goal.returns-in-More-clause-turned
 returns-in-More-clause-turned g c =
     let held = c.args.splitter.now.bytes in
-    turned_read _ _ held (subst (λ (n : ℕ). IsTrue (not (has_line n held))) c.requires.limit c.in-More.ensures.next.0) refl refl c.fill.ensures.once
+    turned_read _ _ held (subst (λ (n : ℕ). IsTrue (not (has_line n held))) c.requires.may.limit c.in-More.ensures.next.0) refl refl c.fill.ensures.once

@@ -17,10 +17,10 @@ loop-line-preserved g c =
           (appends_both (g.W.Sink.told c.args.sink.now).taken (g.W.Sink.told c.loop-line.sink).taken (g.W.Sink.told c.write_line.new.sink).taken (text (take i ls)) (c.view.result.now ++ 10 ∷ [])
           c.loop-line.invariant.took c.in_ok-write_line.ensures.ok);
       silent = λ untold. c.write_line.ensures.silent (c.loop-line.invariant.silent untold);
-      quiet = c.in_ok-write_line.ensures.done ∙ c.loop-line.invariant.quiet;
-      later = omega (arith, c.loop-line.invariant.later, c.write_line.ensures.later);
-      opened = c.write_line.ensures.open;
-      number = c.write_line.ensures.number ∙ c.loop-line.invariant.number;
+      quiet = c.in_ok-write_line.ensures.cause.done ∙ c.loop-line.invariant.quiet;
+      later = omega (arith, c.loop-line.invariant.later, c.write_line.ensures.cause.later);
+      opened = c.write_line.ensures.stays.0;
+      number = c.write_line.ensures.stays.1 ∙ c.loop-line.invariant.number;
     }
 
 pub returns-in_err-write_line-clause-prefix : goal.returns-in_err-write_line-clause-prefix
