@@ -1,64 +1,37 @@
--- What comes of an info.
+-- What comes of an info, from what was made of it.
 use Rattle.ann_outside.specs.Told.{ProgramsTold}
-use Rattle.std.proofs.Common.{◌≡◌, ◌∙◌, ℕ, List, [], length, sym, ap, subst, true, false, Some, None, Option, Result, Ok, Err}
-use Rattle.std.specs.Prelude.{option_map, IfSome, IfOk, IsErr, MatchResult}
-use Rattle.ann_key.specs.declared.bytes.NoMemory.{NoMemory}
-use Rattle.annex_model.specs.Messages.{is_sent_key}
-use Rattle.journal_model.specs.declared.entry.Entry.{Entry}
-use Rattle.journal_model.specs.declared.opening.Opening.{Opening}
-use Rattle.journal_model.specs.Legality.{Legal}
-use Rattle.journal_model.proofs.Projecting.{parts_fit}
+use Rattle.std.proofs.Common.{◌≡◌, ◌∙◌, ℕ, List, [], sym, ap, subst, inl, Some, None, Option}
+use Rattle.ann_outside.specs.Desks.{Made}
 use Rattle.child_end.specs.Outsides.{OutsideValue}
-use Rattle.child_end.specs.Programs.{Leaves}
-use Rattle.special_cli.specs.declared.end.End.{End}
-use Rattle.special_cli.specs.declared.end.End.TheVariants.{Informed, Memory}
-use Rattle.special_cli.specs.declared.info.Ready.{Ready as InfoReady}
-use Rattle.special_cli.specs.Commands.{EndsInfo, HasInformed, HasNoDesk, IsReady}
-use Rattle.special_cli.specs.Informs.{IsAsked, IsInformed, IsComplete}
-use Rattle.special_cli.specs.Left.{Left, RanValue}
-use Rattle.special_cli.specs.Openings.{info_opening}
-use Rattle.cli_words.specs.Refusals.{refusal_if}
-use Rattle.cli_words.proofs.Refusing.{sent_key}
-use Rattle.special_cli.proofs.Leaving.{leaves_as}
-use Rattle.special_cli.proofs.Talking.{nothing_asked}
-use Rattle.journal_model.proofs.Across.{nothing_legal}
+use Rattle.cli_words.specs.declared.refusals.Reason.{Reason}
+use Rattle.info_command.specs.Informs.{InfoValue, InformsUnless, HasInformed as HasMade}
+use Rattle.info_command.specs.declared.made.InfoEnd.{InfoEnd}
+use Rattle.info_command.specs.declared.made.InfoEnd.TheVariants as I
+use Rattle.special_cli.specs.Commands.{HasInformed, UnlessRefused}
+use Rattle.special_cli.specs.Informs.{end_of_info, informed_in}
+use Rattle.special_cli.specs.Left.{RanValue}
 
-pub no_tasks : (o : Opening) → o ≡ info_opening → length o.tasks ≡ 0
-no_tasks o h = ap (λ (x : Opening). length x.tasks) h
-
--- a key that is not refused can stand in a request
-pub sent_if : {X : Type 0} (shown : X → List ℕ) (key : Option X) → refusal_if (option_map shown key) ≡ None → IfSome key (λ k. is_sent_key (shown k) ≡ true)
-sent_if shown None h = tt
-sent_if shown (Some k) h = sent_key (shown k) h
-
-pub informed : (key : Option (List ℕ)) (journal : List Entry) → Legal info_opening journal → IsAsked key journal → IsInformed key journal
-informed key journal legal run = record { legal = legal; parts = parts_fit info_opening journal legal; run = run }
-
--- nothing was started
-pub nothing_informed : (key : Option (List ℕ)) (journal : List Entry) → journal ≡ [] → IsInformed key journal
-nothing_informed key journal e = informed key journal (nothing_legal info_opening journal e) (nothing_asked key journal e)
-
--- what is told of it
-ends_as : (r : Result (Unit {0}) NoMemory) (key told : Option (List ℕ)) (journal : List Entry) (left : Left) (end : End) → told ≡ key → left.journal ≡ journal → IfOk r (λ _. IsComplete key journal)
-    → MatchResult r (λ _. end ≡ Informed told) (λ _. end ≡ Memory) → EndsInfo key left end
-ends_as (Ok u) key told journal left end is same complete e = subst (EndsInfo key left) (sym e) (is, subst (IsComplete key) (sym same) complete)
-ends_as (Err x) key told journal left end is same complete e = subst (EndsInfo key left) (sym e) tt
-
-wanting : (r : Result (Unit {0}) NoMemory) (told : Option (List ℕ)) (end : End) → MatchResult r (λ _. end ≡ Informed told) (λ _. end ≡ Memory) → IsErr r → end ≡ Memory
-wanting (Ok u) told end e err = absurd (let bad : false ≡ true = err in cc)
-wanting (Err x) told end e err = e
-
-pub has_informed : (program : List ℕ) (key : Option (List ℕ)) (ready : InfoReady) (opening : Opening) (journal : List Entry) (programs : ProgramsTold) (before : OutsideValue) (ran : RanValue) (r : Result (Unit {0}) NoMemory)
-    → IsReady key ready → ran.left.journal ≡ journal → opening ≡ ready.core.opening → (Legal ready.core.opening ready.core.journal → Legal opening journal) → IsAsked key journal
-    → IfOk r (λ _. IsComplete key journal) → MatchResult r (λ _. ran.end ≡ Informed ready.key) (λ _. ran.end ≡ Memory)
-    → Leaves (IsErr r) program journal programs ran.left.outside.programs ran.left.wires → before.programs ≡ programs → HasNoDesk before ran.left → ran.left.answers ≡ [] → HasInformed program key before ran
-has_informed program key ready opening journal programs before ran r is same opens keeps asked complete told leaves begun desks none = record {
-  informed = subst (IsInformed key) (sym same) (informed key journal legal asked);
-  ends = ends_as r key ready.key journal ran.left ran.end is.told same complete told;
-  none = none;
-  objects = leaves_as (λ e. wanting r ready.key ran.end told e) same begun leaves;
-  desks = desks;
+pub has_informed : (reason : Option Reason) (program : List ℕ) (key : Option (List ℕ)) (programs after : ProgramsTold) (desks : Option (List Made)) (before : OutsideValue) (made : InfoValue) (ran : RanValue) (end : InfoEnd)
+    → before ≡ record { programs = programs; made = desks } → ran.left.outside ≡ record { programs = after; made = desks } → made ≡ informed_in ran.left end → ran.end ≡ end_of_info end
+    → ran.left.answers ≡ [] → ran.left.tables ≡ [] → InformsUnless reason program key programs after made → UnlessRefused reason before ran (HasInformed program key before ran)
+has_informed None program key programs after desks before made ran end was is same ends answers tables h = record {
+  end = end;
+  made = subst (HasMade program key before.programs ran.left.outside.programs) same
+      (subst (λ (o : OutsideValue). HasMade program key o.programs ran.left.outside.programs made) (sym was)
+      (subst (λ (o : OutsideValue). HasMade program key programs o.programs made) (sym is) h));
+  none = answers;
+  desks = record { made = ap (λ (o : OutsideValue). o.made) is ∙ sym (ap (λ (o : OutsideValue). o.made) was); tables = tables };
+  end_is = ends;
 }
-  where
-    legal : Legal info_opening journal
-    legal = subst (λ (o : Opening). Legal o journal) (opens ∙ is.opening) (keeps (nothing_legal ready.core.opening ready.core.journal is.empty))
+has_informed (Some reason) program key programs after desks before made ran end was is same ends answers tables (nothing, still) =
+    let parts : informed_in ran.left end ≡ record { journal = []; wires = []; end = I.Refused reason } = sym same ∙ nothing in
+    record {
+      end_is = inl (ends ∙ ap (λ (v : InfoValue). end_of_info v.end) parts);
+      idle = record {
+        outside = is ∙ ap (λ (p : ProgramsTold). record { programs = p; made = desks }) still ∙ sym was;
+        journal = ap (λ (v : InfoValue). v.journal) parts;
+        answers = answers;
+        wires = ap (λ (v : InfoValue). v.wires) parts;
+        tables = tables;
+      };
+    }
