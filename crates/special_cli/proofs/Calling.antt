@@ -52,8 +52,10 @@ use Rattle.special_cli.proofs.Few.{few_done}
 use Rattle.special_cli.proofs.Rehearsed.{few_rehearsed, nothing_rehearsed}
 use Rattle.special_cli.specs.Rehearsals.{HasRehearsed, end_of_rehearsal, rehearsal_text}
 use Rattle.special_cli.specs.Audits.{found_status}
-use Rattle.special_cli.specs.Walks.{EndsWalk, WalksTasks, is_walk_well}
-use Rattle.special_cli.proofs.Walked.{few_walked, nothing_walked}
+use Rattle.special_cli.specs.Walks.{WalksTasks, end_of_walk, is_walk_well}
+use Rattle.walk_command.specs.declared.made.WalkEnd.{WalkEnd}
+use Rattle.walk_command.specs.declared.made.WalkEnd.TheVariants as K
+use Rattle.walk_command.proofs.Walked.{few_walked}
 use Rattle.rehearse_plan.specs.Tallies.{count_of}
 use Rattle.rehearse_plan.specs.declared.tally.Word.TheVariants.{Other}
 use Rattle.rehearse_command.specs.declared.made.RehearsalEnd.{RehearsalEnd}
@@ -342,11 +344,10 @@ unfolding wanted_of NeitherIn
 rehearsal_wanted M.Memory = (refl, refl)
 rehearsal_wanted (M.Done found) = (refl, refl)
 
-walk_wanted : (seed tasks : ℕ) (journal : List Entry) (answers : List Answer) (end : End) → EndsWalk seed tasks journal answers end → NeitherIn (wanted_of end)
+walk_wanted : (tasks : ℕ) (end : WalkEnd) → NeitherIn (wanted_of (end_of_walk tasks end))
 unfolding wanted_of NeitherIn
-walk_wanted seed tasks journal answers (Walked told equal found) ends = (refl, refl)
-walk_wanted seed tasks journal answers Memory ends = (refl, refl)
-walk_wanted seed tasks journal answers end ends = absurd ends
+walk_wanted tasks (K.Done equal found) = (refl, refl)
+walk_wanted tasks K.Memory = (refl, refl)
 
 -- ---- the objects
 
@@ -726,7 +727,7 @@ module _ (clock : Option ℕ) (before : OutsideValue) (input : InputFlow) (left 
   called_walk : (seed tasks : ℕ) → IsUnread input × WalksTasks seed tasks before whole → Called (Some (Walk seed tasks))
   unfolding wanted_of NeitherIn
   called_walk seed tasks (unread, h) =
-      let none : NeitherIn (wanted_of end) = walk_wanted seed tasks left.journal left.answers end h.ends in
+      let none : NeitherIn (wanted_of end) = subst (λ (x : End). NeitherIn (wanted_of x)) (sym h.end_is) (walk_wanted tasks h.end) in
       record {
         usage = λ s. apart (wanted_of end) status 2 out err ends refl none.0 s;
         words = λ no. some_none (Walk seed tasks) no;
@@ -742,7 +743,7 @@ module _ (clock : Option ℕ) (before : OutsideValue) (input : InputFlow) (left 
         run = tt;
         audit = λ same. other_words (Some (Walk seed tasks)) refl same;
         rehearsal = tt;
-        walk = (end, h.ends, h.untouched, unread, told);
+        walk = (h.end, h.ends, h.untouched, unread, subst (λ (x : End). IsToldOf left status out err x) h.end_is told);
         wires = tt;
         starts = tt;
         faults = tt;
@@ -795,7 +796,7 @@ few clock before input (Some (Init words)) ran ranges h = none_few ran.left h.no
 few clock before input (Some (Run words)) ran ranges (end, h, same) = few_done words clock before input ran.left.outside (made_in ran.left end) h
 few clock before input (Some AuditWord) ran ranges h = none_few ran.left h.idle.answers
 few clock before input (Some (Rehearse seed tasks)) ran ranges h = few_rehearsed seed tasks ran.left.journal ran.left.answers h.1.end ranges.2 h.1.made
-few clock before input (Some (Walk seed tasks)) ran ranges h = few_walked seed tasks ran.left.journal ran.left.answers ran.end ranges.2 h.1.ends
+few clock before input (Some (Walk seed tasks)) ran ranges h = few_walked seed tasks ran.left.journal ran.left.answers h.1.end ranges.2 h.1.ends
 
 -- ---- no memory was found for the words
 
@@ -829,6 +830,14 @@ nothing_set_up words before ran e idle = record {
   end = N.Memory;
   made = inl (refl, record { outside = idle.outside; journal = idle.journal; wires = idle.wires; tables = idle.tables });
   none = idle.answers;
+  end_is = e;
+}
+
+nothing_walked : (seed tasks : ℕ) (before : OutsideValue) (ran : RanValue) → ran.end ≡ Memory → IsIdle before ran.left → WalksTasks seed tasks before ran
+nothing_walked seed tasks before ran e idle = record {
+  end = K.Memory;
+  ends = (idle.journal, idle.answers);
+  untouched = record { outside = idle.outside; wires = idle.wires; tables = idle.tables };
   end_is = e;
 }
 

@@ -3,6 +3,5 @@ pub mod Calling
 pub mod Checked
 pub mod Few
 pub mod Rehearsed
-pub mod Walked
 pub mod Informed
 pub mod Written

@@ -21,7 +21,9 @@ use Rattle.special_cli.specs.Setups.{HasSetUp}
 use Rattle.special_cli.specs.Doings.{end_of, made_in}
 use Rattle.special_cli.specs.Audits.{IsAuditOf, end_of_audit}
 use Rattle.special_cli.specs.Rehearsals.{IsUntouched, end_of_rehearsal, rehearsal_in}
-use Rattle.special_cli.specs.Walks.{EndsWalk, walk_in}
+use Rattle.special_cli.specs.Walks.{end_of_walk, walk_in}
+use Rattle.walk_command.specs.Walks.{EndsWalk}
+use Rattle.walk_command.specs.declared.made.WalkEnd.{WalkEnd}
 use Rattle.rehearse_command.specs.Rehearsals.{HasRehearsed as HasMade}
 use Rattle.rehearse_command.specs.declared.made.RehearsalEnd.{RehearsalEnd}
 use Rattle.run_command.specs.Inputs.{InputFlow, IsUnread, input_flow}
@@ -54,7 +56,7 @@ IsRehearsalCalled seed tasks before input status out err left =
 -- the tasks of a walk were done in a world of its own, nothing that was handed in was touched, and what came of them was told so
 abbrev pub IsWalkCalled : ℕ → ℕ → OutsideValue → InputFlow → ℕ → Flow → Flow → Left → Type 0
 IsWalkCalled seed tasks before input status out err left =
-    (end : End) × EndsWalk seed tasks left.journal left.answers end × IsUntouched before left × IsUnread input × IsToldOf left status out err end
+    (end : WalkEnd) × EndsWalk seed tasks left.journal left.answers end × IsUntouched before left × IsUnread input × IsToldOf left status out err (end_of_walk tasks end)
 
 -- what a call of the program is lent, before and after, as far as that is told: what the clock answers, what was handed in, what was read,
 -- and what was printed
