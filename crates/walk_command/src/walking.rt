@@ -9,6 +9,7 @@ ghost use Rattle.walk_command.specs.Walks.{EndsWalk, IsWalkOf};
 use crate::made::{WalkEnd, WalkMade};
 use ann_key::NoMemory;
 use journal_audit::{Audit, audit};
+use journal_look::Journal;
 use journal_model::Answer;
 use pair_world::World;
 use rehearse_plan::MOST_TASKS;
@@ -28,6 +29,14 @@ fn found_of(alloc: Global, world: &World) -> Result<(Vec<Answer>, Audit), NoMemo
     Ok((answers, found))
 }
 
+// The journal of a world that is no longer needed.
+fn journal_of(world: World) -> Journal
+    ensures { result.entries ≡ world.journal }
+{
+    let (journal, _, _) = world.close().close();
+    journal
+}
+
 // The answers, and what is found of the journal of a world to which tasks were walked.
 fn finish(alloc: Global, seed: u32, tasks: u32, walked: Walk) -> WalkMade
     requires { IsWalkOf seed tasks walked }
@@ -38,14 +47,15 @@ fn finish(alloc: Global, seed: u32, tasks: u32, walked: Walk) -> WalkMade
         equal,
         world,
     } = walked;
-    let Ok((answers, found)) = found_of(alloc, &world) else {
-        return WalkMade::nothing(alloc);
-    };
-    let (journal, _, _) = world.close().close();
-    WalkMade {
-        journal,
-        answers,
-        end: WalkEnd::Done { equal, found },
+    let found = found_of(alloc, &world);
+    let journal = journal_of(world);
+    match found {
+        Ok((answers, found)) => WalkMade {
+            journal,
+            answers,
+            end: WalkEnd::Done { equal, found },
+        },
+        Err(NoMemory) => WalkMade::nothing(alloc),
     }
 }
 
