@@ -139,12 +139,7 @@ where
 }
 
 // The words are an info of a key.
-fn inform_of<P: Programs>(
-    alloc: Global,
-    program: &str,
-    key: &str,
-    programs: &mut P,
-) -> InfoMade<P>
+fn inform_of<P: Programs>(alloc: Global, program: &str, key: &str, programs: &mut P) -> InfoMade<P>
 where
     P::Inlet: Drop,
     P::Outlet: Drop,

@@ -3,5 +3,4 @@ pub mod Calling
 pub mod Checked
 pub mod Few
 pub mod Rehearsed
-pub mod Informed
 pub mod Written

@@ -1,5 +1,5 @@
 -- All that is told of a call, in one record.
-use Rattle.std.specs.Prelude.{ℕ, ◌≡◌, ◌⊎◌, true, List, [], Option, Some, None, IfSome, IsSome, Result}
+use Rattle.std.specs.Prelude.{ℕ, ◌≡◌, ◌⊎◌, List, [], Option, Some, None, IfSome, IsSome, Result}
 use Rattle.ann_outside.specs.Causes.{Rose}
 use Rattle.ann_outside.specs.Desks.{Made}
 use Rattle.ann_outside.specs.Told.{ProgramsTold, SinkTold, SourceTold}
