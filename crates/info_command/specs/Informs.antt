@@ -1,6 +1,6 @@
 -- What an info comes to: what its child was asked, and what is made of it.
 use Rattle.ann_outside.specs.Told.{ProgramsTold}
-use Rattle.std.specs.Prelude.{ℕ, ◌≡◌, ◌⊎◌, ◌≤◌, Bool, true, false, List, [], ◌∷◌, take, map, codes, Option, Some, None, IsSome}
+use Rattle.std.specs.Prelude.{ℕ, ◌≡◌, ◌⊎◌, ◌≤◌, true, false, List, [], ◌∷◌, take, map, codes, Option, Some, None, IsSome}
 use Rattle.reg_file.specs.Registers.{nothing_set}
 use Rattle.annex_model.specs.Messages.{host_line}
 use Rattle.cli_words.specs.Identities.{nobody}
