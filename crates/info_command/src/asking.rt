@@ -83,7 +83,7 @@ fn ask_over<I: Sink, O: Source>(
 
 /// Asks a child that is ready about itself, and for the key where one is given: one question after the other, until one
 /// isn't answered by a line. Where no memory is found, the questions so far were answered.
-pub fn ask_all<I: Sink, O: Source>(
+pub(crate) fn ask_all<I: Sink, O: Source>(
     alloc: Global,
     link: &mut Lone<I, O>,
     core: &mut Core,

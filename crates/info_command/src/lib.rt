@@ -1,14 +1,18 @@
-// What a remote says of itself: the questions, asked over a link to it, and what is printed of its answers.
+// What a remote says of itself: its one child is started and asked the questions, and what is printed of its answers.
 #![tactic(auto)]
 
 mod asking;
+mod doing;
 mod informed;
+mod interview;
 pub mod laws;
+mod made;
 mod printing;
 mod questions;
 mod telling;
 mod words;
 
-pub use asking::ask_all;
+pub use doing::inform;
 pub use informed::is_informed;
+pub use made::{InfoEnd, InfoMade};
 pub use printing::print_info;

@@ -16,14 +16,14 @@ pub(super) fn questions(
     ensures questions { IfOk result (λ v. map host_shown v.items ≡ questions (option_map text_of key.entry)) }
     ensures few { IfOk result (λ v. length v.items ≤ 6) }
 {
-    let mut questions = Vec::new(alloc);
-    questions.push(HostMsg::Listconfigs)?;
-    questions.push(HostMsg::Getcost)?;
-    questions.push(HostMsg::Getavailability)?;
-    questions.push(HostMsg::Getinfo)?;
-    questions.push(HostMsg::Exportsupported)?;
+    let mut questions = Vec::with_capacity(alloc, 6)?;
+    questions.push_reserved(HostMsg::Listconfigs);
+    questions.push_reserved(HostMsg::Getcost);
+    questions.push_reserved(HostMsg::Getavailability);
+    questions.push_reserved(HostMsg::Getinfo);
+    questions.push_reserved(HostMsg::Exportsupported);
     if let Some(key) = key {
-        questions.push(HostMsg::Whereis(key))?;
+        questions.push_reserved(HostMsg::Whereis(key));
     }
     Ok(questions)
 }

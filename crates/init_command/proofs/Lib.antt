@@ -1,2 +1,4 @@
 pub mod FromKept
+pub mod Keeping
 pub mod Naming
+pub mod Settling

@@ -1,9 +1,12 @@
-// Setting a remote up: what such a run begins with, and what it comes to.
+// Setting a remote up: what that begins with, what its one child is asked, and what is kept.
 #![tactic(auto)]
 
+mod asking;
 mod beginning;
+mod doing;
 pub mod laws;
+mod made;
 mod setup;
 
-pub use beginning::{Begun, begin};
-pub use setup::{Setup, setup_for};
+pub use doing::set_up;
+pub use made::{InitEnd, InitMade};

@@ -31,11 +31,17 @@ use Rattle.journal_audit.specs.declared.found.Audit.{Audit}
 use Rattle.journal_audit.specs.declared.found.Audit.TheVariants.{Legal, Wrong}
 use Rattle.special_cli.specs.Audits.{HasAudited, end_of_audit}
 use Rattle.special_cli.proofs.Audited.{other_words, nothing_audited}
-use Rattle.special_cli.specs.Setups.{EndsInit, HasSetUp}
+use Rattle.init_command.specs.Inits.{HasSetUp as IsMadeSo}
+use Rattle.init_command.specs.declared.made.InitEnd.{InitEnd}
+use Rattle.init_command.specs.declared.made.InitEnd.TheVariants as N
+use Rattle.special_cli.specs.Setups.{HasSetUp, end_of_init, set_up_in}
 use Rattle.special_cli.specs.Calls.{IsCalled, IsDone, World}
-use Rattle.special_cli.specs.Commands.{ComesToNothing, EndsCheck, HasChecked, EndsInfo, HasInformed, UnlessRefused, Runs}
+use Rattle.special_cli.specs.Commands.{ComesToNothing, EndsCheck, HasChecked, HasInformed, UnlessRefused, Runs}
 use Rattle.special_cli.specs.Endings.{is_well, status_of, IsChecked, IsPrinted, IsTold, LacksMemory}
-use Rattle.special_cli.specs.Informs.{IsInfoTold, info_status}
+use Rattle.info_command.specs.Informs.{EndsInfo}
+use Rattle.info_command.specs.declared.made.InfoEnd.{InfoEnd}
+use Rattle.info_command.specs.declared.made.InfoEnd.TheVariants as I
+use Rattle.special_cli.specs.Informs.{IsInfoTold, end_of_info, info_status}
 use Rattle.child_end.specs.Outsides.{OutsideValue}
 use Rattle.special_cli.specs.Left.{Left, RanValue, IsIdle}
 use Rattle.child_end.specs.Programs.{HaveStarted, Leaves}
@@ -46,15 +52,17 @@ use Rattle.special_cli.proofs.Few.{few_done}
 use Rattle.special_cli.proofs.Rehearsed.{few_rehearsed, nothing_rehearsed}
 use Rattle.special_cli.specs.Rehearsals.{HasRehearsed, end_of_rehearsal, rehearsal_text}
 use Rattle.special_cli.specs.Audits.{found_status}
-use Rattle.special_cli.specs.Walks.{EndsWalk, WalksTasks, is_walk_well}
-use Rattle.special_cli.proofs.Walked.{few_walked, nothing_walked}
+use Rattle.special_cli.specs.Walks.{WalksTasks, end_of_walk, is_walk_well}
+use Rattle.walk_command.specs.declared.made.WalkEnd.{WalkEnd}
+use Rattle.walk_command.specs.declared.made.WalkEnd.TheVariants as K
+use Rattle.walk_command.proofs.Walked.{few_walked}
 use Rattle.rehearse_plan.specs.Tallies.{count_of}
 use Rattle.rehearse_plan.specs.declared.tally.Word.TheVariants.{Other}
 use Rattle.rehearse_command.specs.declared.made.RehearsalEnd.{RehearsalEnd}
 use Rattle.rehearse_command.specs.declared.made.RehearsalEnd.TheVariants as M
 use Rattle.cli_words.specs.Ranges.{HasRanges}
-use Rattle.special_cli.proofs.Informed.{nothing_informed}
-use Rattle.special_cli.proofs.Leaving.{leaves_as, leaves_nothing}
+use Rattle.info_command.proofs.Informing.{nothing_informed}
+use Rattle.run_once.proofs.Leaving.{leaves_as, leaves_nothing}
 use Rattle.special_cli.specs.Tells.{Flow, IsSilent, IsWritten, IsPrintedOr, IsSaidThen, IsUnkeptTold, IsToldOf, answer_lines, answers_status}
 use Rattle.cli_words.specs.declared.command.Command.{Command}
 use Rattle.cli_words.specs.declared.command.Command.TheVariants.{Check, Info, Init, Run, Audit as AuditWord, Rehearse, Walk, Show}
@@ -271,14 +279,14 @@ check_wanted left end ends = absurd ends
 
 -- ---- info
 
-info_told : (key : Option (List ℕ)) (left : Left) (status : ℕ) (out err : Flow) (end : End) → EndsInfo key left end → IsToldOf left status out err end
+info_told : (key : Option (List ℕ)) (left : Left) (status : ℕ) (out err : Flow) (end : InfoEnd) → EndsInfo key left.journal end → IsToldOf left status out err (end_of_info end)
     → IsInfoTold status out.taken out.taken' key left.journal
-info_told key left status out err (Informed k) (same, complete) told = record {
+info_told key left status out err (I.Asked k) (same, complete) told = record {
   printed = subst (λ (x : Option (List ℕ)). IsPrinted status out.taken out.taken' (text (info_lines left.journal x)) (info_status left.journal x)) same
       (printed (info_status left.journal k) (text (info_lines left.journal k)) status out err told);
   complete = λ small. complete;
 }
-info_told key left status out err Memory ends (written, silent) = record {
+info_told key left status out err I.Memory ends (written, silent) = record {
   printed = inr (late status _ (lacks status _ err written), (0, silent_appends out silent));
   complete = λ small. too_late status (late status _ (lacks status _ err written)) small;
 }
@@ -288,25 +296,24 @@ info_told key left status out err Memory ends (written, silent) = record {
     too_late s (inl a) (inr b) = absurd (let bad : 5 ≡ 1 = sym a ∙ b in cc)
     too_late s (inr a) (inl b) = absurd (let bad : 7 ≡ 0 = sym a ∙ b in cc)
     too_late s (inr a) (inr b) = absurd (let bad : 7 ≡ 1 = sym a ∙ b in cc)
-info_told key left status out err end ends told = absurd ends
+info_told key left status out err (I.Refused reason) ends told = absurd ends
 
-info_wanted : (key : Option (List ℕ)) (left : Left) (end : End) → EndsInfo key left end → NeitherIn (wanted_of end)
+info_wanted : (key : Option (List ℕ)) (journal : List Entry) (end : InfoEnd) → EndsInfo key journal end → NeitherIn (wanted_of (end_of_info end))
 unfolding wanted_of NeitherIn
-info_wanted key left (Informed k) ends = (refl, refl)
-info_wanted key left Memory ends = (refl, refl)
-info_wanted key left end ends = absurd ends
+info_wanted key journal (I.Asked k) ends = (refl, refl)
+info_wanted key journal I.Memory ends = (refl, refl)
+info_wanted key journal (I.Refused reason) ends = absurd ends
 
 -- ---- init
 
-init_wanted : (words : InitWords) (told : Option Files) (table : DeskTold) (journal : List Entry) (end : End) → EndsInit words told table journal end → NeitherIn (wanted_of end)
+init_wanted : (end : InitEnd) → NeitherIn (wanted_of (end_of_init end))
 unfolding wanted_of NeitherIn
-init_wanted words told table journal (BadKept line) ends = (refl, refl)
-init_wanted words told table journal KeptTooLarge ends = (refl, refl)
-init_wanted words told table journal FileFailed ends = (refl, refl)
-init_wanted words told table journal (SetUp written) ends = (refl, refl)
-init_wanted words told table journal (NotSetUp answer) ends = (refl, refl)
-init_wanted words told table journal Memory ends = (refl, refl)
-init_wanted words told table journal end ends = absurd ends
+init_wanted (N.BadKept line) = (refl, refl)
+init_wanted N.KeptTooLarge = (refl, refl)
+init_wanted N.FileFailed = (refl, refl)
+init_wanted (N.SetUp written) = (refl, refl)
+init_wanted (N.NotSetUp answer) = (refl, refl)
+init_wanted N.Memory = (refl, refl)
 
 -- ---- run
 
@@ -337,11 +344,10 @@ unfolding wanted_of NeitherIn
 rehearsal_wanted M.Memory = (refl, refl)
 rehearsal_wanted (M.Done found) = (refl, refl)
 
-walk_wanted : (seed tasks : ℕ) (journal : List Entry) (answers : List Answer) (end : End) → EndsWalk seed tasks journal answers end → NeitherIn (wanted_of end)
+walk_wanted : (tasks : ℕ) (end : WalkEnd) → NeitherIn (wanted_of (end_of_walk tasks end))
 unfolding wanted_of NeitherIn
-walk_wanted seed tasks journal answers (Walked told equal found) ends = (refl, refl)
-walk_wanted seed tasks journal answers Memory ends = (refl, refl)
-walk_wanted seed tasks journal answers end ends = absurd ends
+walk_wanted tasks (K.Done equal found) = (refl, refl)
+walk_wanted tasks K.Memory = (refl, refl)
 
 -- ---- the objects
 
@@ -444,9 +450,6 @@ module _ (clock : Option ℕ) (before : OutsideValue) (input : InputFlow) (left 
 
   idle_desks : IsIdle before left → HaveMade before.made left.outside.made left.tables
   idle_desks idle = made_still before.made left.outside.made left.tables (ap (λ (o : OutsideValue). o.made) idle.outside) idle.tables
-
-  idle_leaves : (program : List ℕ) → IsIdle before left → Leaves (end ≡ Memory) program left.journal before.programs left.outside.programs left.wires
-  idle_leaves program idle = leaves_nothing _ before.programs left.outside.programs program left.journal left.wires (ap (λ (o : OutsideValue). o.programs) idle.outside) idle.journal idle.wires
 
   abbrev Called : Option Command → Type 0
   Called wish = IsCalled (record { clock = clock; before = before; input = input; out = out; err = err }) wish status left
@@ -557,7 +560,8 @@ module _ (clock : Option ℕ) (before : OutsideValue) (input : InputFlow) (left 
     where
       go : (r : Option Reason) → refusal_if key ≡ r → UnlessRefused r before whole (HasInformed program key before whole) → Called (Some (Info program key))
       go None e h =
-          let none = info_wanted key left end h.ends in
+          let none : NeitherIn (wanted_of end) = subst (λ (x : End). NeitherIn (wanted_of x)) (sym h.end_is) (info_wanted key left.journal h.end h.made.ends) in
+          let objects : Leaves (end ≡ Memory) program left.journal before.programs left.outside.programs left.wires = leaves_as (λ (memory : h.end ≡ I.Memory). h.end_is ∙ ap end_of_info memory) refl refl h.made.objects in
           record {
             usage = λ s. apart (wanted_of end) status 2 out err ends refl none.0 s;
             words = λ no. some_none (Info program key) no;
@@ -567,16 +571,16 @@ module _ (clock : Option ℕ) (before : OutsideValue) (input : InputFlow) (left 
             output = output;
             checked = tt;
             told = tt;
-            informed = if_fit _ (refusal_if key) (program, key) e h.informed;
-            info_told = if_fit _ (refusal_if key) (program, key) e (info_told key left status out err end h.ends told, h.none);
+            informed = if_fit _ (refusal_if key) (program, key) e h.made.informed;
+            info_told = if_fit _ (refusal_if key) (program, key) e (info_told key left status out err h.end h.made.ends (subst (λ (x : End). IsToldOf left status out err x) h.end_is told), h.none);
             init = tt;
             run = tt;
             audit = λ same. other_words (Some (Info program key)) refl same;
             rehearsal = tt;
             walk = tt;
-            wires = if_fit _ (refusal_if key) program e h.objects.wired;
-            starts = if_fit _ (refusal_if key) program e (started left status out err end program before told h.objects.started);
-            faults = if_fit _ (refusal_if key) program e h.objects.faults;
+            wires = if_fit _ (refusal_if key) program e objects.wired;
+            starts = if_fit _ (refusal_if key) program e (started left status out err end program before told objects.started);
+            faults = if_fit _ (refusal_if key) program e objects.faults;
             desks = made_still before.made left.outside.made left.tables h.desks.made h.desks.tables;
           }
       go (Some reason) e h =
@@ -606,8 +610,8 @@ module _ (clock : Option ℕ) (before : OutsideValue) (input : InputFlow) (left 
   called_init : (words : InitWords) → HasSetUp words before whole → Called (Some (Init words))
   unfolding wanted_of NeitherIn
   called_init words h =
-      let none = neither h in
-      let objects = left_of h in
+      let none : NeitherIn (wanted_of end) = subst (λ (x : End). NeitherIn (wanted_of x)) (sym h.end_is) (init_wanted h.end) in
+      let objects = left_of h.made in
       record {
         usage = λ s. apart (wanted_of end) status 2 out err ends refl none.0 s;
         words = λ no. some_none (Init words) no;
@@ -627,19 +631,15 @@ module _ (clock : Option ℕ) (before : OutsideValue) (input : InputFlow) (left 
         wires = objects.wired;
         starts = started left status out err end words.program before told objects.started;
         faults = objects.faults;
-        desks = desks h;
+        desks = desks h.made;
       }
     where
-      neither : HasSetUp words before whole → NeitherIn (wanted_of end)
-      neither (inl (e, idle)) = subst (λ (x : End). NeitherIn (wanted_of x)) (sym e) (refl, refl)
-      neither (inr d) = init_wanted words d.told d.table left.journal end d.ends
+      left_of : IsMadeSo words before left.outside (set_up_in left h.end) → Leaves (end ≡ Memory) words.program left.journal before.programs left.outside.programs left.wires
+      left_of (inl (memory, idle)) = leaves_nothing _ before.programs left.outside.programs words.program left.journal left.wires (ap (λ (o : OutsideValue). o.programs) idle.outside) idle.journal idle.wires
+      left_of (inr d) = leaves_as (λ (memory : h.end ≡ N.Memory). h.end_is ∙ ap end_of_init memory) refl refl d.objects
 
-      left_of : HasSetUp words before whole → Leaves (end ≡ Memory) words.program left.journal before.programs left.outside.programs left.wires
-      left_of (inl (e, idle)) = idle_leaves words.program idle
-      left_of (inr d) = d.objects
-
-      desks : HasSetUp words before whole → HaveMade before.made left.outside.made left.tables
-      desks (inl (e, idle)) = idle_desks idle
+      desks : IsMadeSo words before left.outside (set_up_in left h.end) → HaveMade before.made left.outside.made left.tables
+      desks (inl (memory, idle)) = made_still before.made left.outside.made left.tables (ap (λ (o : OutsideValue). o.made) idle.outside) idle.tables
       desks (inr d) = made_one before.made left.outside.made (record { number = 0; files = d.told }) d.table left.tables refl d.made d.tables
 
   called_run : (words : RunWords) → HasRun words clock before input whole → Called (Some (Run words))
@@ -727,7 +727,7 @@ module _ (clock : Option ℕ) (before : OutsideValue) (input : InputFlow) (left 
   called_walk : (seed tasks : ℕ) → IsUnread input × WalksTasks seed tasks before whole → Called (Some (Walk seed tasks))
   unfolding wanted_of NeitherIn
   called_walk seed tasks (unread, h) =
-      let none : NeitherIn (wanted_of end) = walk_wanted seed tasks left.journal left.answers end h.ends in
+      let none : NeitherIn (wanted_of end) = subst (λ (x : End). NeitherIn (wanted_of x)) (sym h.end_is) (walk_wanted tasks h.end) in
       record {
         usage = λ s. apart (wanted_of end) status 2 out err ends refl none.0 s;
         words = λ no. some_none (Walk seed tasks) no;
@@ -743,7 +743,7 @@ module _ (clock : Option ℕ) (before : OutsideValue) (input : InputFlow) (left 
         run = tt;
         audit = λ same. other_words (Some (Walk seed tasks)) refl same;
         rehearsal = tt;
-        walk = (end, h.ends, h.untouched, unread, told);
+        walk = (h.end, h.ends, h.untouched, unread, subst (λ (x : End). IsToldOf left status out err x) h.end_is told);
         wires = tt;
         starts = tt;
         faults = tt;
@@ -792,12 +792,11 @@ few clock before input (Some (Info program key)) ran ranges h = go (refusal_if k
     go : (r : Option Reason) → UnlessRefused r before ran (HasInformed program key before ran) → length ran.left.answers ≤ 65536
     go None h = none_few ran.left h.none
     go (Some reason) h = none_few ran.left h.idle.answers
-few clock before input (Some (Init words)) ran ranges (inl h) = none_few ran.left h.1.answers
-few clock before input (Some (Init words)) ran ranges (inr h) = none_few ran.left h.none
+few clock before input (Some (Init words)) ran ranges h = none_few ran.left h.none
 few clock before input (Some (Run words)) ran ranges (end, h, same) = few_done words clock before input ran.left.outside (made_in ran.left end) h
 few clock before input (Some AuditWord) ran ranges h = none_few ran.left h.idle.answers
 few clock before input (Some (Rehearse seed tasks)) ran ranges h = few_rehearsed seed tasks ran.left.journal ran.left.answers h.1.end ranges.2 h.1.made
-few clock before input (Some (Walk seed tasks)) ran ranges h = few_walked seed tasks ran.left.journal ran.left.answers ran.end ranges.2 h.1.ends
+few clock before input (Some (Walk seed tasks)) ran ranges h = few_walked seed tasks ran.left.journal ran.left.answers h.1.end ranges.2 h.1.ends
 
 -- ---- no memory was found for the words
 
@@ -813,13 +812,33 @@ nothing_checked clock program key before ran e idle = record {
     checked_at None = unstarted None key 0 ran.left.journal tt idle.journal
     checked_at (Some stamp) = unstarted (Some stamp) key stamp ran.left.journal refl idle.journal
 
-pub nothing_informed_of : (program : List ℕ) (key : Option (List ℕ)) (before : OutsideValue) (ran : RanValue) → ran.end ≡ Memory → IsIdle before ran.left → HasInformed program key before ran
+nothing_informed_of : (program : List ℕ) (key : Option (List ℕ)) (before : OutsideValue) (ran : RanValue) → ran.end ≡ Memory → IsIdle before ran.left → HasInformed program key before ran
 nothing_informed_of program key before ran e idle = record {
-  informed = nothing_informed key ran.left.journal idle.journal;
-  ends = subst (λ (x : End). EndsInfo key ran.left x) (sym e) tt;
+  end = I.Memory;
+  made = record {
+    informed = nothing_informed key ran.left.journal idle.journal;
+    ends = tt;
+    objects = leaves_nothing _ before.programs ran.left.outside.programs program ran.left.journal ran.left.wires (ap (λ (o : OutsideValue). o.programs) idle.outside) idle.journal idle.wires;
+  };
   none = idle.answers;
-  objects = leaves_nothing _ before.programs ran.left.outside.programs program ran.left.journal ran.left.wires (ap (λ (o : OutsideValue). o.programs) idle.outside) idle.journal idle.wires;
   desks = record { made = ap (λ (o : OutsideValue). o.made) idle.outside; tables = idle.tables };
+  end_is = e;
+}
+
+nothing_set_up : (words : InitWords) (before : OutsideValue) (ran : RanValue) → ran.end ≡ Memory → IsIdle before ran.left → HasSetUp words before ran
+nothing_set_up words before ran e idle = record {
+  end = N.Memory;
+  made = inl (refl, record { outside = idle.outside; journal = idle.journal; wires = idle.wires; tables = idle.tables });
+  none = idle.answers;
+  end_is = e;
+}
+
+nothing_walked : (seed tasks : ℕ) (before : OutsideValue) (ran : RanValue) → ran.end ≡ Memory → IsIdle before ran.left → WalksTasks seed tasks before ran
+nothing_walked seed tasks before ran e idle = record {
+  end = K.Memory;
+  ends = (idle.journal, idle.answers);
+  untouched = record { outside = idle.outside; wires = idle.wires; tables = idle.tables };
+  end_is = e;
 }
 
 pub runs_nothing : (clock : Option ℕ) (before : OutsideValue) (input : InputFlow) (command : Option Command) (ran : RanValue) → ran.end ≡ Memory → IsIdle before ran.left → IsUnread input
@@ -836,7 +855,7 @@ runs_nothing clock before input (Some (Info program key)) ran e idle unread = go
     go : (r : Option Reason) → UnlessRefused r before ran (HasInformed program key before ran)
     go None = nothing_informed_of program key before ran e idle
     go (Some reason) = record { end_is = inr e; idle = idle }
-runs_nothing clock before input (Some (Init words)) ran e idle unread = inl (e, idle)
+runs_nothing clock before input (Some (Init words)) ran e idle unread = nothing_set_up words before ran e idle
 runs_nothing clock before input (Some (Run words)) ran e idle unread =
     (R.Memory, inl (refl, record { outside = idle.outside; unread = unread; journal = idle.journal; answers = idle.answers; wires = idle.wires; tables = idle.tables }), e)
 runs_nothing clock before input (Some AuditWord) ran e idle unread = nothing_audited before input ran e idle unread

@@ -25,7 +25,7 @@ use Rattle.journal_model.proofs.Projecting.{parts_fit}
 use Rattle.task_model.specs.declared.setup.Setup.{Setup}
 use Rattle.run_starts.specs.Rounds.{EndsClosed, HasRun, RanAlone}
 use Rattle.run_command.specs.Runs.{AreAnswers, answer_of}
-use Rattle.special_cli.specs.Openings.{check_opening, info_opening}
+use Rattle.special_cli.specs.Openings.{check_opening}
 use Rattle.run_starts.specs.declared.plan.Plan.{Plan}
 use Rattle.special_cli.specs.declared.check.Ready.{Ready}
 use Rattle.special_cli.specs.declared.end.End.{End}
@@ -34,11 +34,11 @@ use Rattle.child_end.specs.Outsides.{OutsideValue}
 use Rattle.child_end.specs.Programs.{Leaves}
 use Rattle.special_cli.specs.Left.{Left, RanValue}
 use Rattle.special_cli.specs.Commands.{EndsCheck, HasChecked, HasNoDesk, IsPrepared}
-use Rattle.special_cli.proofs.Leaving.{leaves_as}
+use Rattle.run_once.proofs.Leaving.{leaves_as}
 use Rattle.special_cli.specs.Endings.{IsAnswered, IsChecked, check_setup}
 use Rattle.run_command.proofs.Leaving.{leaves_named}
 
--- what a check of a key that isn't refused begins with, and an info
+-- what a check of a key that isn't refused begins with
 begins : (o : Opening) → length o.tasks ≤ most_tasks → All IsTask o.tasks → o.identity ≡ nobody → o.again ≤ most_again → MayBegin o
 begins o few tasks who again = record {
   few = few;
@@ -59,9 +59,6 @@ check_begins key stamp o h same =
     let one : Task = record { work = Check; key = key; file = []; name = []; onto = [] } in
     subst MayBegin (sym same)
     (begins (check_opening key stamp) (lit≤ tt) (All-cons IsTask one [] record { key_class = task_key_class key h; file_class = refl; name_class = refl; onto_class = refl; apart = refl } (All-nil IsTask)) refl (lit≤ tt))
-
-pub info_begins : (o : Opening) → o ≡ info_opening → MayBegin o
-info_begins o same = subst MayBegin (sym same) (begins info_opening (lit≤ tt) (All-nil IsTask) refl (lit≤ tt))
 
 -- ---- nothing was done
 

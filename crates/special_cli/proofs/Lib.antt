@@ -1,16 +1,6 @@
-pub mod Asked
 pub mod Audited
-pub mod Beginning
 pub mod Calling
 pub mod Checked
 pub mod Few
 pub mod Rehearsed
-pub mod Walked
-pub mod Informed
-pub mod Leaving
-pub mod Looking
-pub mod Talking
-pub mod Keeping
-pub mod Settling
 pub mod Written
-pub mod Naming

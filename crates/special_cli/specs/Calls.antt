@@ -1,5 +1,5 @@
 -- All that is told of a call, in one record.
-use Rattle.std.specs.Prelude.{ℕ, ◌≡◌, ◌⊎◌, true, List, [], Option, Some, None, IfSome, IsSome, Result}
+use Rattle.std.specs.Prelude.{ℕ, ◌≡◌, ◌⊎◌, List, [], Option, Some, None, IfSome, IsSome, Result}
 use Rattle.ann_outside.specs.Causes.{Rose}
 use Rattle.ann_outside.specs.Desks.{Made}
 use Rattle.ann_outside.specs.Told.{ProgramsTold, SinkTold, SourceTold}
@@ -9,7 +9,8 @@ use Rattle.journal_audit.specs.declared.found.Audit.{Audit}
 use Rattle.cli_words.specs.declared.command.Command.{Command}
 use Rattle.cli_words.specs.declared.command.Command.TheVariants.{Audit as AuditWord}
 use Rattle.special_cli.specs.Endings.{refused_in, check_in, info_in, init_in, run_in, tasks_in, IsChecked, IsTold, LacksMemory}
-use Rattle.special_cli.specs.Informs.{IsInformed, IsInfoTold}
+use Rattle.info_command.specs.Informs.{IsInformed}
+use Rattle.special_cli.specs.Informs.{IsInfoTold}
 use Rattle.child_end.specs.Outsides.{OutsideValue}
 use Rattle.special_cli.specs.Left.{Left, IsIdle}
 use Rattle.child_end.specs.Wires.{AreWires, came}
@@ -20,7 +21,9 @@ use Rattle.special_cli.specs.Setups.{HasSetUp}
 use Rattle.special_cli.specs.Doings.{end_of, made_in}
 use Rattle.special_cli.specs.Audits.{IsAuditOf, end_of_audit}
 use Rattle.special_cli.specs.Rehearsals.{IsUntouched, end_of_rehearsal, rehearsal_in}
-use Rattle.special_cli.specs.Walks.{EndsWalk, walk_in}
+use Rattle.special_cli.specs.Walks.{end_of_walk, walk_in}
+use Rattle.walk_command.specs.Walks.{EndsWalk}
+use Rattle.walk_command.specs.declared.made.WalkEnd.{WalkEnd}
 use Rattle.rehearse_command.specs.Rehearsals.{HasRehearsed as HasMade}
 use Rattle.rehearse_command.specs.declared.made.RehearsalEnd.{RehearsalEnd}
 use Rattle.run_command.specs.Inputs.{InputFlow, IsUnread, input_flow}
@@ -53,7 +56,7 @@ IsRehearsalCalled seed tasks before input status out err left =
 -- the tasks of a walk were done in a world of its own, nothing that was handed in was touched, and what came of them was told so
 abbrev pub IsWalkCalled : ℕ → ℕ → OutsideValue → InputFlow → ℕ → Flow → Flow → Left → Type 0
 IsWalkCalled seed tasks before input status out err left =
-    (end : End) × EndsWalk seed tasks left.journal left.answers end × IsUntouched before left × IsUnread input × IsToldOf left status out err end
+    (end : WalkEnd) × EndsWalk seed tasks left.journal left.answers end × IsUntouched before left × IsUnread input × IsToldOf left status out err (end_of_walk tasks end)
 
 -- what a call of the program is lent, before and after, as far as that is told: what the clock answers, what was handed in, what was read,
 -- and what was printed

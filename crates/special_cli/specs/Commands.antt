@@ -2,13 +2,14 @@
 use Rattle.std.specs.Prelude.{ℕ, ◌≡◌, ◌⊎◌, List, [], Option, None, Some, false}
 use Rattle.journal_model.specs.declared.answer.Answer.{Answer}
 use Rattle.special_cli.specs.declared.end.End.{End}
-use Rattle.special_cli.specs.declared.end.End.TheVariants.{Usage, Shown, Refused, Memory, Answered, Informed}
+use Rattle.special_cli.specs.declared.end.End.TheVariants.{Usage, Shown, Refused, Memory, Answered}
 use Rattle.cli_words.specs.declared.refusals.Reason.{Reason}
 use Rattle.special_cli.specs.declared.check.Ready.{Ready}
-use Rattle.special_cli.specs.declared.info.Ready.{Ready as InfoReady}
-use Rattle.special_cli.specs.Openings.{check_opening, info_opening}
+use Rattle.special_cli.specs.Openings.{check_opening}
+use Rattle.info_command.specs.Informs.{HasInformed as HasMade}
+use Rattle.info_command.specs.declared.made.InfoEnd.{InfoEnd}
 use Rattle.special_cli.specs.Endings.{IsChecked, IsAnswered, check_setup}
-use Rattle.special_cli.specs.Informs.{IsInformed, IsComplete}
+use Rattle.special_cli.specs.Informs.{end_of_info, informed_in}
 use Rattle.child_end.specs.Outsides.{OutsideValue}
 use Rattle.special_cli.specs.Left.{Left, RanValue, IsIdle}
 use Rattle.child_end.specs.Programs.{Leaves}
@@ -55,24 +56,13 @@ pub record HasChecked (clock : Option ℕ) (program key : List ℕ) (before : Ou
 
 -- ---- info
 
--- what an info of the key is made with
-pub record IsReady (key : Option (List ℕ)) (r : InfoReady) : Type 0 where
-  pub opening : r.core.opening ≡ info_opening
-  pub empty : r.core.journal ≡ []
-  pub told : r.key ≡ key
-
--- all was asked, or there is a cause, or no memory was found
-abbrev pub EndsInfo : Option (List ℕ) → Left → End → Type 0
-EndsInfo key left (Informed k) = (k ≡ key) × IsComplete key left.journal
-EndsInfo key left Memory = Unit {0}
-EndsInfo key left end = ⊥
-
+-- the child was asked so, and what came of it is left
 pub record HasInformed (program : List ℕ) (key : Option (List ℕ)) (before : OutsideValue) (ran : RanValue) : Type 0 where
-  pub informed : IsInformed key ran.left.journal
-  pub ends : EndsInfo key ran.left ran.end
+  pub end : InfoEnd
+  pub made : HasMade program key before.programs ran.left.outside.programs (informed_in ran.left end)
   pub none : ran.left.answers ≡ []
-  pub objects : Leaves (ran.end ≡ Memory) program ran.left.journal before.programs ran.left.outside.programs ran.left.wires
   pub desks : HasNoDesk before ran.left
+  pub end_is : ran.end ≡ end_of_info end
 
 -- ---- the words
 

@@ -6,10 +6,7 @@ use Rattle.ann_outside.specs.Causes.{Stays}
 use Rattle.journal_model.specs.declared.answer.Answer.{Answer}
 use Rattle.journal_model.specs.declared.answer.Answer.TheVariants.{Stored, Got, Present, Dropped, Renamed}
 use Rattle.journal_model.specs.Output.{answer_line}
-use Rattle.journal_model.specs.declared.entry.What.{What}
-use Rattle.journal_model.specs.declared.entry.What.TheVariants.{Start, NoStart}
 use Rattle.journal_model.specs.declared.entry.Entry.{Entry}
-use Rattle.journal_model.specs.Journal.{each_of}
 use Rattle.journal_model.specs.Due.{replies_at}
 use Rattle.journal_model.specs.Projection.{JobFits}
 use Rattle.task_model.specs.declared.setup.Setup.{Setup}
@@ -58,15 +55,6 @@ run_in (Some (Run words)) = Some words.program
 run_in wish = None
 
 -- ---- the journal
-
--- a start, whether it gave a child or not
-abbrev pub start_in : What → Option What
-start_in (Start child slot offer) = Some (Start child slot offer)
-start_in (NoStart slot) = Some (NoStart slot)
-start_in _ = None
-
-abbrev pub starts_in : List Entry → List What
-starts_in journal = each_of start_in journal
 
 -- a check has no files, and its content has no chunks
 abbrev pub check_setup : ℕ → Setup

@@ -5,11 +5,9 @@ pub mod Doings
 pub mod Endings
 pub mod Informs
 pub mod Left
-pub mod Objects
 pub mod Openings
 pub mod Rehearsals
 pub mod Sayings
-pub mod Interviews
 pub mod Tells
 pub mod Walks
 pub mod Wishes

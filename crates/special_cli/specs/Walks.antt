@@ -1,22 +1,17 @@
 -- What comes of a rehearsal in a closed world.
-use Rattle.std.specs.Prelude.{ℕ, ◌≡◌, ◌==◌, ◌&&◌, Bool, if◌then◌else◌, List, [], ◌∷◌, ◌++◌, length, codes, decimal, Option, Some, None}
+use Rattle.std.specs.Prelude.{ℕ, ◌≡◌, ◌==◌, ◌&&◌, Bool, if◌then◌else◌, List, ◌∷◌, ◌++◌, [], length, codes, decimal, Option, Some, None}
 use Rattle.child_end.specs.Outsides.{OutsideValue}
 use Rattle.cli_words.specs.declared.command.Command.{Command}
 use Rattle.cli_words.specs.declared.command.Command.TheVariants.{Walk}
-use Rattle.journal_audit.specs.Audits.{IsAudit}
 use Rattle.journal_audit.specs.declared.found.Audit.{Audit}
 use Rattle.journal_model.specs.declared.answer.Answer.{Answer}
-use Rattle.journal_model.specs.declared.entry.Entry.{Entry}
-use Rattle.pair_world.specs.Standing.{Stands}
-use Rattle.pair_kit.specs.Stored.{ChangesFiles}
-use Rattle.world_walk.specs.Walks.{Walked as IsWalked, equal_in, first_world}
-use Rattle.pair_kit.specs.Worlds.{WorldValue}
-use Rattle.rehearse_plan.specs.Plans.{opening_of}
 use Rattle.rehearse_plan.specs.Tallies.{count_lines, count_of}
 use Rattle.rehearse_plan.specs.declared.tally.Word.TheVariants.{Got, Other}
-use Rattle.run_answers.specs.Answers.{given}
+use Rattle.walk_command.specs.Walks.{EndsWalk}
+use Rattle.walk_command.specs.declared.made.WalkEnd.{WalkEnd}
+use Rattle.walk_command.specs.declared.made.WalkEnd.TheVariants as W
 use Rattle.special_cli.specs.Audits.{found_line, found_status}
-use Rattle.special_cli.specs.Left.{Left, RanValue}
+use Rattle.special_cli.specs.Left.{RanValue}
 use Rattle.special_cli.specs.Rehearsals.{IsUntouched}
 use Rattle.special_cli.specs.declared.end.End.{End}
 use Rattle.special_cli.specs.declared.end.End.TheVariants.{Memory, Walked}
@@ -45,26 +40,14 @@ walk_status tasks answers equal found = if is_walk_well tasks answers equal then
 
 -- ---- what it comes to
 
--- The walk ended in a world that stands: no end finds fault with the other, each verdict is an answer of its child's kit, and a key has
--- what was stored last. The journal and the answers are those of that world.
-pub record HasWalked (seed tasks : ℕ) (journal : List Entry) (answers : List Answer) (equal : ℕ) (found : Audit) : Type 0 where
-  pub world : WorldValue
-  pub walked : IsWalked seed tasks world
-  pub stands : Stands world
-  pub files : ChangesFiles (first_world seed tasks) world
-  pub opening_is : world.opening ≡ opening_of seed tasks
-  pub journal_is : journal ≡ world.journal
-  pub answers_are : answers ≡ given world.opening world.journal
-  pub equal_is : equal ≡ equal_in seed tasks world
-  pub audit : IsAudit world.opening world.journal found
+-- what is to be told of a walk of so many tasks that ended so
+abbrev pub end_of_walk : ℕ → WalkEnd → End
+end_of_walk tasks W.Memory = Memory
+end_of_walk tasks (W.Done equal found) = Walked tasks equal found
 
--- so it is, or no memory was found, and nothing is left of it
-abbrev pub EndsWalk : ℕ → ℕ → List Entry → List Answer → End → Type 0
-EndsWalk seed tasks journal answers (Walked told equal found) = (told ≡ tasks) × HasWalked seed tasks journal answers equal found
-EndsWalk seed tasks journal answers Memory = (journal ≡ []) × (answers ≡ [])
-EndsWalk seed tasks journal answers end = ⊥
-
--- The tasks were done in a world of its own.
+-- The tasks were done in a world of its own, and what came of them is left.
 pub record WalksTasks (seed tasks : ℕ) (before : OutsideValue) (ran : RanValue) : Type 0 where
-  pub ends : EndsWalk seed tasks ran.left.journal ran.left.answers ran.end
+  pub end : WalkEnd
+  pub ends : EndsWalk seed tasks ran.left.journal ran.left.answers end
   pub untouched : IsUntouched before ran.left
+  pub end_is : ran.end ≡ end_of_walk tasks end

@@ -1,6 +1,6 @@
 ghost use Rattle.std.specs.Prelude.{◌≡◌, IfOk};
 ghost use Rattle.ann_key.specs.KeyRefs.{text_of};
-ghost use Rattle.special_cli.specs.Openings.{info_opening, check_opening};
+ghost use Rattle.special_cli.specs.Openings.{check_opening};
 
 use ann_key::{Key, KeyRef, NoMemory, Text};
 use chunk_log::NoteBook;
@@ -9,20 +9,6 @@ use journal_model::Opening;
 use reg_file::Registers;
 use std::alloc::Global;
 use task_text::{Task, Tasks, Work};
-
-/// What an info begins with: no task, and no stamp.
-pub(super) fn info_opening(alloc: Global) -> Result<Opening, NoMemory>
-    ensures { IfOk result (λ o. o ≡ info_opening) }
-{
-    Ok(Opening {
-        tasks: Tasks::new(Vec::new(alloc)),
-        registers: Registers::new(alloc),
-        notes: NoteBook::new(alloc),
-        identity: nobody(alloc)?,
-        stamp: 0,
-        again: 0,
-    })
-}
 
 // The one task of a check.
 fn check_tasks(alloc: Global, key: KeyRef<'_>) -> Result<Tasks, NoMemory>

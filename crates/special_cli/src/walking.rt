@@ -2,52 +2,20 @@
 ghost use Rattle.std.specs.Prelude.{◌≡◌, ◌≤◌, IfOk};
 ghost use Rattle.special_cli.specs.Sayings.{Says};
 ghost use Rattle.special_cli.specs.Tells.{IsPrintedOr};
-ghost use Rattle.special_cli.specs.Walks.{HasWalked, WalksTasks, is_walk_well, walk_status, walk_text};
+ghost use Rattle.special_cli.specs.Walks.{WalksTasks, end_of_walk, is_walk_well, walk_status, walk_text};
 
 use crate::end::End;
 use crate::outside::Outside;
-use crate::ran::{Ran, journal_of};
+use crate::ran::Ran;
 use crate::saying::Saying;
 use crate::telling::{found_line, found_status};
 use ann_key::{Bytes, NoMemory};
 use ann_outside::{Desks, Programs};
-use journal_audit::{Audit, audit};
-use journal_look::Journal;
+use journal_audit::Audit;
 use journal_model::Answer;
 use rehearse_plan::{Word, count_of, print_counts};
-use run_answers::answers_given;
 use std::alloc::Global;
-use world_walk::{Walk, walk};
-
-// What a walk made.
-#[derive(Drop)]
-struct Walked {
-    journal: Journal,
-    answers: Vec<Answer>,
-    equal: u64,
-    found: Audit,
-}
-
-// Does the tasks, and audits their journal.
-fn do_walk(alloc: Global, seed: u32, tasks: u32) -> Result<Walked, NoMemory>
-    requires { tasks ≤ 65536 }
-    ensures { IfOk result (λ w. HasWalked seed tasks w.journal.entries w.answers.items w.equal w.found) }
-{
-    let Walk {
-        counts: _,
-        equal,
-        world,
-    } = walk(alloc, u64::from(seed), tasks)?;
-    let core = world.core();
-    let answers = answers_given(alloc, core)?;
-    let found = audit(alloc, core.opening(), core.journal())?;
-    Ok(Walked {
-        journal: journal_of(world.close()),
-        answers,
-        equal,
-        found,
-    })
-}
+use walk_command::WalkEnd;
 
 /// Does so many tasks, which the seed gives, in a world of its own. What was handed in stays untouched.
 pub(crate) fn walk_tasks<P: Programs, K: Desks>(
@@ -59,20 +27,28 @@ pub(crate) fn walk_tasks<P: Programs, K: Desks>(
     requires { tasks ≤ 65536 }
     ensures { WalksTasks seed tasks outside result }
 {
-    match do_walk(alloc, seed, tasks) {
-        Ok(made) => Ran {
-            outside,
-            journal: made.journal,
-            answers: made.answers,
-            wires: Vec::new(alloc),
-            tables: Vec::new(alloc),
-            end: End::Walked {
-                tasks,
-                equal: made.equal,
-                found: made.found,
-            },
+    let made = walk_command::walk_tasks(alloc, seed, tasks);
+    Ran {
+        outside,
+        journal: made.journal,
+        answers: made.answers,
+        wires: Vec::new(alloc),
+        tables: Vec::new(alloc),
+        end: end_of_walk(tasks, made.end),
+    }
+}
+
+// What is to be told of a walk of so many tasks that ended so.
+fn end_of_walk(tasks: u32, end: WalkEnd) -> End
+    ensures { result ≡ end_of_walk tasks end }
+{
+    match end {
+        WalkEnd::Memory => End::Memory,
+        WalkEnd::Done { equal, found } => End::Walked {
+            tasks,
+            equal,
+            found,
         },
-        Err(NoMemory) => Ran::nothing(alloc, outside, End::Memory),
     }
 }
 

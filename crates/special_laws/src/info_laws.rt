@@ -1,7 +1,8 @@
 // Laws over what is told of an info, each the contract of a function with nothing to do.
 ghost use Rattle.std.specs.Prelude.{◌≡◌, ◌++◌, [], ◌∷◌, Some, None, codes, true};
 ghost use Rattle.info_command.specs.Rows.{foul_cost, not_started};
-ghost use Rattle.special_cli.specs.Informs.{IsInfoTold, IsComplete};
+ghost use Rattle.info_command.specs.Informs.{IsComplete};
+ghost use Rattle.special_cli.specs.Informs.{IsInfoTold};
 ghost use Rattle.special_laws.specs.Rows.{unasked};
 
 /// A child that is ended for its second answer is told by the first and the line in place of the second, at status 1; with no

@@ -1,7 +1,7 @@
 use Rattle.std.proofs.Common.{None, refl, inl, inr}
 use Rattle.journal_model.specs.declared.verdict.Why.TheVariants.{Foul}
 use Rattle.info_command.specs.Rows.{foul_cost}
-use Rattle.special_cli.specs.Informs.{IsComplete}
+use Rattle.info_command.specs.Informs.{IsComplete}
 use Rattle.special_laws.proofs.info_laws.a_foul_cost_is_told.Goals as goal
 
 whole : IsComplete None foul_cost
