@@ -90,6 +90,7 @@ jobs_begin o setup may limit journal desks whole none = subst (λ (j : List Entr
   placed = tt;
   did = desks_nothing o setup limit [] [] [] 1 desks refl;
   alone = λ one. refl;
+  last = λ one claimed. record { past = []; closings = []; is = refl; answered = refl; closed = refl };
   shut = λ c. refl;
 }
 
@@ -200,6 +201,7 @@ module _ {o : Opening} {setup : Setup} {limit : ℕ} {offer next : Bool} {first 
           (subst (λ (n : ℕ). HaveDesks n (old ++ main_entry first ∷ []) s.later) (sym as_many) s.placed)));
       did = subst (λ (j : List Entry). DesksDid o setup limit j [] j 1 desks0 desks') (sym s.is) did_now;
       alone = λ one. ap (are_by 0) s.is ∙ all-join (λ (e : Entry). e.by == 0) old tail (b.alone one) (s.alone (sym as_many ∙ one));
+      last = λ one. s.last (sym as_many ∙ one);
       shut = s.shut b.shut;
     }
 

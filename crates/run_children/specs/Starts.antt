@@ -15,7 +15,7 @@ use Rattle.child_end.specs.Programs.{AddsAll, RoseBy, is_failed_start, told}
 use Rattle.child_link.specs.Wires.{WireValue}
 use Rattle.child_end.specs.Wires.{came}
 use Rattle.run_starts.specs.Starting.{AllOffer, AreEnded, children, is_offered, is_ready_untagged}
-use Rattle.run_starts.specs.Rounds.{AllLostWell, AllStandNext, NoneUntaken, is_of_run}
+use Rattle.run_starts.specs.Rounds.{AllLostWell, AllStandNext, EndsClosed, NoneUntaken, is_of_run}
 use Rattle.run_starts.specs.Stints.{AreLinked, IsOver, IsStart, MayHaveAsked, main_entry, next_child}
 use Rattle.run_pools.specs.Slots.{AllInTurn, AreSpent, IsManned, in_pool, is_first_start, offers_tags, spends}
 use Rattle.run_children.specs.Desks.{DesksDid, HaveDesks}
@@ -25,7 +25,9 @@ use Rattle.run_children.specs.Posts.{AllPosted}
 
 -- Where a task is left, the journal has one start of slot 0 more, and what followed it: claims and starts in other slots, in turn, none
 -- offering ASYNC, and nothing of an earlier child. No task is busy after it, no job is open, and its children have ended. Where it is
--- whole, the start is spent, or all tasks are claimed, and a pool had all its starts. `next` says whether ASYNC is offered from then on. Each task that was claimed is done, by its desk.
+-- whole, the start is spent, or all tasks are claimed, and a pool had all its starts. `next` says whether ASYNC is offered from then on.
+-- Each task that was claimed is done, by its desk. With one desk the main thread made all of it, and where all tasks are claimed nothing
+-- was done after the last but closings.
 pub record JobStretch (o : Opening) (setup : Setup) (limit : ℕ) (offer next : Bool) (first : What) (old new : List Entry) (desks desks' : List DeskTold) (whole : Bool) : Type 0 where
   pub left : are_all_claimed o old ≡ false
   pub later : List Entry
@@ -47,6 +49,7 @@ pub record JobStretch (o : Opening) (setup : Setup) (limit : ℕ) (offer next : 
   pub placed : HaveDesks (length desks) (old ++ main_entry first ∷ []) later
   pub did : DesksDid o setup limit new (old ++ main_entry first ∷ []) later 1 desks desks'
   pub alone : length desks ≡ 1 → are_by 0 later ≡ true
+  pub last : length desks ≡ 1 → are_all_claimed o new ≡ true → EndsClosed new
   pub shut : ((c : ℕ) → open_jobs old c ≡ []) → (c : ℕ) → open_jobs new c ≡ []
 
 -- The programs were asked for what the entries' starts say, the wires are those of their children, in order, and a fault was counted
@@ -80,8 +83,9 @@ RunLacksMemory o setup limit offer program old new desks desks' before after wir
 -- ---- between two starts
 
 -- So many starts of slot 0 were made; starts and claims stand in their slots and their turn, and offer ASYNC where they are to. The
--- children have ended, and where all were whole each start is spent, or all tasks are claimed, and a pool had all its starts. No task is busy, no job is open, and no start is left for a task to
--- take. Each task that was claimed is done, by its desk.
+-- children have ended, and where all were whole each start is spent, or all tasks are claimed, and a pool had all its starts. No task is
+-- busy, no job is open, and no start is left for a task to take. Each task that was claimed is done, by its desk. With one desk it is as
+-- after one start.
 pub record JobsBetween (o : Opening) (setup : Setup) (may : Bool) (limit made : ℕ) (offer : Bool) (journal : List Entry) (desks desks' : List DeskTold) (whole : Bool) : Type 0 where
   pub legal : Legal o journal
   pub turn : AllInTurn o (length desks) [] journal
@@ -100,6 +104,7 @@ pub record JobsBetween (o : Opening) (setup : Setup) (may : Bool) (limit made : 
   pub placed : HaveDesks (length desks) [] journal
   pub did : DesksDid o setup limit journal [] journal 1 desks desks'
   pub alone : length desks ≡ 1 → are_by 0 journal ≡ true
+  pub last : length desks ≡ 1 → are_all_claimed o journal ≡ true → EndsClosed journal
   pub shut : (c : ℕ) → open_jobs journal c ≡ []
 
 -- the children were started until all starts of slot 0 were made or all tasks claimed, or no memory was found to start one

@@ -1,8 +1,7 @@
--- What is so of a run by one thread that went well from outside, and how its tasks are answered then.
-use Rattle.std.specs.Prelude.{ℕ, ◌≡◌, ◌<◌, ◌==◌, ◌&&◌, not, Bool, true, false, List, All, Some, is_some}
+-- What is so of a run that went well from outside: of its children, of its keys, and at the desk of a task.
+use Rattle.std.specs.Prelude.{ℕ, ◌≡◌, ◌==◌, ◌&&◌, not, Bool, true, false, List, Some, is_some}
 use Rattle.ann_key.specs.Keys.{Parts, key_reading}
 use Rattle.ann_outside.specs.declared.file_desk.Call.{Call}
-use Rattle.journal_model.specs.declared.answer.Answer.{Answer}
 use Rattle.journal_model.specs.declared.entry.What.{What}
 use Rattle.journal_model.specs.declared.entry.What.TheVariants.{NoStart, Mute, End, Verdict as Settled}
 use Rattle.journal_model.specs.declared.entry.Entry.{Entry}
@@ -16,9 +15,7 @@ use Rattle.task_model.specs.Askings.{run_askings, run_turn}
 use Rattle.task_model.specs.TaskRuns.{refused_at}
 use Rattle.crew_laws.specs.JournalRuns.{JournalRun}
 use Rattle.crew_worker.specs.Works.{TaskDone}
-use Rattle.run_starts.specs.Rounds.{HasRun, ZeroRun}
 use Rattle.task_laws.specs.WentWell.{DeskWentWell, IsSuccess}
-use Rattle.task_laws.specs.RunWell.{AreAskedWell}
 
 -- ---- children
 
@@ -49,10 +46,6 @@ pub record ChildrenWell (journal : List Entry) : Type 0 where
   pub closed : any is_unclosed_end journal ≡ false
   pub heard : any is_muting journal ≡ false
 
--- Where a start is allowed, no task is claimed without a child in such a run.
-abbrev pub NoneWithoutChild : Type 0
-NoneWithoutChild = (limit : ℕ) (journal : List Entry) (t : ℕ) → 0 < limit → ChildrenWell journal → (answer : Answer) → ZeroRun limit journal t answer → ⊥
-
 -- ---- the run
 
 -- each task's key can be read
@@ -64,20 +57,6 @@ abbrev pub IsDeskWell : Opening → Setup → List Entry → ℕ → ℕ → ℕ
 IsDeskWell o setup journal number t k calls =
     (run : JournalRun o setup calls number t k journal) (key : Parts) → key_reading run.task.key ≡ Some key → DeskWentWell setup (run_turn run.run) run.task key run.layouts (run_askings run.run) calls
 
--- A start was allowed, all went well with the children and at the desk, and each request of a task was done; what a store asks before it
--- stores may be answered in any way.
-pub record WentWellAlone (o : Opening) (setup : Setup) (limit : ℕ) (journal : List Entry) (done : List TaskDone) : Type 0 where
-  pub starts : 0 < limit
-  pub keys : AreKeysRead o
-  pub children : ChildrenWell journal
-  pub asked : AreAskedWell o journal
-  pub desks : All (λ r. IsDeskWell o setup journal 0 r.task r.turn r.calls) done
-
 -- the task is answered by its success, or says that memory ran out
 abbrev pub IsDoneWell : Opening → TaskDone → Type 0
 IsDoneWell o r = (task : Task) → task_of o r.task ≡ Some task → IsSuccess task.work r.answer
-
--- Then each task that was run is answered by its success, or says that memory ran out.
-abbrev pub LoneSucceeds : Type 0
-LoneSucceeds =
-    (o : Opening) (setup : Setup) (limit : ℕ) (journal : List Entry) (done : List TaskDone) → WentWellAlone o setup limit journal done → All (HasRun o setup limit journal) done → All (IsDoneWell o) done
