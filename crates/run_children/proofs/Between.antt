@@ -229,6 +229,10 @@ pub whole_of : {o : Opening} {setup : Setup} {may : Bool} {limit made : ℕ} {of
     → JobsBetween o setup may limit made offer journal desks desks' true
 whole_of {o} {setup} {may} {limit} {made} {offer} {journal} {desks} {desks'} whole b e = subst (λ (w : Bool). JobsBetween o setup may limit made offer journal desks desks' w) e b
 
+pub still_many : {o : Opening} {setup : Setup} {may : Bool} {limit made : ℕ} {offer : Bool} {journal : List Entry} {desks desks' : List DeskTold} {whole : Bool} → JobsBetween o setup may limit made offer journal desks desks' whole
+    → length desks' ≡ length desks
+still_many {o} {setup} {may} {limit} {made} {offer} {journal} {desks} {desks'} b = sym (desks_as_many o setup limit journal [] journal 1 desks desks' b.did)
+
 -- where tasks are left after all starts, each of them is spent
 pub all_over : {o : Opening} {setup : Setup} {may : Bool} {limit made : ℕ} {offer : Bool} {journal : List Entry} {desks desks' : List DeskTold} → JobsBetween o setup may limit made offer journal desks desks' true → IsOver o limit made journal
     → are_all_claimed o journal ≡ false → (made ≡ limit) × AreSpent journal

@@ -1,15 +1,16 @@
 -- What one start of slot 0 and what follows it comes to, and how a run stands between two of them.
 use Rattle.ann_outside.specs.Told.{DeskTold, ProgramsTold}
-use Rattle.std.specs.Prelude.{ℕ, ◌≡◌, ◌⊎◌, ◌≤◌, ◌&&◌, not, Bool, true, false, List, [], ◌∷◌, ◌++◌, length, Result, MatchResult}
+use Rattle.std.specs.Prelude.{ℕ, ◌≡◌, ◌⊎◌, ◌<◌, ◌≤◌, ◌+◌, ◌&&◌, not, Bool, true, false, List, [], ◌∷◌, ◌++◌, length, Result, MatchResult}
 use Rattle.std.specs.List.{list_all, list_any}
 use Rattle.ann_key.specs.declared.bytes.NoMemory.{NoMemory}
 use Rattle.journal_model.specs.declared.entry.What.{What}
 use Rattle.journal_model.specs.declared.entry.Entry.{Entry}
 use Rattle.journal_model.specs.declared.opening.Opening.{Opening}
 use Rattle.journal_model.specs.Journal.{any, is_ended, open_jobs}
-use Rattle.journal_model.specs.Legality.{Legal, count, is_busy}
+use Rattle.journal_model.specs.Legality.{Legal, count, is_busy, is_start}
 use Rattle.journal_model.specs.Shares.{are_by}
 use Rattle.host_core.specs.Steps.{are_all_claimed}
+use Rattle.crew_laws.specs.Rounds.{IsAtRest}
 use Rattle.task_model.specs.declared.setup.Setup.{Setup}
 use Rattle.child_end.specs.Programs.{AddsAll, RoseBy, is_failed_start, told}
 use Rattle.child_link.specs.Wires.{WireValue}
@@ -22,6 +23,13 @@ use Rattle.run_children.specs.Desks.{DesksDid, HaveDesks}
 use Rattle.run_children.specs.Posts.{AllPosted}
 
 -- ---- one start of slot 0
+
+-- One more may be made: no task is busy and no job open in a legal journal, a task is left, and the numbers of children last.
+pub record MayStartOne (o : Opening) (journal : List Entry) : Type 0 where
+  pub legal : Legal o journal
+  pub calm : IsAtRest journal
+  pub few : count is_start journal + 65 < 4294967295
+  pub left : are_all_claimed o journal ≡ false
 
 -- Where a task is left, the journal has one start of slot 0 more, and what followed it: claims and starts in other slots, in turn, none
 -- offering ASYNC, and nothing of an earlier child. No task is busy after it, no job is open, and its children have ended. Where it is

@@ -1,14 +1,17 @@
-// A whole run by as many workers as there are desks: children are started one after the other, and each does tasks until it is gone.
+// A whole run: children are started one after the other, and each does tasks until it is gone, by one worker or by as many as there are desks.
 #![tactic(auto)]
 
 mod bench;
+mod crew;
 pub mod laws;
 mod pooling;
 pub mod rows;
 mod running;
 mod serving;
 mod setting;
+mod single;
 mod starting;
+mod workers;
 
 pub use bench::Bench;
-pub use running::run_jobs;
+pub use running::{run_alone, run_jobs};

@@ -1,5 +1,5 @@
 // What is done after a child of slot 0 that is ready and takes no tags: a pool is gathered, does tasks and is closed.
-ghost use Rattle.std.specs.Prelude.{◌≡◌, ◌≤◌, ◌<◌, ◌+◌, ◌++◌, [], All, IfErr, IfOk, IsErr, MatchResult, is_ok, map, reverse, vec_len, vec_capacity, false, true};
+ghost use Rattle.std.specs.Prelude.{◌≡◌, ◌≤◌, ◌<◌, ◌+◌, ◌++◌, All, IfErr, IfOk, IsErr, MatchResult, is_ok, map, reverse, vec_len, vec_capacity, false, true};
 ghost use Rattle.ann_outside.specs.Causes.{Stays};
 ghost use Rattle.annex_model.specs.Lines.{has_newline};
 ghost use Rattle.child_end.specs.Wires.{IsHeld};
@@ -10,14 +10,13 @@ ghost use Rattle.crew_laws.specs.Laws.{children_of};
 ghost use Rattle.crew_laws.specs.Rounds.{IsAtRest};
 ghost use Rattle.run_children.specs.Pools.{PoolServed};
 ghost use Rattle.run_children.specs.PoolSteps.{AreLaid, ClosesAll, RoundsPool, ServesFirst, ServesLinks, ServesLinksUnless, ServesOne, StarvedLinks, serving};
-ghost use Rattle.run_children.specs.Servings.{CanBeServed};
+ghost use Rattle.run_children.specs.Runs.{IsHanded};
+ghost use Rattle.run_children.specs.Servings.{StandsReady};
 ghost use Rattle.journal_model.specs.Journal.{is_started};
-ghost use Rattle.journal_model.specs.Legality.{count, is_start};
 ghost use Rattle.crew_worker.specs.Works.{AreTasks};
 ghost use Rattle.crew_tagged.specs.PoolChildren.{PoolCan};
 ghost use Rattle.crew_pool.specs.Pool.{AreAsBefore, AreSameLinks};
 ghost use Rattle.run_pools.specs.Pools.{seat_value};
-ghost use Rattle.run_pools.specs.Slots.{has_pool, is_unclaimed_since, last_slot};
 
 use crate::bench::Bench;
 use crate::setting::Setting;
@@ -303,7 +302,8 @@ fn serve_links<
 /// `NoMemory` is answered where no memory was found to start a child, or for the round: then no task was done, and those that were
 /// started are closed.
 pub(crate) fn serve_pool<P: Programs, K: Desk + Send + Drop, R: Threads + Wait + Sync>(
-    setting: &Setting<'_, R>,
+    rt: &R,
+    setting: &Setting<'_>,
     programs: &mut P,
     link: Lone<P::Inlet, P::Outlet>,
     stub: P::Stub,
@@ -315,14 +315,8 @@ where
     P::Outlet: Send + Drop,
     P::Stub: Drop,
     requires desks { (1 < vec_len bench.desks) × (vec_len bench.desks ≤ 64) }
-    requires tasks { (bench.core.opening.tasks ≡ setting.now.tasks.now) × AreTasks setting.now.tasks.now }
-    requires folder { has_newline setting.now.plan.now.setup.work ≡ false }
-    requires can { CanBeServed bench.core.opening bench.core.journal link.ear link.mouth false }
-    requires few { count is_start bench.core.journal + 64 < 4294967295 }
-    requires pool { has_pool bench.core.journal ≡ true }
-    requires last { last_slot bench.core.journal ≡ 0 }
-    requires since { is_unclaimed_since bench.core.journal ≡ true }
-    requires last_child { link.ear.child ≡ count is_start bench.core.journal }
+    requires handed { IsHanded bench.core.opening setting.now.tasks.now setting.now.plan.now.setup }
+    requires ready { StandsReady bench.core.opening bench.core.journal link.ear link.mouth false }
     requires room { vec_len wires.old + vec_len bench.desks ≤ vec_capacity wires.old }
     ensures served { PoolServed (IsErr result.1) bench.core.opening setting.now.plan.now.setup setting.now.plan.now.starts setting.now.plan.now.program bench.core.journal result.0.core.journal
         (map K.told bench.desks.items) (map K.told result.0.desks.items) (is_ok result.1) link.ear link.mouth
@@ -345,7 +339,7 @@ where
     ) {
         Gathering::Whole(Pool { links, seats }) => {
             let (links, bench, served) = serve_links(
-                setting.rt,
+                rt,
                 setting.alloc,
                 setting.tasks,
                 &setting.plan.setup,

@@ -1,23 +1,93 @@
-ghost use Rattle.std.specs.Prelude.{◌≡◌, ◌≤◌, ◌<◌, ◌*◌, [], map, IsErr, vec_len, vec_capacity, false};
+ghost use Rattle.std.specs.Prelude.{◌≡◌, ◌≤◌, ◌<◌, ◌*◌, [], ◌∷◌, map, IfOk, IsErr, length, vec_len, vec_capacity, false};
 ghost use Rattle.annex_model.specs.Lines.{has_newline};
 ghost use Rattle.child_end.specs.Programs.{Leaves};
 ghost use Rattle.child_start.specs.Cores.{IsSameCore};
 ghost use Rattle.run_children.specs.JobRuns.{RanJobs};
-ghost use Rattle.run_starts.specs.Rounds.{IsWhole};
+ghost use Rattle.run_children.specs.Runs.{IsHanded, MayRun};
+ghost use Rattle.run_starts.specs.Rounds.{EndsClosed, IsWhole};
 ghost use Rattle.crew_worker.specs.Works.{AreTasks};
 
 use crate::bench::Bench;
+use crate::crew::Crew;
 use crate::setting::Setting;
+use crate::single::Single;
 use crate::starting::start_children;
+use crate::workers::Workers;
 use ann_key::NoMemory;
 use ann_outside::{Desk, Programs};
 use child_link::Wire;
+use host_core::Core;
 use run_starts::{Plan, answer_left};
 use std::alloc::Global;
 use std::marker::{Send, Sync};
 use std::sync::Wait;
 use std::thread::Threads;
 use task_text::Task;
+
+// Does all tasks over children, and answers each. Where a child is lost the next start goes on; where none is left, the tasks that are left
+// are answered without one.
+fn run<P: Programs, C: Crew<P>>(
+    setting: &Setting<'_>,
+    programs: &mut P,
+    core: Core,
+    crew: C,
+    wires: &mut Vec<Wire<P::Inlet, P::Outlet>>,
+) -> (C, Core, Result<(), NoMemory>)
+where
+    P::Inlet: Drop,
+    P::Outlet: Drop,
+    requires handed { IsHanded core.opening setting.now.tasks.now setting.now.plan.now.setup }
+    requires may { MayRun core.journal setting.now.plan.now.starts (length (C.told crew)) wires.old.items (vec_capacity wires.old) }
+    ensures ran { RanJobs core.opening setting.now.plan.now.setup setting.now.plan.now.offers setting.now.plan.now.starts result.1.journal (C.told crew) (C.told result.0) }
+    ensures whole { IsWhole core.opening result.1.journal result.2 }
+    ensures last { IfOk result.2 (λ _. length (C.told crew) ≡ 1 → EndsClosed result.1.journal) }
+    ensures leaves { Leaves (IsErr result.2) setting.now.plan.now.program result.1.journal (P.told programs.old)
+        (P.told programs.new) wires.new.items }
+    ensures core { IsSameCore core result.1 }
+{
+    let (crew, core, started) = start_children(setting, programs, core, crew, wires);
+    let mut core = core;
+    match started {
+        Ok(()) => {
+            if core.unclaimed() > 0 {
+                answer_left(&mut core);
+                return (crew, core, Ok(()));
+            }
+            (crew, core, Ok(()))
+        }
+        Err(NoMemory) => (crew, core, Err(NoMemory)),
+    }
+}
+
+/// Does all tasks over children, and answers each, in one thread and with one desk. Children are started one after the other. Where one is
+/// lost the next one goes on; where no start is left, the tasks that are left are answered `nochild`. `NoMemory` is answered where no memory
+/// was found to start a child; what was done until then stands in the journal.
+pub fn run_alone<P: Programs, K: Desk>(
+    alloc: Global,
+    programs: &mut P,
+    plan: &Plan,
+    tasks: &[Task],
+    core: Core,
+    desk: K,
+    wires: &mut Vec<Wire<P::Inlet, P::Outlet>>,
+) -> (K, Core, Result<(), NoMemory>)
+where
+    P::Inlet: Drop,
+    P::Outlet: Drop,
+    requires handed { IsHanded core.opening tasks.now plan.now.setup }
+    requires may { MayRun core.journal plan.now.starts 1 wires.old.items (vec_capacity wires.old) }
+    ensures ran { RanJobs core.opening plan.now.setup plan.now.offers plan.now.starts result.1.journal (K.told desk ∷ []) (K.told result.0 ∷ []) }
+    ensures whole { IsWhole core.opening result.1.journal result.2 }
+    ensures last { IfOk result.2 (λ _. EndsClosed result.1.journal) }
+    ensures leaves { Leaves (IsErr result.2) plan.now.program result.1.journal (P.told programs.old)
+        (P.told programs.new) wires.new.items }
+    ensures core { IsSameCore core result.1 }
+{
+    let setting = Setting { alloc, plan, tasks };
+    let (crew, core, ran) = run(&setting, programs, core, Single { desk }, wires);
+    let Single { desk } = crew;
+    (desk, core, ran)
+}
 
 /// Does all tasks over children, and answers each. Over a child that takes tags, a worker for each desk does tasks side by side, in a thread
 /// of its own. After one that takes none, one more is started for each further desk, and each has a worker of its own. Where there are no
@@ -51,22 +121,9 @@ where
     ensures core { IsSameCore bench.core result.0.core }
     ensures desks { vec_len result.0.desks ≡ vec_len bench.desks }
 {
-    let setting = Setting {
-        rt,
-        alloc,
-        plan,
-        tasks,
-    };
-    let (bench, started) = start_children(&setting, programs, bench, wires);
-    let mut bench = bench;
-    match started {
-        Ok(()) => {
-            if bench.core.unclaimed() > 0 {
-                answer_left(&mut bench.core);
-                return (bench, Ok(()));
-            }
-            (bench, Ok(()))
-        }
-        Err(NoMemory) => (bench, Err(NoMemory)),
-    }
+    let setting = Setting { alloc, plan, tasks };
+    let Bench { core, desks } = bench;
+    let (crew, core, ran) = run(&setting, programs, core, Workers { rt, desks }, wires);
+    let Workers { rt: _, desks } = crew;
+    (Bench { core, desks }, ran)
 }
