@@ -34,14 +34,14 @@ use Rattle.special_cli.proofs.Audited.{other_words, nothing_audited}
 use Rattle.special_cli.specs.Setups.{EndsInit, HasSetUp}
 use Rattle.special_cli.specs.Calls.{IsCalled, IsDone, World}
 use Rattle.special_cli.specs.Commands.{ComesToNothing, EndsCheck, HasChecked, EndsInfo, HasInformed, UnlessRefused, Runs}
-use Rattle.special_cli.specs.Endings.{is_well, status_of, IsChecked, IsPrinted, IsTold, LacksMemory}
+use Rattle.check_command.proofs.Checked.{unstarted_at}
+use Rattle.special_cli.specs.Endings.{is_well, status_of, IsPrinted, IsTold, LacksMemory}
 use Rattle.special_cli.specs.Informs.{IsInfoTold, info_status}
 use Rattle.child_end.specs.Outsides.{OutsideValue}
 use Rattle.special_cli.specs.Left.{Left, RanValue, IsIdle}
 use Rattle.child_end.specs.Programs.{HaveStarted, Leaves}
 use Rattle.child_end.specs.Outsides.{HaveMade}
 use Rattle.cli_words.specs.Refusals.{reason_refused, refusal_if, unless}
-use Rattle.special_cli.proofs.Checked.{unstarted}
 use Rattle.special_cli.proofs.Few.{few_done}
 use Rattle.special_cli.proofs.Rehearsed.{few_rehearsed, nothing_rehearsed}
 use Rattle.special_cli.specs.Rehearsals.{HasRehearsed, end_of_rehearsal, rehearsal_text}
@@ -801,17 +801,13 @@ few clock before input (Some (Walk seed tasks)) ran ranges h = few_walked seed t
 
 -- ---- no memory was found for the words
 
-pub nothing_checked : (clock : Option ℕ) (program key : List ℕ) (before : OutsideValue) (ran : RanValue) → ran.end ≡ Memory → IsIdle before ran.left → HasChecked clock program key before ran
+nothing_checked : (clock : Option ℕ) (program key : List ℕ) (before : OutsideValue) (ran : RanValue) → ran.end ≡ Memory → IsIdle before ran.left → HasChecked clock program key before ran
 nothing_checked clock program key before ran e idle = record {
-  checked = checked_at clock;
+  checked = unstarted_at clock key ran.left.journal idle.journal;
   ends = subst (λ (x : End). EndsCheck ran.left x) (sym e) idle.answers;
   objects = leaves_nothing _ before.programs ran.left.outside.programs program ran.left.journal ran.left.wires (ap (λ (o : OutsideValue). o.programs) idle.outside) idle.journal idle.wires;
   desks = record { made = ap (λ (o : OutsideValue). o.made) idle.outside; tables = idle.tables };
 }
-  where
-    checked_at : (told : Option ℕ) → IsChecked told key ran.left.journal
-    checked_at None = unstarted None key 0 ran.left.journal tt idle.journal
-    checked_at (Some stamp) = unstarted (Some stamp) key stamp ran.left.journal refl idle.journal
 
 pub nothing_informed_of : (program : List ℕ) (key : Option (List ℕ)) (before : OutsideValue) (ran : RanValue) → ran.end ≡ Memory → IsIdle before ran.left → HasInformed program key before ran
 nothing_informed_of program key before ran e idle = record {

@@ -1,7 +1,7 @@
 use Rattle.std.proofs.Common.{◌∙◌}
 use Rattle.ann_key.specs.KeyRefs.{text_of}
-use Rattle.special_cli.proofs.Checked.{check_begins}
-use Rattle.special_cli.proofs.check.begin.Goals as goal
+use Rattle.check_command.proofs.Checked.{check_begins}
+use Rattle.check_command.proofs.preparing.begin.Goals as goal
 
 pub new-requires : goal.new-requires
 new-requires g = check_begins (text_of g.args.key) g.args.stamp g.in_ok-opening.opening g.requires.fit g.in_ok-opening.ensures
