@@ -222,6 +222,9 @@ ran_jobs {o} {setup} {may} {limit} {made} {offer} {journal} le b = record {
   alone = b.alone;
 }
 
+pub ran_many : {o : Opening} {setup : Setup} {may : Bool} {limit : ℕ} {journal : List Entry} {desks desks' : List DeskTold} → RanJobs o setup may limit journal desks desks' → length desks' ≡ length desks
+ran_many {o} {setup} {may} {limit} {journal} {desks} {desks'} r = sym (desks_as_many o setup limit journal [] journal 1 desks desks' r.did)
+
 pub at_rest : {o : Opening} {setup : Setup} {may : Bool} {limit made : ℕ} {offer : Bool} {journal : List Entry} {desks desks' : List DeskTold} {whole : Bool} → JobsBetween o setup may limit made offer journal desks desks' whole → IsAtRest journal
 at_rest {o} {setup} {may} {limit} {made} {offer} {journal} b = record { idle = b.rest; shut = shut_open journal b.shut }
 

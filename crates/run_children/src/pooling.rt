@@ -5,7 +5,6 @@ ghost use Rattle.annex_model.specs.Lines.{has_newline};
 ghost use Rattle.child_end.specs.Wires.{IsHeld};
 ghost use Rattle.child_start.specs.Cores.{IsSameCore};
 ghost use Rattle.crew_tagged.specs.Outcomes.{IfDone, IfKept};
-ghost use Rattle.crew_tagged.specs.Tagged.{link_of};
 ghost use Rattle.crew_laws.specs.Laws.{children_of};
 ghost use Rattle.crew_laws.specs.Rounds.{IsAtRest};
 ghost use Rattle.run_children.specs.Pools.{PoolServed};
@@ -16,7 +15,7 @@ ghost use Rattle.journal_model.specs.Journal.{is_started};
 ghost use Rattle.crew_worker.specs.Works.{AreTasks};
 ghost use Rattle.crew_tagged.specs.PoolChildren.{PoolCan};
 ghost use Rattle.crew_pool.specs.Pool.{AreAsBefore, AreSameLinks};
-ghost use Rattle.run_pools.specs.Pools.{seat_value};
+ghost use Rattle.run_pools.specs.Pools.{links_of, seat_value};
 
 use crate::bench::Bench;
 use crate::setting::Setting;
@@ -41,7 +40,7 @@ use task_text::Task;
 fn close_links<I: Sink, O: Source>(links: &[Lone<I, O>], core: &mut Core)
     requires calm { IsAtRest core.old.journal }
     requires started { All (λ l. is_started core.old.journal l.ear.child ≡ true) links.now }
-    ensures closes { ClosesAll (children_of (map (λ l. link_of l.ear l.mouth) links.now)) core.old.journal core.new.journal }
+    ensures closes { ClosesAll (children_of (links_of links.now)) core.old.journal core.new.journal }
     ensures core { IsSameCore core.old core.new }
 {
     'closings: for link in links {
@@ -62,7 +61,7 @@ where
     P::Stub: Drop,
     requires fits { serving (map seat_value seats.items) ≡ vec_len links }
     requires room { vec_len wires.old + vec_len seats ≤ vec_capacity wires.old }
-    ensures laid { AreLaid (map seat_value seats.items) (map (λ l. link_of l.ear l.mouth) links.items) wires.old.items wires.new.items }
+    ensures laid { AreLaid (map seat_value seats.items) (links_of links.items) wires.old.items wires.new.items }
     ensures room { (vec_len wires.new ≡ vec_len wires.old + vec_len seats) × (vec_capacity wires.new ≡ vec_capacity wires.old) }
     ensures starts { Stays (P.told programs.old).starts (P.told programs.new).starts }
     ensures later { (P.told programs.old).faults ≤ (P.told programs.new).faults }
@@ -134,11 +133,11 @@ fn round_links<
     requires desks { (0 < vec_len links) × (vec_len links ≤ vec_len bench.desks) × (vec_len bench.desks ≤ 64) }
     requires tasks { (bench.core.opening.tasks ≡ tasks.now) × AreTasks tasks.now }
     requires folder { has_newline setup.now.work ≡ false }
-    requires can { PoolCan bench.core.opening bench.core.journal (map (λ l. link_of l.ear l.mouth) links.items) }
+    requires can { PoolCan bench.core.opening bench.core.journal (links_of links.items) }
     ensures round { IfDone result.2 (RoundsPool bench.core.opening setup.now bench.core.journal result.1.core.journal
-        (map (λ l. link_of l.ear l.mouth) links.items) (map (λ l. link_of l.ear l.mouth) result.0.items) (map K.told bench.desks.items) (map K.told result.1.desks.items)) }
+        (links_of links.items) (links_of result.0.items) (map K.told bench.desks.items) (map K.told result.1.desks.items)) }
     ensures kept { IfKept result.2 ((result.1.core.journal ≡ bench.core.journal) × AreAsBefore links.items result.0.items bench.desks.items result.1.desks.items) }
-    ensures same { AreSameLinks (map (λ l. link_of l.ear l.mouth) links.items) (map (λ l. link_of l.ear l.mouth) result.0.items) }
+    ensures same { AreSameLinks (links_of links.items) (links_of result.0.items) }
     ensures opening { result.1.core.opening ≡ bench.core.opening }
     ensures desks { vec_len result.1.desks ≡ vec_len bench.desks }
 {
@@ -169,11 +168,11 @@ fn serve_first<I: Sink, O: Source, K: Desk + Drop>(
     requires some { (0 < vec_len links.old) × (0 < vec_len bench.old.desks) }
     requires tasks { (bench.old.core.opening.tasks ≡ tasks.now) × AreTasks tasks.now }
     requires folder { has_newline setup.now.work ≡ false }
-    requires can { PoolCan bench.old.core.opening bench.old.core.journal (map (λ l. link_of l.ear l.mouth) links.old.items) }
-    ensures serves { ServesFirst bench.old.core.opening setup.now (map (λ l. link_of l.ear l.mouth) links.old.items) bench.old.core.journal bench.new.core.journal
+    requires can { PoolCan bench.old.core.opening bench.old.core.journal (links_of links.old.items) }
+    ensures serves { ServesFirst bench.old.core.opening setup.now (links_of links.old.items) bench.old.core.journal bench.new.core.journal
         (map K.told bench.old.desks.items) (map K.told bench.new.desks.items) }
     ensures held { All (λ l. IsHeld bench.new.core.journal l.ear l.mouth) links.new.items }
-    ensures same { AreSameLinks (map (λ l. link_of l.ear l.mouth) links.old.items) (map (λ l. link_of l.ear l.mouth) links.new.items) }
+    ensures same { AreSameLinks (links_of links.old.items) (links_of links.new.items) }
     ensures core { IsSameCore bench.old.core bench.new.core }
     ensures desks { vec_len bench.new.desks ≡ vec_len bench.old.desks }
 {
@@ -198,11 +197,11 @@ fn serve_one<I: Sink, O: Source, K: Desk + Drop>(
     requires some { (0 < vec_len links.old) × (0 < vec_len bench.old.desks) }
     requires tasks { (bench.old.core.opening.tasks ≡ tasks.now) × AreTasks tasks.now }
     requires folder { has_newline setup.now.work ≡ false }
-    requires can { PoolCan bench.old.core.opening bench.old.core.journal (map (λ l. link_of l.ear l.mouth) links.old.items) }
+    requires can { PoolCan bench.old.core.opening bench.old.core.journal (links_of links.old.items) }
     ensures serves { ServesOne bench.old.core.opening setup.now bench.old.core.journal bench.new.core.journal
-        (map (λ l. link_of l.ear l.mouth) links.old.items) (map K.told bench.old.desks.items) (map K.told bench.new.desks.items) }
+        (links_of links.old.items) (map K.told bench.old.desks.items) (map K.told bench.new.desks.items) }
     ensures held { All (λ l. IsHeld bench.new.core.journal l.ear l.mouth) links.new.items }
-    ensures same { AreSameLinks (map (λ l. link_of l.ear l.mouth) links.old.items) (map (λ l. link_of l.ear l.mouth) links.new.items) }
+    ensures same { AreSameLinks (links_of links.old.items) (links_of links.new.items) }
     ensures core { IsSameCore bench.old.core bench.new.core }
     ensures desks { vec_len bench.new.desks ≡ vec_len bench.old.desks }
 {
@@ -228,14 +227,14 @@ fn serve_all<
     requires desks { (0 < vec_len links) × (vec_len links ≤ vec_len bench.desks) × (vec_len bench.desks ≤ 64) }
     requires tasks { (bench.core.opening.tasks ≡ tasks.now) × AreTasks tasks.now }
     requires folder { has_newline setup.now.work ≡ false }
-    requires can { PoolCan bench.core.opening bench.core.journal (map (λ l. link_of l.ear l.mouth) links.items) }
+    requires can { PoolCan bench.core.opening bench.core.journal (links_of links.items) }
     ensures serves { MatchResult result.2
         (λ alone. ServesLinksUnless alone bench.core.opening setup.now bench.core.journal result.1.core.journal
-        (map (λ l. link_of l.ear l.mouth) links.items) (map (λ l. link_of l.ear l.mouth) result.0.items) (map K.told bench.desks.items) (map K.told result.1.desks.items))
+        (links_of links.items) (links_of result.0.items) (map K.told bench.desks.items) (map K.told result.1.desks.items))
         (λ _. StarvedLinks bench.core.journal result.1.core.journal
-        (map (λ l. link_of l.ear l.mouth) links.items) (map (λ l. link_of l.ear l.mouth) result.0.items) (map K.told bench.desks.items) (map K.told result.1.desks.items)) }
+        (links_of links.items) (links_of result.0.items) (map K.told bench.desks.items) (map K.told result.1.desks.items)) }
     ensures held { IfOk result.2 (λ _. All (λ l. IsHeld result.1.core.journal l.ear l.mouth) result.0.items) }
-    ensures same { AreSameLinks (map (λ l. link_of l.ear l.mouth) links.items) (map (λ l. link_of l.ear l.mouth) result.0.items) }
+    ensures same { AreSameLinks (links_of links.items) (links_of result.0.items) }
     ensures core { IsSameCore bench.core result.1.core }
     ensures desks { vec_len result.1.desks ≡ vec_len bench.desks }
 {
@@ -273,14 +272,14 @@ fn serve_links<
     requires desks { (0 < vec_len links) × (vec_len links ≤ vec_len bench.desks) × (vec_len bench.desks ≤ 64) }
     requires tasks { (bench.core.opening.tasks ≡ tasks.now) × AreTasks tasks.now }
     requires folder { has_newline setup.now.work ≡ false }
-    requires can { PoolCan bench.core.opening bench.core.journal (map (λ l. link_of l.ear l.mouth) links.items) }
+    requires can { PoolCan bench.core.opening bench.core.journal (links_of links.items) }
     ensures serves { MatchResult result.2
         (λ _. ServesLinks bench.core.opening setup.now bench.core.journal result.1.core.journal
-        (map (λ l. link_of l.ear l.mouth) links.items) (map (λ l. link_of l.ear l.mouth) result.0.items) (map K.told bench.desks.items) (map K.told result.1.desks.items))
+        (links_of links.items) (links_of result.0.items) (map K.told bench.desks.items) (map K.told result.1.desks.items))
         (λ _. StarvedLinks bench.core.journal result.1.core.journal
-        (map (λ l. link_of l.ear l.mouth) links.items) (map (λ l. link_of l.ear l.mouth) result.0.items) (map K.told bench.desks.items) (map K.told result.1.desks.items)) }
+        (links_of links.items) (links_of result.0.items) (map K.told bench.desks.items) (map K.told result.1.desks.items)) }
     ensures held { IfOk result.2 (λ _. All (λ l. IsHeld result.1.core.journal l.ear l.mouth) result.0.items) }
-    ensures same { AreSameLinks (map (λ l. link_of l.ear l.mouth) links.items) (map (λ l. link_of l.ear l.mouth) result.0.items) }
+    ensures same { AreSameLinks (links_of links.items) (links_of result.0.items) }
     ensures core { IsSameCore bench.core result.1.core }
     ensures desks { vec_len result.1.desks ≡ vec_len bench.desks }
 {
