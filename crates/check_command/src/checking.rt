@@ -44,11 +44,7 @@ fn journal_of(core: Core) -> Journal
 }
 
 // The answer of a check that ran so, where memory is found for it.
-fn answers_after(
-    alloc: Global,
-    ran: Result<(), NoMemory>,
-    core: &Core,
-) -> (Vec<Answer>, CheckEnd)
+fn answers_after(alloc: Global, ran: Result<(), NoMemory>, core: &Core) -> (Vec<Answer>, CheckEnd)
     requires { IfOk ran (λ _. AreAllAnswered core.now.opening core.now.journal) }
     ensures { AnswersAs core.now.opening core.now.journal ran result.0.items result.1 }
 {
@@ -85,15 +81,7 @@ where
         desk,
     } = ready;
     let mut wires = wires;
-    let (_, core, ran) = run_alone(
-        alloc,
-        programs,
-        &plan,
-        tasks.view(),
-        core,
-        desk,
-        &mut wires,
-    );
+    let (_, core, ran) = run_alone(alloc, programs, &plan, tasks.view(), core, desk, &mut wires);
     let (answers, end) = answers_after(alloc, ran, &core);
     CheckMade {
         journal: journal_of(core),

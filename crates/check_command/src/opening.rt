@@ -27,11 +27,7 @@ fn check_tasks(alloc: Global, key: KeyRef<'_>) -> Result<Tasks, NoMemory>
 }
 
 /// What a check of one key begins with: its one task, and the stamp.
-pub(crate) fn check_opening(
-    alloc: Global,
-    key: KeyRef<'_>,
-    stamp: u64,
-) -> Result<Opening, NoMemory>
+pub(crate) fn check_opening(alloc: Global, key: KeyRef<'_>, stamp: u64) -> Result<Opening, NoMemory>
     ensures { IfOk result (λ o. o ≡ check_opening (text_of key.entry) stamp) }
 {
     let identity = nobody(alloc)?;

@@ -58,8 +58,9 @@ where
             match tagged_of(came) {
                 Some(tagged) => {
                     let child = Ready { link, stub, tagged };
-                    let (crew, core, served) =
-                        crew.serve_child(setting, core, programs, child, wires);
+                    let (crew, core, served) = crew.serve_child(
+                        setting, core, programs, child, wires,
+                    );
                     match served {
                         Ok(()) => (crew, core, Ok(is_offered(offer, tagged))),
                         Err(NoMemory) => (crew, core, Err(NoMemory)),

@@ -156,4 +156,3 @@ returns-clause-kept g c = c.children.invariant.kept
 
 pub returns-clause-core : goal.returns-clause-core
 returns-clause-core g c = c.children.invariant.core
-
