@@ -9,8 +9,8 @@ use Rattle.task_model.specs.declared.setup.Setup.{Setup}
 use Rattle.crew_worker.specs.Works.{AreTasks}
 
 -- The tasks are those of the opening, each one that some line spells, and no line ends in the folder's name.
-pub record IsHanded (o : Opening) (tasks : List Task) (setup : Setup) : Type 0 where
-  pub tasks : (o.tasks ≡ tasks) × AreTasks tasks
+pub record IsHanded (o : Opening) (handed : List Task) (setup : Setup) : Type 0 where
+  pub tasks : (o.tasks ≡ handed) × AreTasks handed
   pub folder : has_newline setup.work ≡ false
 
 -- a run has 1 to 64 desks
@@ -18,9 +18,9 @@ abbrev pub AreDesks : ℕ → Type 0
 AreDesks n = (0 < n) × (n ≤ 64)
 
 -- Nothing was done, slot 0 has 1 to 16 starts, and there is room for a wire of each child that they and the desks may need.
-pub record MayRun (journal : List Entry) (starts desks : ℕ) (wires : List WireValue) (room : ℕ) : Type 0 where
+pub record MayRun (journal : List Entry) (limit many : ℕ) (wires : List WireValue) (capacity : ℕ) : Type 0 where
   pub empty : journal ≡ []
-  pub starts : (0 < starts) × (starts ≤ 16)
-  pub desks : AreDesks desks
+  pub starts : (0 < limit) × (limit ≤ 16)
+  pub desks : AreDesks many
   pub none : wires ≡ []
-  pub room : starts * desks ≤ room
+  pub room : limit * many ≤ capacity

@@ -18,8 +18,20 @@ pub(crate) struct Ready<I: Sink, O: Source, S> {
     pub tagged: bool,
 }
 
+/// Such a child of these programs.
+pub(crate) type ReadyOf<P> = Ready<
+    <P as Programs>::Inlet,
+    <P as Programs>::Outlet,
+    <P as Programs>::Stub,
+>;
+
+/// The wires of children of these programs.
+pub(crate) type WiresOf<P> = Vec<Wire<<P as Programs>::Inlet, <P as Programs>::Outlet>>;
+
 /// Does the tasks of a run over its children, with as many workers as there are desks.
-pub(crate) trait Crew<P: Programs>: Sized {
+pub(crate) trait Crew: Sized {
+    type Programs: Programs;
+
     // what its desks tell
     ghost told: { Self → List DeskTold };
 
@@ -29,9 +41,9 @@ pub(crate) trait Crew<P: Programs>: Sized {
         self,
         setting: &Setting<'_>,
         core: Core,
-        programs: &mut P,
-        child: Ready<P::Inlet, P::Outlet, P::Stub>,
-        wires: &mut Vec<Wire<P::Inlet, P::Outlet>>,
+        programs: &mut Self::Programs,
+        child: ReadyOf<Self::Programs>,
+        wires: &mut WiresOf<Self::Programs>,
     ) -> (Self, Core, Result<(), NoMemory>)
         requires handed { IsHanded core.opening setting.now.tasks.now setting.now.plan.now.setup }
         requires desks { AreDesks (length (told self)) }
@@ -39,7 +51,7 @@ pub(crate) trait Crew<P: Programs>: Sized {
         requires room { vec_len wires.old + length (told self) ≤ vec_capacity wires.old }
         ensures served { FirstServed (IsErr result.2) core.opening setting.now.plan.now.setup setting.now.plan.now.starts setting.now.plan.now.program core.journal result.1.journal
             (told self) (told result.0) (is_ok result.2) child.link.ear child.link.mouth
-            (P.told programs.old) (P.told programs.new) wires.old.items wires.new.items }
+            (Self.Programs.told programs.old) (Self.Programs.told programs.new) wires.old.items wires.new.items }
         ensures room { (vec_len wires.new ≤ vec_len wires.old + length (told self)) × (vec_capacity wires.new ≡ vec_capacity wires.old) }
         ensures core { IsSameCore core result.1 };
 }

@@ -19,14 +19,14 @@ use child_link::Wire;
 use host_core::Core;
 use run_starts::{Plan, answer_left};
 use std::alloc::Global;
-use std::marker::{Send, Sync};
+use std::marker::{PhantomData, Send, Sync};
 use std::sync::Wait;
 use std::thread::Threads;
 use task_text::Task;
 
 // Does all tasks over children, and answers each. Where a child is lost the next start goes on; where none is left, the tasks that are left
 // are answered without one.
-fn run<P: Programs, C: Crew<P>>(
+fn run<P: Programs, C: Crew<Programs = P>>(
     setting: &Setting<'_>,
     programs: &mut P,
     core: Core,
@@ -34,8 +34,9 @@ fn run<P: Programs, C: Crew<P>>(
     wires: &mut Vec<Wire<P::Inlet, P::Outlet>>,
 ) -> (C, Core, Result<(), NoMemory>)
 where
-    P::Inlet: Drop,
-    P::Outlet: Drop,
+    P::Inlet: Send + Drop,
+    P::Outlet: Send + Drop,
+    P::Stub: Drop,
     requires handed { IsHanded core.opening setting.now.tasks.now setting.now.plan.now.setup }
     requires may { MayRun core.journal setting.now.plan.now.starts (length (C.told crew)) wires.old.items (vec_capacity wires.old) }
     ensures ran { RanJobs core.opening setting.now.plan.now.setup setting.now.plan.now.offers setting.now.plan.now.starts result.1.journal (C.told crew) (C.told result.0) }
@@ -72,8 +73,9 @@ pub fn run_alone<P: Programs, K: Desk>(
     wires: &mut Vec<Wire<P::Inlet, P::Outlet>>,
 ) -> (K, Core, Result<(), NoMemory>)
 where
-    P::Inlet: Drop,
-    P::Outlet: Drop,
+    P::Inlet: Send + Drop,
+    P::Outlet: Send + Drop,
+    P::Stub: Drop,
     requires handed { IsHanded core.opening tasks.now plan.now.setup }
     requires may { MayRun core.journal plan.now.starts 1 wires.old.items (vec_capacity wires.old) }
     ensures ran { RanJobs core.opening plan.now.setup plan.now.offers plan.now.starts result.1.journal (K.told desk ∷ []) (K.told result.0 ∷ []) }
@@ -84,8 +86,17 @@ where
     ensures core { IsSameCore core result.1 }
 {
     let setting = Setting { alloc, plan, tasks };
-    let (crew, core, ran) = run(&setting, programs, core, Single { desk }, wires);
-    let Single { desk } = crew;
+    let (crew, core, ran) = run(
+        &setting,
+        programs,
+        core,
+        Single {
+            desk,
+            of: PhantomData,
+        },
+        wires,
+    );
+    let Single { desk, of: _ } = crew;
     (desk, core, ran)
 }
 
@@ -123,7 +134,21 @@ where
 {
     let setting = Setting { alloc, plan, tasks };
     let Bench { core, desks } = bench;
-    let (crew, core, ran) = run(&setting, programs, core, Workers { rt, desks }, wires);
-    let Workers { rt: _, desks } = crew;
+    let (crew, core, ran) = run(
+        &setting,
+        programs,
+        core,
+        Workers {
+            rt,
+            desks,
+            of: PhantomData,
+        },
+        wires,
+    );
+    let Workers {
+        rt: _,
+        desks,
+        of: _,
+    } = crew;
     (Bench { core, desks }, ran)
 }

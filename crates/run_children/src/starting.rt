@@ -16,10 +16,11 @@ use crew_worker::know_book;
 use host_core::Core;
 use journal_model::Answer;
 use run_starts::{answer_one, is_offered, tagged_of, turn_away, unready_answer};
+use std::marker::Send;
 
 // Starts one child of slot 0 and lets it do tasks. One task is answered by what came of a start that gave no child that is ready. Whether
 // ASYNC is to be offered to the next one.
-fn start_one<P: Programs, C: Crew<P>>(
+fn start_one<P: Programs, C: Crew<Programs = P>>(
     setting: &Setting<'_>,
     programs: &mut P,
     offer: bool,
@@ -28,8 +29,9 @@ fn start_one<P: Programs, C: Crew<P>>(
     wires: &mut Vec<Wire<P::Inlet, P::Outlet>>,
 ) -> (C, Core, Result<bool, NoMemory>)
 where
-    P::Inlet: Drop,
-    P::Outlet: Drop,
+    P::Inlet: Send + Drop,
+    P::Outlet: Send + Drop,
+    P::Stub: Drop,
     requires handed { IsHanded core.opening setting.now.tasks.now setting.now.plan.now.setup }
     requires may { MayStartOne core.opening core.journal }
     requires desks { AreDesks (length (C.told crew)) }
@@ -83,7 +85,7 @@ where
 
 /// Starts children of slot 0, one after the other, until all starts of slot 0 are made or all tasks claimed, or no memory is found to
 /// start one or for a round.
-pub(crate) fn start_children<P: Programs, C: Crew<P>>(
+pub(crate) fn start_children<P: Programs, C: Crew<Programs = P>>(
     setting: &Setting<'_>,
     programs: &mut P,
     core: Core,
@@ -91,8 +93,9 @@ pub(crate) fn start_children<P: Programs, C: Crew<P>>(
     wires: &mut Vec<Wire<P::Inlet, P::Outlet>>,
 ) -> (C, Core, Result<(), NoMemory>)
 where
-    P::Inlet: Drop,
-    P::Outlet: Drop,
+    P::Inlet: Send + Drop,
+    P::Outlet: Send + Drop,
+    P::Stub: Drop,
     requires handed { IsHanded core.opening setting.now.tasks.now setting.now.plan.now.setup }
     requires may { MayRun core.journal setting.now.plan.now.starts (length (C.told crew)) wires.old.items (vec_capacity wires.old) }
     ensures started { JobsStarted core.opening setting.now.plan.now.setup setting.now.plan.now.offers setting.now.plan.now.starts result.1.journal

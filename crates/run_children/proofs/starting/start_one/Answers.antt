@@ -27,11 +27,11 @@ use Rattle.run_children.proofs.starting.start_one.Goals as goal
 use Rattle.ann_key.proofs.Numbers.{ok_no_err}
 
 pub serve_child-crew-requires-clause-handed : goal.serve_child-crew-requires-clause-handed
-serve_child-crew-requires-clause-handed g c = λ κs fresh.
+serve_child-crew-requires-clause-handed g c =
     subst (λ (w : Opening). IsHanded w c.args.setting.now.tasks.now c.args.setting.now.plan.now.setup) (sym c.greet.ensures.core.opening) c.requires.handed
 
 pub serve_child-crew-requires-clause-ready : goal.serve_child-crew-requires-clause-ready
-serve_child-crew-requires-clause-ready g c = λ κs fresh.
+serve_child-crew-requires-clause-ready g c =
     let o = c.greet.new.core.opening in
     let old = c.args.core.journal in
     let mid = c.greet.new.core.journal in
