@@ -1,17 +1,17 @@
 // A whole run: children are started one after the other, and each does tasks until it is gone, by one worker or by as many as there are desks.
 #![tactic(auto)]
 
+mod alone;
+mod beginning;
 mod bench;
-mod crew;
 pub mod laws;
 mod pooling;
+mod ready;
 pub mod rows;
 mod running;
 mod serving;
 mod setting;
-mod single;
 mod starting;
-mod workers;
 
 pub use bench::Bench;
 pub use running::{run_alone, run_jobs};

@@ -1,4 +1,4 @@
-ghost use Rattle.std.specs.Prelude.{◌≡◌, ◌≤◌, ◌<◌, ◌*◌, [], ◌∷◌, map, IfOk, IsErr, length, vec_len, vec_capacity, false};
+ghost use Rattle.std.specs.Prelude.{◌≡◌, ◌≤◌, ◌<◌, ◌*◌, [], ◌∷◌, map, IfOk, IsErr, vec_len, vec_capacity, false};
 ghost use Rattle.annex_model.specs.Lines.{has_newline};
 ghost use Rattle.child_end.specs.Programs.{Leaves};
 ghost use Rattle.child_start.specs.Cores.{IsSameCore};
@@ -7,58 +7,20 @@ ghost use Rattle.run_children.specs.Runs.{IsHanded, MayRun};
 ghost use Rattle.run_starts.specs.Rounds.{EndsClosed, IsWhole};
 ghost use Rattle.crew_worker.specs.Works.{AreTasks};
 
+use crate::alone::start_all;
 use crate::bench::Bench;
-use crate::crew::Crew;
 use crate::setting::Setting;
-use crate::single::Single;
 use crate::starting::start_children;
-use crate::workers::Workers;
 use ann_key::NoMemory;
 use ann_outside::{Desk, Programs};
 use child_link::Wire;
 use host_core::Core;
 use run_starts::{Plan, answer_left};
 use std::alloc::Global;
-use std::marker::{PhantomData, Send, Sync};
+use std::marker::{Send, Sync};
 use std::sync::Wait;
 use std::thread::Threads;
 use task_text::Task;
-
-// Does all tasks over children, and answers each. Where a child is lost the next start goes on; where none is left, the tasks that are left
-// are answered without one.
-fn run<P: Programs, C: Crew<Programs = P>>(
-    setting: &Setting<'_>,
-    programs: &mut P,
-    core: Core,
-    crew: C,
-    wires: &mut Vec<Wire<P::Inlet, P::Outlet>>,
-) -> (C, Core, Result<(), NoMemory>)
-where
-    P::Inlet: Send + Drop,
-    P::Outlet: Send + Drop,
-    P::Stub: Drop,
-    requires handed { IsHanded core.opening setting.now.tasks.now setting.now.plan.now.setup }
-    requires may { MayRun core.journal setting.now.plan.now.starts (length (C.told crew)) wires.old.items (vec_capacity wires.old) }
-    ensures ran { RanJobs core.opening setting.now.plan.now.setup setting.now.plan.now.offers setting.now.plan.now.starts result.1.journal (C.told crew) (C.told result.0) }
-    ensures whole { IsWhole core.opening result.1.journal result.2 }
-    ensures last { IfOk result.2 (λ _. length (C.told crew) ≡ 1 → EndsClosed result.1.journal) }
-    ensures leaves { Leaves (IsErr result.2) setting.now.plan.now.program result.1.journal (P.told programs.old)
-        (P.told programs.new) wires.new.items }
-    ensures core { IsSameCore core result.1 }
-{
-    let (crew, core, started) = start_children(setting, programs, core, crew, wires);
-    let mut core = core;
-    match started {
-        Ok(()) => {
-            if core.unclaimed() > 0 {
-                answer_left(&mut core);
-                return (crew, core, Ok(()));
-            }
-            (crew, core, Ok(()))
-        }
-        Err(NoMemory) => (crew, core, Err(NoMemory)),
-    }
-}
 
 /// Does all tasks over children, and answers each, in one thread and with one desk. Children are started one after the other. Where one is
 /// lost the next one goes on; where no start is left, the tasks that are left are answered `nochild`. `NoMemory` is answered where no memory
@@ -68,36 +30,33 @@ pub fn run_alone<P: Programs, K: Desk>(
     programs: &mut P,
     plan: &Plan,
     tasks: &[Task],
-    core: Core,
-    desk: K,
+    core: &mut Core,
+    desk: &mut K,
     wires: &mut Vec<Wire<P::Inlet, P::Outlet>>,
-) -> (K, Core, Result<(), NoMemory>)
+) -> Result<(), NoMemory>
 where
-    P::Inlet: Send + Drop,
-    P::Outlet: Send + Drop,
-    P::Stub: Drop,
-    requires handed { IsHanded core.opening tasks.now plan.now.setup }
-    requires may { MayRun core.journal plan.now.starts 1 wires.old.items (vec_capacity wires.old) }
-    ensures ran { RanJobs core.opening plan.now.setup plan.now.offers plan.now.starts result.1.journal (K.told desk ∷ []) (K.told result.0 ∷ []) }
-    ensures whole { IsWhole core.opening result.1.journal result.2 }
-    ensures last { IfOk result.2 (λ _. EndsClosed result.1.journal) }
-    ensures leaves { Leaves (IsErr result.2) plan.now.program result.1.journal (P.told programs.old)
+    P::Inlet: Drop,
+    P::Outlet: Drop,
+    requires handed { IsHanded core.old.opening tasks.now plan.now.setup }
+    requires may { MayRun core.old.journal plan.now.starts 1 wires.old.items (vec_capacity wires.old) }
+    ensures ran { RanJobs core.old.opening plan.now.setup plan.now.offers plan.now.starts core.new.journal (K.told desk.old ∷ []) (K.told desk.new ∷ []) }
+    ensures whole { IsWhole core.old.opening core.new.journal result }
+    ensures last { IfOk result (λ _. EndsClosed core.new.journal) }
+    ensures leaves { Leaves (IsErr result) plan.now.program core.new.journal (P.told programs.old)
         (P.told programs.new) wires.new.items }
-    ensures core { IsSameCore core result.1 }
+    ensures core { IsSameCore core.old core.new }
 {
     let setting = Setting { alloc, plan, tasks };
-    let (crew, core, ran) = run(
-        &setting,
-        programs,
-        core,
-        Single {
-            desk,
-            of: PhantomData,
-        },
-        wires,
-    );
-    let Single { desk, of: _ } = crew;
-    (desk, core, ran)
+    match start_all(&setting, programs, core, desk, wires) {
+        Ok(()) => {
+            if core.unclaimed() > 0 {
+                answer_left(core);
+                return Ok(());
+            }
+            Ok(())
+        }
+        Err(NoMemory) => Err(NoMemory),
+    }
 }
 
 /// Does all tasks over children, and answers each. Over a child that takes tags, a worker for each desk does tasks side by side, in a thread
@@ -133,22 +92,16 @@ where
     ensures desks { vec_len result.0.desks ≡ vec_len bench.desks }
 {
     let setting = Setting { alloc, plan, tasks };
-    let Bench { core, desks } = bench;
-    let (crew, core, ran) = run(
-        &setting,
-        programs,
-        core,
-        Workers {
-            rt,
-            desks,
-            of: PhantomData,
-        },
-        wires,
-    );
-    let Workers {
-        rt: _,
-        desks,
-        of: _,
-    } = crew;
-    (Bench { core, desks }, ran)
+    let (bench, started) = start_children(rt, &setting, programs, bench, wires);
+    let mut bench = bench;
+    match started {
+        Ok(()) => {
+            if bench.core.unclaimed() > 0 {
+                answer_left(&mut bench.core);
+                return (bench, Ok(()));
+            }
+            (bench, Ok(()))
+        }
+        Err(NoMemory) => (bench, Err(NoMemory)),
+    }
 }

@@ -1,6 +1,7 @@
 use Rattle.ann_outside.specs.Told.{DeskTold, ProgramsTold}
-use Rattle.std.proofs.Common.{◌+◌, arith, inl, inr, subst, sym, ap, refl, ◌∙◌, List, length, true}
+use Rattle.std.proofs.Common.{◌+◌, map, vec_len, arith, inl, inr, subst, sym, ap, refl, ◌∙◌, List, length, true}
 use Rattle.std.proofs.lemmas.Nat.{mul-le}
+use Rattle.std.proofs.lemmas.List.{length-map}
 use Rattle.journal_model.specs.declared.opening.Opening.{Opening}
 use Rattle.journal_model.specs.Legality.{Legal}
 use Rattle.host_core.specs.Steps.{are_all_claimed}
@@ -15,8 +16,8 @@ use Rattle.ann_key.proofs.Numbers.{one_more}
 
 pub children-init : goal.children-init
 children-init g c = record {
-  between = jobs_begin c.args.core.opening c.args.setting.now.plan.now.setup c.args.setting.now.plan.now.offers c.args.setting.now.plan.now.starts c.args.core.journal (g.C.Crew.told c.args.crew) true c.requires.may.empty;
-  kept = kept_begin c.args.setting.now.plan.now.program c.args.core.journal (g.P.Programs.told c.args.programs.now) c.args.wires.now.items c.requires.may.empty c.requires.may.none;
+  between = jobs_begin c.args.bench.core.opening c.args.setting.now.plan.now.setup c.args.setting.now.plan.now.offers c.args.setting.now.plan.now.starts c.args.bench.core.journal (map g.K.Desk.told c.args.bench.desks.items) true c.requires.may.empty;
+  kept = kept_begin c.args.setting.now.plan.now.program c.args.bench.core.journal (g.P.Programs.told c.args.programs.now) c.args.wires.now.items c.requires.may.empty c.requires.may.none;
   core = record { opening = refl; legal = λ h. h };
   room = ((let none = c.args.wires.now.ok.0 ∙ ap (λ (xs : List _). length xs) c.requires.may.none in omega (arith, none)), refl);
 }
@@ -29,7 +30,7 @@ returns-then-unclaimed-eq0-clause-started g c =
       true,
       c.children.invariant.between,
       (let below = c.children-test.true in let end = c.children.auto.made-end in omega (arith, below, end)),
-      (refl, inr (ap (λ (w : Opening). are_all_claimed w c.children.core.journal) (sym same_opening) ∙ left_nothing c.children.core.opening c.children.core.journal c.unclaimed.result c.unclaimed.ensures c.if-unclaimed-eq0.true)),
+      (refl, inr (ap (λ (w : Opening). are_all_claimed w c.children.bench.core.journal) (sym same_opening) ∙ left_nothing c.children.bench.core.opening c.children.bench.core.journal c.unclaimed.result c.unclaimed.ensures c.if-unclaimed-eq0.true)),
     )
 
 pub returns-then-unclaimed-eq0-clause-kept : goal.returns-then-unclaimed-eq0-clause-kept
@@ -44,20 +45,20 @@ start_one-after-requires-clause-handed g c = λ κs fresh.
 
 pub start_one-after-requires-clause-may : goal.start_one-after-requires-clause-may
 start_one-after-requires-clause-may g c = λ κs fresh. record {
-  legal = subst (λ (w : Opening). Legal w c.children.core.journal) (sym c.children.invariant.core.opening) c.children.invariant.between.legal;
+  legal = subst (λ (w : Opening). Legal w c.children.bench.core.journal) (sym c.children.invariant.core.opening) c.children.invariant.between.legal;
   calm = at_rest c.children.invariant.between;
   few =
       let many = wires_many c.children.invariant.kept ∙ sym c.children.wires.ok.0 in
       let used = c.children.invariant.room.0 in
       let below = c.children-test.true in
       let end = c.children.auto.made-end in
-      let most = mul-le c.children.made (length (g.C.Crew.told c.args.crew)) 16 64 (let starts = c.requires.may.starts.1 in omega (arith, below, end, starts)) c.requires.may.desks.1 in
+      let most = mul-le c.children.made (vec_len c.args.bench.desks) 16 64 (let starts = c.requires.may.starts.1 in omega (arith, below, end, starts)) c.requires.may.desks.1 in
       omega (arith, many, used, most);
-  left = left_some c.children.core.opening c.children.core.journal c.unclaimed.result c.unclaimed.ensures c.if-unclaimed-eq0.false;
+  left = left_some c.children.bench.core.opening c.children.bench.core.journal c.unclaimed.result c.unclaimed.ensures c.if-unclaimed-eq0.false;
 }
 
 pub start_one-after-requires-clause-desks : goal.start_one-after-requires-clause-desks
-start_one-after-requires-clause-desks g c = λ κs fresh. subst AreDesks (sym (still_many c.children.invariant.between)) c.requires.may.desks
+start_one-after-requires-clause-desks g c = λ κs fresh. subst AreDesks (sym (c.children.bench.desks.ok.0 ∙ sym (length-map c.children.bench.desks.items g.K.Desk.told) ∙ still_many c.children.invariant.between ∙ length-map c.args.bench.desks.items g.K.Desk.told ∙ sym c.args.bench.desks.ok.0)) c.requires.may.desks
 
 pub start_one-after-requires-clause-room : goal.start_one-after-requires-clause-room
 start_one-after-requires-clause-room g c = λ κs fresh. (
@@ -65,78 +66,78 @@ start_one-after-requires-clause-room g c = λ κs fresh. (
     let end = c.children.auto.made-end in
     let used = c.children.invariant.room.0 in
     let room = c.children.invariant.room.1 in
-    let same = still_many c.children.invariant.between in
-    let one = one_more c.children.made (length (g.C.Crew.told c.args.crew)) in
-    let most = mul-le (c.children.made + 1) (length (g.C.Crew.told c.args.crew)) c.args.setting.now.plan.now.starts (length (g.C.Crew.told c.args.crew)) (omega (arith, below, end)) (omega arith) in
+    let same = c.children.bench.desks.ok.0 ∙ sym (length-map c.children.bench.desks.items g.K.Desk.told) ∙ still_many c.children.invariant.between ∙ length-map c.args.bench.desks.items g.K.Desk.told ∙ sym c.args.bench.desks.ok.0 in
+    let one = one_more c.children.made (vec_len c.args.bench.desks) in
+    let most = mul-le (c.children.made + 1) (vec_len c.args.bench.desks) c.args.setting.now.plan.now.starts (vec_len c.args.bench.desks) (omega (arith, below, end)) (omega arith) in
     let all = c.requires.may.room in
     omega (arith, used, room, same, one, most, all))
 
 pub returns-in-Err-clause-started : goal.returns-in-Err-clause-started
 returns-in-Err-clause-started g c =
-    let o = c.args.core.opening in
-    let p = c.children.core.opening in
-    let cur = c.children.core.journal in
-    let new = c.start_one-after.result.1.journal in
+    let o = c.args.bench.core.opening in
+    let p = c.children.bench.core.opening in
+    let cur = c.children.bench.core.journal in
+    let new = c.start_one-after.result.0.core.journal in
     let same_opening = c.children.invariant.core.opening in
     let legal : Legal o new = subst (λ (w : Opening). Legal w new) (c.start_one-after.ensures.core.opening ∙ same_opening) (c.start_one-after.ensures.core.legal (subst (λ (w : Opening). Legal w cur) (sym same_opening) c.children.invariant.between.legal)) in
-    let desks0 : List DeskTold = (g.C.Crew.told c.args.crew) in
-    let desks : List DeskTold = (g.C.Crew.told c.children.crew) in
-    let desks' : List DeskTold = (g.C.Crew.told c.start_one-after.result.0) in
+    let desks0 : List DeskTold = (map g.K.Desk.told c.args.bench.desks.items) in
+    let desks : List DeskTold = (map g.K.Desk.told c.children.bench.desks.items) in
+    let desks' : List DeskTold = (map g.K.Desk.told c.start_one-after.result.0.desks.items) in
     let start : ProgramsTold = (g.P.Programs.told c.args.programs.now) in
     let before : ProgramsTold = (g.P.Programs.told c.children.programs) in
     let after : ProgramsTold = (g.P.Programs.told c.start_one-after.new.programs) in
     let wires : List WireValue = c.children.wires.items in
     let wires' : List WireValue = c.start_one-after.new.wires.items in
     broken_started o p c.args.setting.now.plan.now.setup c.args.setting.now.plan.now.offers c.args.setting.now.plan.now.starts c.children.made c.children.offer c.args.setting.now.plan.now.program cur new desks0 desks desks' before after wires wires' same_opening c.children.invariant.between
-    (at_err _ _ c.start_one-after.result.2 c.in-Err.field-0 c.in-Err.is c.start_one-after.ensures.starts) legal
+    (at_err _ _ c.start_one-after.result.1 c.in-Err.field-0 c.in-Err.is c.start_one-after.ensures.starts) legal
     (let below = c.children-test.true in let end = c.children.auto.made-end in omega (arith, below, end))
 
 pub returns-in-Err-clause-kept : goal.returns-in-Err-clause-kept
 returns-in-Err-clause-kept g c =
-    let o = c.args.core.opening in
-    let p = c.children.core.opening in
-    let cur = c.children.core.journal in
-    let new = c.start_one-after.result.1.journal in
+    let o = c.args.bench.core.opening in
+    let p = c.children.bench.core.opening in
+    let cur = c.children.bench.core.journal in
+    let new = c.start_one-after.result.0.core.journal in
     let same_opening = c.children.invariant.core.opening in
     let legal : Legal o new = subst (λ (w : Opening). Legal w new) (c.start_one-after.ensures.core.opening ∙ same_opening) (c.start_one-after.ensures.core.legal (subst (λ (w : Opening). Legal w cur) (sym same_opening) c.children.invariant.between.legal)) in
-    let desks0 : List DeskTold = (g.C.Crew.told c.args.crew) in
-    let desks : List DeskTold = (g.C.Crew.told c.children.crew) in
-    let desks' : List DeskTold = (g.C.Crew.told c.start_one-after.result.0) in
+    let desks0 : List DeskTold = (map g.K.Desk.told c.args.bench.desks.items) in
+    let desks : List DeskTold = (map g.K.Desk.told c.children.bench.desks.items) in
+    let desks' : List DeskTold = (map g.K.Desk.told c.start_one-after.result.0.desks.items) in
     let start : ProgramsTold = (g.P.Programs.told c.args.programs.now) in
     let before : ProgramsTold = (g.P.Programs.told c.children.programs) in
     let after : ProgramsTold = (g.P.Programs.told c.start_one-after.new.programs) in
     let wires : List WireValue = c.children.wires.items in
     let wires' : List WireValue = c.start_one-after.new.wires.items in
     broken_kept o p c.args.setting.now.plan.now.setup c.args.setting.now.plan.now.offers c.args.setting.now.plan.now.starts c.children.made c.children.offer c.args.setting.now.plan.now.program cur new desks0 desks desks' start before after wires wires' same_opening c.children.invariant.between c.children.invariant.kept
-    (at_err _ _ c.start_one-after.result.2 c.in-Err.field-0 c.in-Err.is c.start_one-after.ensures.starts)
+    (at_err _ _ c.start_one-after.result.1 c.in-Err.field-0 c.in-Err.is c.start_one-after.ensures.starts)
 
 pub returns-in-Err-clause-core : goal.returns-in-Err-clause-core
 returns-in-Err-clause-core g c = cores_both c.children.invariant.core c.start_one-after.ensures.core
 
 pub children-preserved : goal.children-preserved
 children-preserved g c =
-    let o = c.args.core.opening in
-    let p = c.children.core.opening in
-    let cur = c.children.core.journal in
-    let new = c.start_one-after.result.1.journal in
+    let o = c.args.bench.core.opening in
+    let p = c.children.bench.core.opening in
+    let cur = c.children.bench.core.journal in
+    let new = c.start_one-after.result.0.core.journal in
     let same_opening = c.children.invariant.core.opening in
     let legal : Legal o new = subst (λ (w : Opening). Legal w new) (c.start_one-after.ensures.core.opening ∙ same_opening) (c.start_one-after.ensures.core.legal (subst (λ (w : Opening). Legal w cur) (sym same_opening) c.children.invariant.between.legal)) in
-    let desks0 : List DeskTold = (g.C.Crew.told c.args.crew) in
-    let desks : List DeskTold = (g.C.Crew.told c.children.crew) in
-    let desks' : List DeskTold = (g.C.Crew.told c.start_one-after.result.0) in
+    let desks0 : List DeskTold = (map g.K.Desk.told c.args.bench.desks.items) in
+    let desks : List DeskTold = (map g.K.Desk.told c.children.bench.desks.items) in
+    let desks' : List DeskTold = (map g.K.Desk.told c.start_one-after.result.0.desks.items) in
     let start : ProgramsTold = (g.P.Programs.told c.args.programs.now) in
     let before : ProgramsTold = (g.P.Programs.told c.children.programs) in
     let after : ProgramsTold = (g.P.Programs.told c.start_one-after.new.programs) in
     let wires : List WireValue = c.children.wires.items in
     let wires' : List WireValue = c.start_one-after.new.wires.items in
     let after_one = next_job_start o p c.args.setting.now.plan.now.setup c.args.setting.now.plan.now.offers c.args.setting.now.plan.now.starts c.children.made c.children.offer c.in-Ok.next true c.args.setting.now.plan.now.program cur new desks0 desks desks' start before after wires wires'
-    same_opening c.children.invariant.between c.children.invariant.kept (at_ok _ _ c.start_one-after.result.2 c.in-Ok.next c.in-Ok.is c.start_one-after.ensures.starts) legal in
+    same_opening c.children.invariant.between c.children.invariant.kept (at_ok _ _ c.start_one-after.result.1 c.in-Ok.next c.in-Ok.is c.start_one-after.ensures.starts) legal in
     record {
       between = after_one.0;
       kept = after_one.1;
       core = cores_both c.children.invariant.core c.start_one-after.ensures.core;
       room = (
-        (let was = c.children.invariant.room.0 in let now = c.start_one-after.ensures.room.0 in let same = still_many c.children.invariant.between in let one = one_more c.children.made (length (g.C.Crew.told c.args.crew)) in omega (arith, was, now, same, one)),
+        (let was = c.children.invariant.room.0 in let now = c.start_one-after.ensures.room.0 in let same = c.children.bench.desks.ok.0 ∙ sym (length-map c.children.bench.desks.items g.K.Desk.told) ∙ still_many c.children.invariant.between ∙ length-map c.args.bench.desks.items g.K.Desk.told ∙ sym c.args.bench.desks.ok.0 in let one = one_more c.children.made (vec_len c.args.bench.desks) in omega (arith, was, now, same, one)),
         c.start_one-after.ensures.room.1 ∙ c.children.invariant.room.1,
       );
     }

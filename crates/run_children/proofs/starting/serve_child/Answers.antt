@@ -3,13 +3,13 @@ use Rattle.std.proofs.lemmas.List.{length-map}
 use Rattle.journal_model.specs.declared.opening.Opening.{Opening}
 use Rattle.journal_model.specs.Legality.{Legal}
 use Rattle.run_children.proofs.Firsts.{first_by, lone_leaves}
-use Rattle.run_children.proofs.workers.WorkersCrew.serve_child.Goals as goal
-use Rattle.run_children.proofs.workers.WorkersCrew.serve_child.Goals.{else-not-tagged-via-then-not-tagged+else-len-gt1, else-not-tagged-via-else-not-tagged}
+use Rattle.run_children.proofs.starting.serve_child.Goals as goal
+use Rattle.run_children.proofs.starting.serve_child.Goals.{else-not-tagged-via-then-not-tagged+else-len-gt1, else-not-tagged-via-else-not-tagged}
 
 pub returns-clause-served : goal.returns-clause-served
 returns-clause-served g c =
-    let desks = map g.K.Desk.told c.args.self.desks.items in
-    let many : length desks ≡ vec_len c.args.self.desks = length-map c.args.self.desks.items _ ∙ sym c.args.self.desks.ok.0 in
+    let desks = map g.K.Desk.told c.args.bench.desks.items in
+    let many : length desks ≡ vec_len c.args.bench.desks = length-map c.args.bench.desks.items _ ∙ sym c.args.bench.desks.ok.0 in
     let same = c.serve_ready-link.ensures.same in
     first_by c.serve_ready-link.result.2 c.serve_ready-link.ensures.serves
     (elim c.else-not-tagged.branch [
