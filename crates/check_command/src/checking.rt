@@ -75,13 +75,21 @@ where
         → HasChecked clock program key (P.told programs.old) (P.told programs.new) result }
 {
     let Ready {
-        core,
+        mut core,
         tasks,
         plan,
-        desk,
+        mut desk,
     } = ready;
     let mut wires = wires;
-    let (_, core, ran) = run_alone(alloc, programs, &plan, tasks.view(), core, desk, &mut wires);
+    let ran = run_alone(
+        alloc,
+        programs,
+        &plan,
+        tasks.view(),
+        &mut core,
+        &mut desk,
+        &mut wires,
+    );
     let (answers, end) = answers_after(alloc, ran, &core);
     CheckMade {
         journal: journal_of(core),

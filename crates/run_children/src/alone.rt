@@ -1,5 +1,5 @@
 // The starts of a run by one worker, which has one desk and no threads.
-ghost use Rattle.std.specs.Prelude.{◌≡◌, ◌≤◌, ◌<◌, ◌+◌, [], ◌∷◌, MatchResult, vec_len, vec_capacity};
+ghost use Rattle.std.specs.Prelude.{◌≡◌, ◌≤◌, ◌<◌, ◌+◌, [], ◌∷◌, true, MatchResult, vec_len, vec_capacity};
 ghost use Rattle.child_start.specs.Cores.{IsSameCore};
 ghost use Rattle.run_starts.specs.Stints.{KeptOr};
 ghost use Rattle.run_children.specs.Runs.{IsHanded, MayRun};

@@ -1,5 +1,5 @@
 // The starts of a run by many workers: one child of slot 0 after the other.
-ghost use Rattle.std.specs.Prelude.{◌≡◌, ◌≤◌, ◌+◌, IsErr, MatchResult, is_ok, length, map, vec_len, vec_capacity};
+ghost use Rattle.std.specs.Prelude.{◌≡◌, ◌≤◌, ◌+◌, true, IsErr, MatchResult, is_ok, length, map, vec_len, vec_capacity};
 ghost use Rattle.child_start.specs.Cores.{IsSameCore};
 ghost use Rattle.run_starts.specs.Stints.{KeptOr};
 ghost use Rattle.run_children.specs.Runs.{AreDesks, IsHanded, MayRun};

@@ -10,8 +10,8 @@ use Rattle.check_command.specs.Preparings.{AnswersAs}
 use Rattle.check_command.proofs.Checked.{has_checked, whole_answered}
 use Rattle.check_command.proofs.checking.do_task.Goals as goal
 
-pub run_alone-core-requires-clause-handed : goal.run_alone-core-requires-clause-handed
-run_alone-core-requires-clause-handed g c = λ κs lives.
+pub run_alone-ran-requires-clause-handed : goal.run_alone-ran-requires-clause-handed
+run_alone-ran-requires-clause-handed g c = λ κs lives.
     let is = c.requires.ready.3 in
     let same = c.view-tasks.ensures ∙ is.tasks in
     record {
@@ -19,8 +19,8 @@ run_alone-core-requires-clause-handed g c = λ κs lives.
       folder = ap (λ (p : Plan). has_newline p.setup.work) is.plan;
     }
 
-pub run_alone-core-requires-clause-may : goal.run_alone-core-requires-clause-may
-run_alone-core-requires-clause-may g c = λ κs lives.
+pub run_alone-ran-requires-clause-may : goal.run_alone-ran-requires-clause-may
+run_alone-ran-requires-clause-may g c = λ κs lives.
     let is = c.requires.ready.3 in
     let one = ap (λ (p : Plan). p.starts) is.plan in
     let room = c.requires.room in
@@ -28,14 +28,14 @@ run_alone-core-requires-clause-may g c = λ κs lives.
 
 pub answers_after-answers-requires : goal.answers_after-answers-requires
 answers_after-answers-requires g c =
-    let journal = c.run_alone-core.result.1.journal in
-    let ran = c.run_alone-core.ensures.ran in
-    subst (λ (o : Opening). IfOk c.run_alone-core.result.2 (λ _. AreAllAnswered o journal)) (sym c.run_alone-core.ensures.core.opening)
-    (whole_answered c.run_alone-core.result.2 c.args.ready.core.opening journal ran.legal ran.calm.idle c.run_alone-core.ensures.whole)
+    let journal = c.run_alone-ran.new.core.journal in
+    let ran = c.run_alone-ran.ensures.ran in
+    subst (λ (o : Opening). IfOk c.run_alone-ran.result (λ _. AreAllAnswered o journal)) (sym c.run_alone-ran.ensures.core.opening)
+    (whole_answered c.run_alone-ran.result c.args.ready.core.opening journal ran.legal ran.calm.idle c.run_alone-ran.ensures.whole)
 
 pub returns : goal.returns
 returns g c clock program key stamp at is =
-    has_checked c.run_alone-core.result.2 clock program key stamp c.args.ready _ _ c.run_alone-core.result.1.journal _ _ _
-    at is c.journal_of.ensures c.run_alone-core.ensures.ran c.run_alone-core.ensures.last
-    (subst (λ (o : Opening). AnswersAs o c.run_alone-core.result.1.journal c.run_alone-core.result.2 c.answers_after-answers.result.0.items c.answers_after-answers.result.1) c.run_alone-core.ensures.core.opening c.answers_after-answers.ensures)
-    c.run_alone-core.ensures.leaves
+    has_checked c.run_alone-ran.result clock program key stamp c.args.ready _ _ c.run_alone-ran.new.core.journal _ _ _
+    at is c.journal_of.ensures c.run_alone-ran.ensures.ran c.run_alone-ran.ensures.last
+    (subst (λ (o : Opening). AnswersAs o c.run_alone-ran.new.core.journal c.run_alone-ran.result c.answers_after-answers.result.0.items c.answers_after-answers.result.1) c.run_alone-ran.ensures.core.opening c.answers_after-answers.ensures)
+    c.run_alone-ran.ensures.leaves

@@ -13,17 +13,17 @@ use Rattle.run_children.proofs.Firsts.{first_ok, lone_leaves}
 use Rattle.run_children.proofs.alone.start_one.Goals as goal
 
 pub serve-requires-clause-tasks : goal.serve-requires-clause-tasks
-serve-requires-clause-tasks g c = λ κs fresh. (ap (λ (w : Opening). w.tasks) c.begin_one.ensures.core.opening ∙ c.requires.handed.tasks.0, c.requires.handed.tasks.1)
+serve-requires-clause-tasks g c = (ap (λ (w : Opening). w.tasks) c.begin_one.ensures.core.opening ∙ c.requires.handed.tasks.0, c.requires.handed.tasks.1)
 
 pub serve-requires-clause-folder : goal.serve-requires-clause-folder
-serve-requires-clause-folder g c = λ κs fresh. c.requires.handed.folder
+serve-requires-clause-folder g c = c.requires.handed.folder
 
 pub serve-requires-clause-can : goal.serve-requires-clause-can
-serve-requires-clause-can g c = λ κs fresh.
+serve-requires-clause-can g c =
     subst (λ (w : Opening). CanWork w c.in-Ready.child.link.ear.child c.begin_one.new.core.journal) (sym c.begin_one.ensures.core.opening) c.in-Ready.ensures.begins.0.stands.can.can
 
-pub finish-requires : goal.finish-requires
-finish-requires g c = λ κs fresh.
+pub finish-requires-clause-room : goal.finish-requires-clause-room
+finish-requires-clause-room g c =
     let same : _ ≡ _ = c.begin_one.new.wires.ok.0 ∙ ap (λ (ws : List _). length ws) c.in-Ready.ensures.begins.1 ∙ sym c.args.wires.now.ok.0 in
     let room = c.requires.room in
     let capacity = c.begin_one.ensures.room.1 in

@@ -1,5 +1,5 @@
 use Rattle.ann_outside.specs.Told.{DeskTold, ProgramsTold}
-use Rattle.std.proofs.Common.{◌≡◌, ◌<◌, ◌∙◌, ℕ, List, Bool, inl, map, sym, ap, subst, arith, length}
+use Rattle.std.proofs.Common.{◌≡◌, ◌<◌, ◌∙◌, ℕ, List, Bool, true, inl, map, sym, ap, subst, arith, length}
 use Rattle.std.specs.Prelude.{IsErr, is_ok}
 use Rattle.std.proofs.lemmas.List.{length-map}
 use Rattle.ann_key.proofs.Numbers.{ok_no_err}
