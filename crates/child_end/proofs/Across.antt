@@ -1,8 +1,11 @@
 -- What several crates above this one use.
-use Rattle.std.proofs.Common.{◌∙◌, Some, None, Option, ℕ, List, [], ◌∷◌, Bool, sym, append-nil, ◌+◌, ◌++◌, ap, append_assoc}
+use Rattle.std.proofs.Common.{◌∙◌, inl, inr, Some, None, Option, ℕ, List, [], ◌∷◌, Bool, sym, append-nil, ◌+◌, ◌++◌, ap, append_assoc}
 use Rattle.ann_outside.specs.Causes.{Stays, AddsOne}
 use Rattle.ann_outside.specs.Starts.{Starts}
-use Rattle.child_end.specs.Programs.{AddsAll}
+use Rattle.ann_outside.specs.Told.{ProgramsTold}
+use Rattle.journal_model.specs.declared.entry.Entry.{Entry}
+use Rattle.child_link.specs.Wires.{WireValue}
+use Rattle.child_end.specs.Programs.{AddsAll, HaveStarted, Leaves}
 use Rattle.std.specs.Prelude.{◌-◌}
 
 pub adds_stay : (a b c : Option Starts) (xs : Starts) → AddsAll a b xs → Stays b c → AddsAll a c xs
@@ -30,3 +33,11 @@ adds_both None (Some bs) c xs ys h k = absurd h
 adds_both (Some us) None c xs ys h k = absurd h
 adds_both (Some us) (Some vs) None xs ys h k = absurd k
 adds_both (Some us) (Some vs) (Some ws) xs ys h k = k ∙ ap (λ (l : Starts). l ++ ys) h ∙ append_assoc us xs ys
+
+-- what stands for the running out of memory is named otherwise
+pub leaves_if : {V W : Type 0} {program : List ℕ} {journal : List Entry} {before after : ProgramsTold} {wires : List WireValue} → (V → W) → Leaves V program journal before after wires → Leaves W program journal before after wires
+leaves_if {V} {W} {program} {journal} {before} {after} f h = record { wired = h.wired; started = go h.started; faults = h.faults }
+  where
+    go : HaveStarted V program journal before.starts after.starts → HaveStarted W program journal before.starts after.starts
+    go (inl all) = inl all
+    go (inr more) = inr (f more.0, more.1)

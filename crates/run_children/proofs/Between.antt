@@ -90,6 +90,7 @@ jobs_begin o setup may limit journal desks whole none = subst (λ (j : List Entr
   placed = tt;
   did = desks_nothing o setup limit [] [] [] 1 desks refl;
   alone = λ one. refl;
+  last = λ one claimed. record { past = []; closings = []; is = refl; answered = refl; closed = refl };
   shut = λ c. refl;
 }
 
@@ -200,6 +201,7 @@ module _ {o : Opening} {setup : Setup} {limit : ℕ} {offer next : Bool} {first 
           (subst (λ (n : ℕ). HaveDesks n (old ++ main_entry first ∷ []) s.later) (sym as_many) s.placed)));
       did = subst (λ (j : List Entry). DesksDid o setup limit j [] j 1 desks0 desks') (sym s.is) did_now;
       alone = λ one. ap (are_by 0) s.is ∙ all-join (λ (e : Entry). e.by == 0) old tail (b.alone one) (s.alone (sym as_many ∙ one));
+      last = λ one. s.last (sym as_many ∙ one);
       shut = s.shut b.shut;
     }
 
@@ -220,12 +222,19 @@ ran_jobs {o} {setup} {may} {limit} {made} {offer} {journal} le b = record {
   alone = b.alone;
 }
 
+pub ran_many : {o : Opening} {setup : Setup} {may : Bool} {limit : ℕ} {journal : List Entry} {desks desks' : List DeskTold} → RanJobs o setup may limit journal desks desks' → length desks' ≡ length desks
+ran_many {o} {setup} {may} {limit} {journal} {desks} {desks'} r = sym (desks_as_many o setup limit journal [] journal 1 desks desks' r.did)
+
 pub at_rest : {o : Opening} {setup : Setup} {may : Bool} {limit made : ℕ} {offer : Bool} {journal : List Entry} {desks desks' : List DeskTold} {whole : Bool} → JobsBetween o setup may limit made offer journal desks desks' whole → IsAtRest journal
 at_rest {o} {setup} {may} {limit} {made} {offer} {journal} b = record { idle = b.rest; shut = shut_open journal b.shut }
 
 pub whole_of : {o : Opening} {setup : Setup} {may : Bool} {limit made : ℕ} {offer : Bool} {journal : List Entry} {desks desks' : List DeskTold} (whole : Bool) → JobsBetween o setup may limit made offer journal desks desks' whole → whole ≡ true
     → JobsBetween o setup may limit made offer journal desks desks' true
 whole_of {o} {setup} {may} {limit} {made} {offer} {journal} {desks} {desks'} whole b e = subst (λ (w : Bool). JobsBetween o setup may limit made offer journal desks desks' w) e b
+
+pub still_many : {o : Opening} {setup : Setup} {may : Bool} {limit made : ℕ} {offer : Bool} {journal : List Entry} {desks desks' : List DeskTold} {whole : Bool} → JobsBetween o setup may limit made offer journal desks desks' whole
+    → length desks' ≡ length desks
+still_many {o} {setup} {may} {limit} {made} {offer} {journal} {desks} {desks'} b = sym (desks_as_many o setup limit journal [] journal 1 desks desks' b.did)
 
 -- where tasks are left after all starts, each of them is spent
 pub all_over : {o : Opening} {setup : Setup} {may : Bool} {limit made : ℕ} {offer : Bool} {journal : List Entry} {desks desks' : List DeskTold} → JobsBetween o setup may limit made offer journal desks desks' true → IsOver o limit made journal

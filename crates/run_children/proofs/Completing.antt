@@ -27,7 +27,7 @@ use Rattle.task_model.specs.declared.setup.Setup.{Setup}
 use Rattle.task_model.specs.Askings.{TaskStretch, closing, run_askings, run_notings, run_turn}
 use Rattle.task_model.specs.Ran.{HasTaskCauses, is_of_content}
 use Rattle.crew_worker.specs.Works.{CausedInTurn, TaskDone, turns_of}
-use Rattle.task_laws.specs.LoneWell.{AreKeysRead, ChildrenWell, IsDoneWell}
+use Rattle.task_laws.specs.ChildrenWell.{AreKeysRead, ChildrenWell, IsDoneWell}
 use Rattle.task_laws.specs.RunWell.{AreAskedWell}
 use Rattle.task_laws.specs.WentWell.{IsFoundWell, IsSuccess, is_asked_well, is_called_well, success_of}
 use Rattle.task_laws.proofs.LastRuns.{answered_is_last}

@@ -8,7 +8,6 @@ use Rattle.journal_model.specs.declared.entry.What.TheVariants.{Claim}
 use Rattle.journal_model.specs.declared.entry.Entry.{Entry}
 use Rattle.journal_model.specs.declared.opening.Opening.{Opening}
 use Rattle.journal_model.specs.Journal.{each_of}
-use Rattle.journal_model.specs.Legality.{count}
 use Rattle.journal_model.specs.Shares.{are_by}
 use Rattle.journal_model.proofs.Holding.{claimed}
 use Rattle.task_model.specs.declared.setup.Setup.{Setup}
@@ -16,12 +15,10 @@ use Rattle.crew_worker.specs.Works.{RanFor, TaskDone, all_calls, turns_of}
 use Rattle.crew_worker.proofs.Working.{calls_both, caused_both, run_lasts, turns_both}
 use Rattle.crew_laws.specs.Tasks.{claimed_turn, turns_by}
 use Rattle.task_model.specs.declared.turn.TaskTurn.{TaskTurn}
-use Rattle.run_starts.specs.Starting.{is_any_start}
-use Rattle.run_starts.specs.Rounds.{HasRun}
-use Rattle.run_starts.specs.Stints.{AllHaveRun, TasksDone}
+use Rattle.run_starts.specs.Stints.{AllHaveRun, HasRun, TasksDone}
 use Rattle.run_starts.proofs.Runs.{gained_more, gained_nothing}
 use Rattle.run_children.specs.Desks.{AreDone, DeskDid, DesksDid, HasDesk, HaveDesks, IsTaskDone, WorkerRun, claimed_for, claims_for, desk_of}
-use Rattle.run_children.proofs.Unserved.{unserved_lasts, zero_unserved}
+use Rattle.run_children.proofs.Unserved.{failed_unserved, unserved_lasts}
 use Rattle.ann_key.proofs.Lists.{cons_append as cons_both}
 use Rattle.std.proofs.lemmas.Bool.{and_parts as both, ne_eqb as differ, eqb-true as same_number}
 
@@ -121,14 +118,14 @@ module _ (o : Opening) (setup : Setup) (limit : ℕ) where
   all_both journal [] ys h k = k
   all_both journal (r ∷ xs) ys h k = (h.0, all_both journal xs ys h.1 k)
 
-  -- what the main thread did over one child at a time, in a run that could make more starts
-  main_done : (more : ℕ) (journal : List Entry) (r : TaskDone) → count is_any_start journal < more → HasRun o setup more journal r → IsTaskDone o setup limit journal r
-  main_done more journal r fewer (inl h) = inl (record { number = 0; run = h.run; child = h.child; answer = h.answer })
-  main_done more journal r fewer (inr z) = inr (zero_unserved limit more journal r.task r.answer fewer z.0, z.1)
+  -- what the main thread did over one child at a time
+  main_done : (journal : List Entry) (r : TaskDone) → HasRun o setup journal r → IsTaskDone o setup limit journal r
+  main_done journal r (inl h) = inl (record { number = 0; run = h.run; child = h.child; answer = h.answer })
+  main_done journal r (inr z) = inr (failed_unserved limit journal r.task r.answer z.0, z.1)
 
-  all_main : (more : ℕ) (journal : List Entry) (rs : List TaskDone) → count is_any_start journal < more → AllHaveRun o setup more journal rs → AreDone o setup limit journal rs
-  all_main more journal [] fewer h = tt
-  all_main more journal (r ∷ rs) fewer h = (main_done more journal r fewer h.0, all_main more journal rs fewer h.1)
+  all_main : (journal : List Entry) (rs : List TaskDone) → AllHaveRun o setup journal rs → AreDone o setup limit journal rs
+  all_main journal [] h = tt
+  all_main journal (r ∷ rs) h = (main_done journal r h.0, all_main journal rs h.1)
 
   -- ---- one desk
 
@@ -187,12 +184,12 @@ module _ (o : Opening) (setup : Setup) (limit : ℕ) where
       → DesksDid o setup limit journal past xs 1 (desk ∷ others) (desk' ∷ others)
   desks_first journal past xs desk desk' others main did = (did, others_nothing journal past xs 2 others (omega arith) main)
 
-  pub desks_main : (more : ℕ) (journal past xs : List Entry) (desk desk' : DeskTold) (others : List DeskTold) → count is_any_start journal < more → are_by 0 xs ≡ true → TasksDone o setup more journal past xs desk desk'
+  pub desks_main : (journal past xs : List Entry) (desk desk' : DeskTold) (others : List DeskTold) → are_by 0 xs ≡ true → TasksDone o setup journal past xs desk desk'
       → DesksDid o setup limit journal past xs 1 (desk ∷ others) (desk' ∷ others)
-  desks_main more journal past xs desk desk' others fewer main t = desks_first journal past xs desk desk' others main record {
+  desks_main journal past xs desk desk' others main t = desks_first journal past xs desk desk' others main record {
     done = t.done;
     claimed = t.claimed ∙ sym (main_claims past xs main);
-    ran = all_main more journal t.done fewer t.ran;
+    ran = all_main journal t.done t.ran;
     log_is = t.log_is;
     caused = t.caused;
   }

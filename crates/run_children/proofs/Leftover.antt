@@ -19,9 +19,11 @@ use Rattle.task_model.specs.declared.setup.Setup.{Setup}
 use Rattle.task_model.specs.TaskRuns.{failed_start}
 use Rattle.task_model.proofs.Causes.{from_nothing}
 use Rattle.run_starts.specs.Starting.{AllOffer, children, is_any_start, is_offered, is_ready_untagged, started_in}
-use Rattle.run_starts.specs.Rounds.{AllLostWell, AllStandNext, is_of_run, left_answer, start_untaken}
+use Rattle.run_starts.specs.Rounds.{AllLostWell, AllStandNext, EndsClosed, is_of_run, left_answer, start_untaken}
 use Rattle.run_starts.specs.Stints.{AnswersLeft, Kept, answered_so, main_entry}
-use Rattle.run_starts.proofs.Ending.{left_quiet}
+use Rattle.run_starts.proofs.Ending.{left_ends, left_quiet}
+use Rattle.crew_worker.proofs.Working.{ends_behind}
+use Rattle.host_core.specs.Steps.{are_all_claimed}
 use Rattle.run_starts.proofs.Apart.{ended_on, ready_same}
 use Rattle.run_starts.proofs.Leaving.{kept_still}
 use Rattle.run_starts.proofs.Losing.{lost_both, lost_tasks, loses_task}
@@ -150,6 +152,17 @@ module _ {o : Opening} {setup : Setup} {may : Bool} {limit made : ℕ} {offer : 
   did_more [] = tt
   did_more (d ∷ ds) = desks_first o setup limit (old ++ more) old more d d ds main (left_did (left_answer old) o setup limit (old ++ more) d (left_quiet o old b.legal) old a.tasks refl (b.starts ∙ all) spent (λ t. refl) b.untaken)
 
+  -- the last that was answered closes the run
+  last_now : length desks0 ≡ 1 → (ts : List ℕ) → new ≡ old ++ answered_so (left_answer old) ts → are_all_claimed o new ≡ true → EndsClosed new
+  last_now one [] is claimed = (let same : new ≡ old = is ∙ append-nil old in subst EndsClosed (sym same) (b.last one (sym (ap (are_all_claimed o) same) ∙ claimed)))
+  last_now one (t ∷ ts) is claimed = record {
+    past = old ++ answered_so (left_answer old) (t ∷ ts);
+    closings = [];
+    is = is ∙ sym (append-nil (old ++ answered_so (left_answer old) (t ∷ ts)));
+    answered = ends_behind old (main_entry (Claim t 0)) (main_entry (Answered t (left_answer old t)) ∷ answered_so (left_answer old) ts) (left_ends (left_answer old) t ts);
+    closed = refl;
+  }
+
   pub jobs_left : JobsBetween o setup may limit made offer new desks0 desks true
   jobs_left = record {
     legal = legal;
@@ -171,6 +184,7 @@ module _ {o : Opening} {setup : Setup} {may : Bool} {limit made : ℕ} {offer : 
     did = subst (λ (j : List Entry). DesksDid o setup limit j [] j 1 desks0 desks) (sym a.is)
         (desks_join o setup limit (old ++ more) [] old more 1 desks0 desks desks (desks_on o setup limit old more [] old 1 desks0 desks b.did) (did_more desks));
     alone = λ one. ap (are_by 0) a.is ∙ all-join (λ (e : Entry). e.by == 0) old more (b.alone one) main;
+    last = λ one. last_now one a.tasks a.is;
     shut = λ d. ap (λ (j : List Entry). open_jobs j d) a.is ∙ idle_on old more d (unasked d more (apart d)) (b.shut d);
   }
 

@@ -387,24 +387,20 @@ module _ (o : Opening) (setup : Setup) (limit first : ℕ) (g mid : List Entry) 
   taken : turns_by 0 g then ≡ turns_by 0 g worked
   taken = turns_by-append 0 g worked k.tail ∙ ap (λ (x : List (ℕ × ℕ)). turns_by 0 g worked ++ x) (of_closing c k.tail k.one (λ (x : List Entry). turns_by 0 (g ++ worked) x ≡ []) refl refl) ∙ append-nil (turns_by 0 g worked)
 
-  -- more starts than were made: none of these tasks was claimed without a child
-  abbrev most : ℕ
-  most = count is_any_start mid + 1
-
-  done : TasksDone o setup most mid g then a.desk a.desk'
+  done : TasksDone o setup mid g then a.desk a.desk'
   done =
-      let at_end : TasksDone o setup most (s.mid ++ k.tail) g worked a.desk a.desk' = record {
+      let at_end : TasksDone o setup (s.mid ++ k.tail) g worked a.desk a.desk' = record {
         done = s.worked.done;
         claimed = sym s.worked.did.claimed;
-        ran = worker_runs o setup most c s.mid k.tail s.worked.done s.can.serves.number s.worked.ran;
+        ran = worker_runs o setup c s.mid k.tail s.worked.done s.can.serves.number s.worked.ran;
         log_is = s.worked.log_is;
         caused = s.worked.caused;
       } in
-      done_same o setup most mid g g worked then a.desk a.desk' taken (subst (λ (j : List Entry). TasksDone o setup most j g worked a.desk a.desk') (sym k.is) at_end)
+      done_same o setup mid g g worked then a.desk a.desk' taken (subst (λ (j : List Entry). TasksDone o setup j g worked a.desk a.desk') (sym k.is) at_end)
 
   did_alone : DesksDid o setup limit mid g then 1 desks desks'
   did_alone = subst (λ (ds : List DeskTold). DesksDid o setup limit mid g then 1 ds desks') (sym a.before) (subst (λ (ds : List DeskTold). DesksDid o setup limit mid g then 1 (a.desk ∷ a.others) ds) (sym a.after)
-      (desks_main o setup limit most mid g then a.desk a.desk' a.others (omega arith) part.main done))
+      (desks_main o setup limit mid g then a.desk a.desk' a.others part.main done))
 
   some : 0 < length desks
   some = (let is = ap (λ (ds : List DeskTold). length ds) a.before in omega (arith, is))

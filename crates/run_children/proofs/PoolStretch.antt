@@ -293,6 +293,7 @@ module _ (o : Opening) (setup : Setup) (limit : ℕ) (offer : Bool) (old g new :
     did = desks_join o setup limit new at_start greeted.more s.later 1 desks desks desks' (desks_nothing o setup limit new at_start greeted.more 1 desks (greeting_claims_none old g offer c greeted))
         (subst (λ (p : List Entry). DesksDid o setup limit new p s.later 1 desks desks') at_greeted s.did);
     alone = λ one. absurd (many one);
+    last = λ one. absurd (many one);
     shut = λ shut. rest_shut new s.calm;
   }
 

@@ -33,7 +33,7 @@ use Rattle.run_children.specs.Starts.{JobStretch, OneJobStart, StartsAll}
 use Rattle.run_children.proofs.Desks.{desks_join, desks_nothing, desks_on, have_both, have_none}
 use Rattle.run_children.proofs.Posting.{none_main, posted_both, posted_main, posted_tagged}
 use Rattle.run_children.proofs.RoundDid.{round_asks, round_desks, round_did, round_over, round_within}
-use Rattle.run_children.proofs.Stretching.{behind_first, closed_idle, job_start, more_than, served_idle, served_manned, served_turn, stint_job, stretch_job}
+use Rattle.run_children.proofs.Stretching.{behind_first, closed_idle, job_start, served_idle, served_manned, served_turn, stint_job, stretch_job}
 use Rattle.std.proofs.lemmas.Bool.{and_parts as both}
 use Rattle.run_pools.proofs.Own.{rest_shut}
 
@@ -166,7 +166,7 @@ module _ (o : Opening) (setup : Setup) (limit : ℕ) (offer tagged : Bool) (old 
 
   pub round_stretch : (full : Bool) → JobStretch o setup limit offer (offer && tagged) (Start c 0 offer) old new desks desks' full
   round_stretch full = stretch_job stretch setup limit desks desks' full (served_turn o n offer old g new c legal' greeted ready (rest ++ k.tail) behind (inr s.tagged) later whole within) placed did
-      (λ one. absurd (s.many one)) (λ shut. subst (λ (n : ℕ). open_jobs new n ≡ []) greeted.next idle)
+      (λ one. absurd (s.many one)) (λ one. absurd (s.many one)) (λ shut. subst (λ (n : ℕ). open_jobs new n ≡ []) greeted.next idle)
       (served_manned o n offer old g new c legal' greeted ready (rest ++ k.tail) behind (inr s.tagged) end_within) posts
 
   pub round_start : {program : List ℕ} {before after : ProgramsTold} {wires wires' : List WireValue} (full : Bool) → ((xs : List Entry) → any is_any_start xs ≡ false → StartsAll program new (first ∷ xs) before after wires wires')
@@ -177,8 +177,8 @@ module _ (o : Opening) (setup : Setup) (limit : ℕ) (offer tagged : Bool) (old 
 module _ (o : Opening) (setup : Setup) (limit : ℕ) (offer tagged : Bool) (old g new : List Entry) (c : ℕ) (desk desk' : DeskTold) (others : List DeskTold)
     (legal : Legal o old) (left : are_all_claimed o old ≡ false) (greeted : Greeted old g 0 offer c) (legal' : Legal o g) (ready : IsReady g c) (tag : tagged ≡ is_tagged g c) (served : HasServed o setup c g new desk desk')
     (few : (length (desk ∷ others) ≡ 1) ⊎ (is_tagged g c ≡ true)) where
-  stint : Stint o setup (more_than new) offer (offer && tagged) (Start c 0 offer) old new desk desk'
-  stint = served_stint o setup (more_than new) offer tagged old g new c desk desk' legal left greeted legal' ready tag served
+  stint : Stint o setup offer (offer && tagged) (Start c 0 offer) old new desk desk'
+  stint = served_stint o setup offer tagged old g new c desk desk' legal left greeted legal' ready tag served
 
   closes : Closing c served.mid new
   closes = closing c served.mid new served.closes

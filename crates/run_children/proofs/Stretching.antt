@@ -16,7 +16,7 @@ use Rattle.journal_model.specs.declared.entry.Entry.{Entry}
 use Rattle.journal_model.specs.declared.opening.Opening.{Opening}
 use Rattle.journal_model.specs.Journal.{any, asks, asked_jobs, is_ended, is_tagged, open_jobs, verdict_of, why_of}
 use Rattle.journal_model.specs.Halves.{EarValue, MouthValue}
-use Rattle.journal_model.specs.Legality.{Legal, count, is_done, is_prepared, prepares}
+use Rattle.journal_model.specs.Legality.{Legal, is_done, is_prepared, prepares}
 use Rattle.journal_model.specs.Shares.{are_by}
 use Rattle.journal_model.proofs.Linking.{why_is_end}
 use Rattle.journal_model.proofs.Looks.{or_none, verdict_of-append}
@@ -34,6 +34,7 @@ use Rattle.crew_worker.specs.KnownLayouts.{IsBook}
 use Rattle.task_model.specs.declared.setup.Setup.{Setup}
 use Rattle.crew_worker.specs.Works.{CanWork}
 use Rattle.run_starts.specs.Starting.{children, is_any_start, is_ready_untagged, is_spent, is_unclosed, started_in}
+use Rattle.run_starts.specs.Rounds.{EndsClosed}
 use Rattle.run_starts.specs.Stints.{AnswersOne, HasServed, IsStart, Stint, Stretch, TurnsAway, in_stint, main_entry, next_child}
 use Rattle.run_starts.proofs.Apart.{no_start_in}
 use Rattle.run_starts.proofs.Growing.{starts_none}
@@ -130,9 +131,9 @@ module _ {o : Opening} {offer next : Bool} {first : What} {old new : List Entry}
   one_child = ap (λ (ds : List ℕ). cons_option (started_in first) ds) (no_children s.later (starts_none s))
 
   pub stretch_job : (setup : Setup) (limit : ℕ) (desks desks' : List DeskTold) (whole : Bool) → AllInTurn o (length desks) (old ++ main_entry first ∷ []) s.later → HaveDesks (length desks) (old ++ main_entry first ∷ []) s.later
-      → DesksDid o setup limit new (old ++ main_entry first ∷ []) s.later 1 desks desks' → (length desks ≡ 1 → are_by 0 s.later ≡ true) → (AreShut old → open_jobs new (next_child old) ≡ [])
-      → IsManned o (length desks) new → AllPosted (old ++ main_entry first ∷ []) s.later → JobStretch o setup limit offer next first old new desks desks' whole
-  stretch_job setup limit desks desks' whole turn placed did alone idle manned posts = record {
+      → DesksDid o setup limit new (old ++ main_entry first ∷ []) s.later 1 desks desks' → (length desks ≡ 1 → are_by 0 s.later ≡ true) → (length desks ≡ 1 → are_all_claimed o new ≡ true → EndsClosed new)
+      → (AreShut old → open_jobs new (next_child old) ≡ []) → IsManned o (length desks) new → AllPosted (old ++ main_entry first ∷ []) s.later → JobStretch o setup limit offer next first old new desks desks' whole
+  stretch_job setup limit desks desks' whole turn placed did alone last idle manned posts = record {
     left = s.left;
     later = s.later;
     is = s.is;
@@ -153,6 +154,7 @@ module _ {o : Opening} {offer next : Bool} {first : What} {old new : List Entry}
     placed = placed;
     did = did;
     alone = alone;
+    last = last;
     shut = start_shuts old new s.later offer first (next_child old) s.start s.is s.within idle;
   }
     where
@@ -160,24 +162,20 @@ module _ {o : Opening} {offer next : Bool} {first : What} {old new : List Entry}
       spent (inl h) = inl (own_spends old new s.later first s.is (none_first s.later (starts_none s)) h)
       spent (inr h) = inr h
 
--- more starts than the journal has
-abbrev pub more_than : List Entry → ℕ
-more_than journal = count is_any_start journal + 1
-
 -- ---- by the main thread alone
 
 module _ (o : Opening) (setup : Setup) (limit : ℕ) (offer next : Bool) (first : What) (old new : List Entry) where
-  pub stint_job : (desk desk' : DeskTold) (others : List DeskTold) (s : Stint o setup (more_than new) offer next first old new desk desk') → (whole : Bool)
+  pub stint_job : (desk desk' : DeskTold) (others : List DeskTold) (s : Stint o setup offer next first old new desk desk') → (whole : Bool)
       → AllInTurn o (length (desk ∷ others)) (old ++ main_entry first ∷ []) s.stretch.later → (AreShut old → open_jobs new (next_child old) ≡ []) → IsManned o (length (desk ∷ others)) new
       → JobStretch o setup limit offer next first old new (desk ∷ others) (desk' ∷ others) whole
   stint_job desk desk' others s whole turn idle manned =
       stretch_job s.stretch setup limit (desk ∷ others) (desk' ∷ others) whole turn
       (have_main (length (desk ∷ others)) (old ++ main_entry first ∷ []) s.stretch.later (omega arith) s.main)
-      (desks_main o setup limit (more_than new) new (old ++ main_entry first ∷ []) s.stretch.later desk desk' others (omega arith) s.main s.done)
-      (λ one. s.main) idle manned (posted_main (old ++ main_entry first ∷ []) s.stretch.later s.main)
+      (desks_main o setup limit new (old ++ main_entry first ∷ []) s.stretch.later desk desk' others s.main s.done)
+      (λ one. s.main) (λ one. s.last) idle manned (posted_main (old ++ main_entry first ∷ []) s.stretch.later s.main)
 
   -- where no desk is used
-  pub stint_any : (desks : List DeskTold) → 0 < length desks → ((d : DeskTold) → Stint o setup (more_than new) offer next first old new d d) → (whole : Bool) → QuietStretch old new first
+  pub stint_any : (desks : List DeskTold) → 0 < length desks → ((d : DeskTold) → Stint o setup offer next first old new d d) → (whole : Bool) → QuietStretch old new first
       → (AreShut old → open_jobs new (next_child old) ≡ []) → JobStretch o setup limit offer next first old new desks desks whole
   stint_any [] some f whole q idle = absurd (let bad : ⊥ = omega (arith, some) in bad)
   stint_any (d ∷ ds) some f whole q idle = stint_job d d ds (f d) whole (quiet_turns o (length (d ∷ ds)) q (f d).stretch.later (f d).stretch.is) idle (quiet_manned o (length (d ∷ ds)) q)

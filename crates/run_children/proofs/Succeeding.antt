@@ -9,7 +9,7 @@ use Rattle.journal_model.specs.declared.opening.Opening.{Opening}
 use Rattle.journal_model.specs.Legality.{Legal}
 use Rattle.task_model.specs.declared.setup.Setup.{Setup}
 use Rattle.crew_worker.specs.Works.{TaskDone}
-use Rattle.task_laws.specs.LoneWell.{AreKeysRead, ChildrenWell, IsDeskWell, IsDoneWell}
+use Rattle.task_laws.specs.ChildrenWell.{AreKeysRead, ChildrenWell, IsDeskWell, IsDoneWell}
 use Rattle.task_laws.specs.RunWell.{AreAskedWell}
 use Rattle.task_laws.proofs.FilesStored.{file_keeps_stored, file_keeps_content}
 use Rattle.task_laws.proofs.OneStore.{keeps_stored_content}

@@ -16,7 +16,7 @@ use Rattle.task_model.specs.Names.{part_of}
 use Rattle.task_model.specs.declared.setup.Setup.{Setup}
 use Rattle.crew_laws.specs.JournalRuns.{JournalRun}
 use Rattle.crew_worker.specs.Works.{TaskDone}
-use Rattle.task_laws.specs.LoneWell.{AreKeysRead, ChildrenWell}
+use Rattle.task_laws.specs.ChildrenWell.{AreKeysRead, ChildrenWell}
 use Rattle.task_laws.specs.RunWell.{AreAskedWell}
 use Rattle.task_laws.specs.WentWell.{IsFoundWell, IsSuccess, is_called_well}
 use Rattle.run_children.specs.Desks.{DesksDid}

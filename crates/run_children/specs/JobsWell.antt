@@ -6,7 +6,7 @@ use Rattle.journal_model.specs.declared.entry.Entry.{Entry}
 use Rattle.journal_model.specs.declared.opening.Opening.{Opening}
 use Rattle.task_model.specs.declared.setup.Setup.{Setup}
 use Rattle.crew_worker.specs.Works.{TaskDone}
-use Rattle.task_laws.specs.LoneWell.{AreKeysRead, ChildrenWell, IsDeskWell, IsDoneWell}
+use Rattle.task_laws.specs.ChildrenWell.{AreKeysRead, ChildrenWell, IsDeskWell, IsDoneWell}
 use Rattle.task_laws.specs.RunWell.{AreAskedWell}
 use Rattle.run_children.specs.Desks.{DesksDid}
 use Rattle.run_children.specs.Unserved.{IsUnserved}

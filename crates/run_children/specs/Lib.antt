@@ -2,6 +2,8 @@ pub mod Desks
 pub mod JobRuns
 pub mod Pools
 pub mod PoolSteps
+pub mod Beginnings
+pub mod Runs
 pub mod Servings
 pub mod Starts
 pub mod Unserved

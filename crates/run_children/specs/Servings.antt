@@ -1,6 +1,6 @@
 -- What is done over a child that is ready.
 use Rattle.ann_outside.specs.Told.{DeskTold, ProgramsTold}
-use Rattle.std.specs.Prelude.{ℕ, ◌≡◌, ◌⊎◌, ◌+◌, Bool, true, false, List, [], ◌∷◌, Option, Some, None, Result, Ok, Err, length}
+use Rattle.std.specs.Prelude.{ℕ, ◌≡◌, ◌⊎◌, ◌<◌, ◌+◌, Bool, true, false, List, [], ◌∷◌, Option, Some, None, Result, Ok, Err, length}
 use Rattle.std.specs.List.{range_with_len}
 use Rattle.ann_key.specs.declared.bytes.NoMemory.{NoMemory}
 use Rattle.journal_model.specs.declared.verdict.Why.TheVariants.{Closed}
@@ -8,6 +8,7 @@ use Rattle.journal_model.specs.declared.entry.Entry.{Entry}
 use Rattle.journal_model.specs.declared.opening.Opening.{Opening}
 use Rattle.journal_model.specs.Halves.{EarValue, MouthValue}
 use Rattle.journal_model.specs.Journal.{is_tagged, why_of}
+use Rattle.journal_model.specs.Legality.{count, is_start}
 use Rattle.journal_model.specs.Shares.{are_by}
 use Rattle.child_link.specs.Alone.{Closes}
 use Rattle.child_link.specs.Writings.{LoneWired}
@@ -19,6 +20,7 @@ use Rattle.crew_threads.specs.declared.slot.Refused.{Refused}
 use Rattle.crew_tagged.specs.TaggedRounds.{TaggedLeaves}
 use Rattle.child_link.specs.Wires.{WireValue}
 use Rattle.run_starts.specs.Stints.{HasServed}
+use Rattle.run_pools.specs.Slots.{has_pool, is_unclaimed_since, last_slot}
 use Rattle.run_children.specs.Pools.{LeavesPool, PoolServed}
 use Rattle.run_children.specs.Posts.{since_start}
 
@@ -31,6 +33,16 @@ pub record CanBeServed (o : Opening) (journal : List Entry) (ear : EarValue) (mo
   pub unclosed : why_of journal ear.child ≡ Some Closed → ⊥
   pub mains : are_by 0 (since_start ear.child journal) ≡ true
   pub tag : tagged ≡ is_tagged journal ear.child
+
+-- The child of the last start, which is one of slot 0, is ready, and no task was claimed since. Where it takes no tags, a pool may be
+-- gathered after it.
+pub record StandsReady (o : Opening) (journal : List Entry) (ear : EarValue) (mouth : MouthValue) (tagged : Bool) : Type 0 where
+  pub can : CanBeServed o journal ear mouth tagged
+  pub few : count is_start journal + 64 < 4294967295
+  pub pool : tagged ≡ false → has_pool journal ≡ true
+  pub last : last_slot journal ≡ 0
+  pub since : is_unclaimed_since journal ≡ true
+  pub last_child : ear.child ≡ count is_start journal
 
 -- the main thread did tasks with the first desk until the child was gone or all were claimed, and closed it
 pub record ServesAlone (o : Opening) (setup : Setup) (c : ℕ) (old new : List Entry) (desks desks' : List DeskTold) : Type 0 where

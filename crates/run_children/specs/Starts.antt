@@ -1,21 +1,22 @@
 -- What one start of slot 0 and what follows it comes to, and how a run stands between two of them.
 use Rattle.ann_outside.specs.Told.{DeskTold, ProgramsTold}
-use Rattle.std.specs.Prelude.{ℕ, ◌≡◌, ◌⊎◌, ◌≤◌, ◌&&◌, not, Bool, true, false, List, [], ◌∷◌, ◌++◌, length, Result, MatchResult}
+use Rattle.std.specs.Prelude.{ℕ, ◌≡◌, ◌⊎◌, ◌<◌, ◌≤◌, ◌+◌, ◌&&◌, not, Bool, true, false, List, [], ◌∷◌, ◌++◌, length, Result, MatchResult}
 use Rattle.std.specs.List.{list_all, list_any}
 use Rattle.ann_key.specs.declared.bytes.NoMemory.{NoMemory}
 use Rattle.journal_model.specs.declared.entry.What.{What}
 use Rattle.journal_model.specs.declared.entry.Entry.{Entry}
 use Rattle.journal_model.specs.declared.opening.Opening.{Opening}
 use Rattle.journal_model.specs.Journal.{any, is_ended, open_jobs}
-use Rattle.journal_model.specs.Legality.{Legal, count, is_busy}
+use Rattle.journal_model.specs.Legality.{Legal, count, is_busy, is_start}
 use Rattle.journal_model.specs.Shares.{are_by}
 use Rattle.host_core.specs.Steps.{are_all_claimed}
+use Rattle.crew_laws.specs.Rounds.{IsAtRest}
 use Rattle.task_model.specs.declared.setup.Setup.{Setup}
 use Rattle.child_end.specs.Programs.{AddsAll, RoseBy, is_failed_start, told}
 use Rattle.child_link.specs.Wires.{WireValue}
 use Rattle.child_end.specs.Wires.{came}
 use Rattle.run_starts.specs.Starting.{AllOffer, AreEnded, children, is_offered, is_ready_untagged}
-use Rattle.run_starts.specs.Rounds.{AllLostWell, AllStandNext, NoneUntaken, is_of_run}
+use Rattle.run_starts.specs.Rounds.{AllLostWell, AllStandNext, EndsClosed, NoneUntaken, is_of_run}
 use Rattle.run_starts.specs.Stints.{AreLinked, IsOver, IsStart, MayHaveAsked, main_entry, next_child}
 use Rattle.run_pools.specs.Slots.{AllInTurn, AreSpent, IsManned, in_pool, is_first_start, offers_tags, spends}
 use Rattle.run_children.specs.Desks.{DesksDid, HaveDesks}
@@ -23,9 +24,18 @@ use Rattle.run_children.specs.Posts.{AllPosted}
 
 -- ---- one start of slot 0
 
+-- One more may be made: no task is busy and no job open in a legal journal, a task is left, and the numbers of children last.
+pub record MayStartOne (o : Opening) (journal : List Entry) : Type 0 where
+  pub legal : Legal o journal
+  pub calm : IsAtRest journal
+  pub few : count is_start journal + 65 < 4294967295
+  pub left : are_all_claimed o journal ≡ false
+
 -- Where a task is left, the journal has one start of slot 0 more, and what followed it: claims and starts in other slots, in turn, none
 -- offering ASYNC, and nothing of an earlier child. No task is busy after it, no job is open, and its children have ended. Where it is
--- whole, the start is spent, or all tasks are claimed, and a pool had all its starts. `next` says whether ASYNC is offered from then on. Each task that was claimed is done, by its desk.
+-- whole, the start is spent, or all tasks are claimed, and a pool had all its starts. `next` says whether ASYNC is offered from then on.
+-- Each task that was claimed is done, by its desk. With one desk the main thread made all of it, and where all tasks are claimed nothing
+-- was done after the last but closings.
 pub record JobStretch (o : Opening) (setup : Setup) (limit : ℕ) (offer next : Bool) (first : What) (old new : List Entry) (desks desks' : List DeskTold) (whole : Bool) : Type 0 where
   pub left : are_all_claimed o old ≡ false
   pub later : List Entry
@@ -47,6 +57,7 @@ pub record JobStretch (o : Opening) (setup : Setup) (limit : ℕ) (offer next : 
   pub placed : HaveDesks (length desks) (old ++ main_entry first ∷ []) later
   pub did : DesksDid o setup limit new (old ++ main_entry first ∷ []) later 1 desks desks'
   pub alone : length desks ≡ 1 → are_by 0 later ≡ true
+  pub last : length desks ≡ 1 → are_all_claimed o new ≡ true → EndsClosed new
   pub shut : ((c : ℕ) → open_jobs old c ≡ []) → (c : ℕ) → open_jobs new c ≡ []
 
 -- The programs were asked for what the entries' starts say, the wires are those of their children, in order, and a fault was counted
@@ -80,8 +91,9 @@ RunLacksMemory o setup limit offer program old new desks desks' before after wir
 -- ---- between two starts
 
 -- So many starts of slot 0 were made; starts and claims stand in their slots and their turn, and offer ASYNC where they are to. The
--- children have ended, and where all were whole each start is spent, or all tasks are claimed, and a pool had all its starts. No task is busy, no job is open, and no start is left for a task to
--- take. Each task that was claimed is done, by its desk.
+-- children have ended, and where all were whole each start is spent, or all tasks are claimed, and a pool had all its starts. No task is
+-- busy, no job is open, and no start is left for a task to take. Each task that was claimed is done, by its desk. With one desk it is as
+-- after one start.
 pub record JobsBetween (o : Opening) (setup : Setup) (may : Bool) (limit made : ℕ) (offer : Bool) (journal : List Entry) (desks desks' : List DeskTold) (whole : Bool) : Type 0 where
   pub legal : Legal o journal
   pub turn : AllInTurn o (length desks) [] journal
@@ -100,6 +112,7 @@ pub record JobsBetween (o : Opening) (setup : Setup) (may : Bool) (limit made : 
   pub placed : HaveDesks (length desks) [] journal
   pub did : DesksDid o setup limit journal [] journal 1 desks desks'
   pub alone : length desks ≡ 1 → are_by 0 journal ≡ true
+  pub last : length desks ≡ 1 → are_all_claimed o journal ≡ true → EndsClosed journal
   pub shut : (c : ℕ) → open_jobs journal c ≡ []
 
 -- the children were started until all starts of slot 0 were made or all tasks claimed, or no memory was found to start one

@@ -1,9 +1,12 @@
-// A whole run by as many workers as there are desks: children are started one after the other, and each does tasks until it is gone.
+// A whole run: children are started one after the other, and each does tasks until it is gone, by one worker or by as many as there are desks.
 #![tactic(auto)]
 
+mod alone;
+mod beginning;
 mod bench;
 pub mod laws;
 mod pooling;
+mod ready;
 pub mod rows;
 mod running;
 mod serving;
@@ -11,4 +14,4 @@ mod setting;
 mod starting;
 
 pub use bench::Bench;
-pub use running::run_jobs;
+pub use running::{run_alone, run_jobs};

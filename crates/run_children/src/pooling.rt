@@ -1,23 +1,21 @@
 // What is done after a child of slot 0 that is ready and takes no tags: a pool is gathered, does tasks and is closed.
-ghost use Rattle.std.specs.Prelude.{◌≡◌, ◌≤◌, ◌<◌, ◌+◌, ◌++◌, [], All, IfErr, IfOk, IsErr, MatchResult, is_ok, map, reverse, vec_len, vec_capacity, false, true};
+ghost use Rattle.std.specs.Prelude.{◌≡◌, ◌≤◌, ◌<◌, ◌+◌, ◌++◌, All, IfErr, IfOk, IsErr, MatchResult, is_ok, map, reverse, vec_len, vec_capacity, false, true};
 ghost use Rattle.ann_outside.specs.Causes.{Stays};
 ghost use Rattle.annex_model.specs.Lines.{has_newline};
 ghost use Rattle.child_end.specs.Wires.{IsHeld};
 ghost use Rattle.child_start.specs.Cores.{IsSameCore};
 ghost use Rattle.crew_tagged.specs.Outcomes.{IfDone, IfKept};
-ghost use Rattle.crew_tagged.specs.Tagged.{link_of};
 ghost use Rattle.crew_laws.specs.Laws.{children_of};
 ghost use Rattle.crew_laws.specs.Rounds.{IsAtRest};
 ghost use Rattle.run_children.specs.Pools.{PoolServed};
 ghost use Rattle.run_children.specs.PoolSteps.{AreLaid, ClosesAll, RoundsPool, ServesFirst, ServesLinks, ServesLinksUnless, ServesOne, StarvedLinks, serving};
-ghost use Rattle.run_children.specs.Servings.{CanBeServed};
+ghost use Rattle.run_children.specs.Runs.{IsHanded};
+ghost use Rattle.run_children.specs.Servings.{StandsReady};
 ghost use Rattle.journal_model.specs.Journal.{is_started};
-ghost use Rattle.journal_model.specs.Legality.{count, is_start};
 ghost use Rattle.crew_worker.specs.Works.{AreTasks};
 ghost use Rattle.crew_tagged.specs.PoolChildren.{PoolCan};
 ghost use Rattle.crew_pool.specs.Pool.{AreAsBefore, AreSameLinks};
-ghost use Rattle.run_pools.specs.Pools.{seat_value};
-ghost use Rattle.run_pools.specs.Slots.{has_pool, is_unclaimed_since, last_slot};
+ghost use Rattle.run_pools.specs.Pools.{links_of, seat_value};
 
 use crate::bench::Bench;
 use crate::setting::Setting;
@@ -42,7 +40,7 @@ use task_text::Task;
 fn close_links<I: Sink, O: Source>(links: &[Lone<I, O>], core: &mut Core)
     requires calm { IsAtRest core.old.journal }
     requires started { All (λ l. is_started core.old.journal l.ear.child ≡ true) links.now }
-    ensures closes { ClosesAll (children_of (map (λ l. link_of l.ear l.mouth) links.now)) core.old.journal core.new.journal }
+    ensures closes { ClosesAll (children_of (links_of links.now)) core.old.journal core.new.journal }
     ensures core { IsSameCore core.old core.new }
 {
     'closings: for link in links {
@@ -63,7 +61,7 @@ where
     P::Stub: Drop,
     requires fits { serving (map seat_value seats.items) ≡ vec_len links }
     requires room { vec_len wires.old + vec_len seats ≤ vec_capacity wires.old }
-    ensures laid { AreLaid (map seat_value seats.items) (map (λ l. link_of l.ear l.mouth) links.items) wires.old.items wires.new.items }
+    ensures laid { AreLaid (map seat_value seats.items) (links_of links.items) wires.old.items wires.new.items }
     ensures room { (vec_len wires.new ≡ vec_len wires.old + vec_len seats) × (vec_capacity wires.new ≡ vec_capacity wires.old) }
     ensures starts { Stays (P.told programs.old).starts (P.told programs.new).starts }
     ensures later { (P.told programs.old).faults ≤ (P.told programs.new).faults }
@@ -135,11 +133,11 @@ fn round_links<
     requires desks { (0 < vec_len links) × (vec_len links ≤ vec_len bench.desks) × (vec_len bench.desks ≤ 64) }
     requires tasks { (bench.core.opening.tasks ≡ tasks.now) × AreTasks tasks.now }
     requires folder { has_newline setup.now.work ≡ false }
-    requires can { PoolCan bench.core.opening bench.core.journal (map (λ l. link_of l.ear l.mouth) links.items) }
+    requires can { PoolCan bench.core.opening bench.core.journal (links_of links.items) }
     ensures round { IfDone result.2 (RoundsPool bench.core.opening setup.now bench.core.journal result.1.core.journal
-        (map (λ l. link_of l.ear l.mouth) links.items) (map (λ l. link_of l.ear l.mouth) result.0.items) (map K.told bench.desks.items) (map K.told result.1.desks.items)) }
+        (links_of links.items) (links_of result.0.items) (map K.told bench.desks.items) (map K.told result.1.desks.items)) }
     ensures kept { IfKept result.2 ((result.1.core.journal ≡ bench.core.journal) × AreAsBefore links.items result.0.items bench.desks.items result.1.desks.items) }
-    ensures same { AreSameLinks (map (λ l. link_of l.ear l.mouth) links.items) (map (λ l. link_of l.ear l.mouth) result.0.items) }
+    ensures same { AreSameLinks (links_of links.items) (links_of result.0.items) }
     ensures opening { result.1.core.opening ≡ bench.core.opening }
     ensures desks { vec_len result.1.desks ≡ vec_len bench.desks }
 {
@@ -170,11 +168,11 @@ fn serve_first<I: Sink, O: Source, K: Desk + Drop>(
     requires some { (0 < vec_len links.old) × (0 < vec_len bench.old.desks) }
     requires tasks { (bench.old.core.opening.tasks ≡ tasks.now) × AreTasks tasks.now }
     requires folder { has_newline setup.now.work ≡ false }
-    requires can { PoolCan bench.old.core.opening bench.old.core.journal (map (λ l. link_of l.ear l.mouth) links.old.items) }
-    ensures serves { ServesFirst bench.old.core.opening setup.now (map (λ l. link_of l.ear l.mouth) links.old.items) bench.old.core.journal bench.new.core.journal
+    requires can { PoolCan bench.old.core.opening bench.old.core.journal (links_of links.old.items) }
+    ensures serves { ServesFirst bench.old.core.opening setup.now (links_of links.old.items) bench.old.core.journal bench.new.core.journal
         (map K.told bench.old.desks.items) (map K.told bench.new.desks.items) }
     ensures held { All (λ l. IsHeld bench.new.core.journal l.ear l.mouth) links.new.items }
-    ensures same { AreSameLinks (map (λ l. link_of l.ear l.mouth) links.old.items) (map (λ l. link_of l.ear l.mouth) links.new.items) }
+    ensures same { AreSameLinks (links_of links.old.items) (links_of links.new.items) }
     ensures core { IsSameCore bench.old.core bench.new.core }
     ensures desks { vec_len bench.new.desks ≡ vec_len bench.old.desks }
 {
@@ -199,11 +197,11 @@ fn serve_one<I: Sink, O: Source, K: Desk + Drop>(
     requires some { (0 < vec_len links.old) × (0 < vec_len bench.old.desks) }
     requires tasks { (bench.old.core.opening.tasks ≡ tasks.now) × AreTasks tasks.now }
     requires folder { has_newline setup.now.work ≡ false }
-    requires can { PoolCan bench.old.core.opening bench.old.core.journal (map (λ l. link_of l.ear l.mouth) links.old.items) }
+    requires can { PoolCan bench.old.core.opening bench.old.core.journal (links_of links.old.items) }
     ensures serves { ServesOne bench.old.core.opening setup.now bench.old.core.journal bench.new.core.journal
-        (map (λ l. link_of l.ear l.mouth) links.old.items) (map K.told bench.old.desks.items) (map K.told bench.new.desks.items) }
+        (links_of links.old.items) (map K.told bench.old.desks.items) (map K.told bench.new.desks.items) }
     ensures held { All (λ l. IsHeld bench.new.core.journal l.ear l.mouth) links.new.items }
-    ensures same { AreSameLinks (map (λ l. link_of l.ear l.mouth) links.old.items) (map (λ l. link_of l.ear l.mouth) links.new.items) }
+    ensures same { AreSameLinks (links_of links.old.items) (links_of links.new.items) }
     ensures core { IsSameCore bench.old.core bench.new.core }
     ensures desks { vec_len bench.new.desks ≡ vec_len bench.old.desks }
 {
@@ -229,14 +227,14 @@ fn serve_all<
     requires desks { (0 < vec_len links) × (vec_len links ≤ vec_len bench.desks) × (vec_len bench.desks ≤ 64) }
     requires tasks { (bench.core.opening.tasks ≡ tasks.now) × AreTasks tasks.now }
     requires folder { has_newline setup.now.work ≡ false }
-    requires can { PoolCan bench.core.opening bench.core.journal (map (λ l. link_of l.ear l.mouth) links.items) }
+    requires can { PoolCan bench.core.opening bench.core.journal (links_of links.items) }
     ensures serves { MatchResult result.2
         (λ alone. ServesLinksUnless alone bench.core.opening setup.now bench.core.journal result.1.core.journal
-        (map (λ l. link_of l.ear l.mouth) links.items) (map (λ l. link_of l.ear l.mouth) result.0.items) (map K.told bench.desks.items) (map K.told result.1.desks.items))
+        (links_of links.items) (links_of result.0.items) (map K.told bench.desks.items) (map K.told result.1.desks.items))
         (λ _. StarvedLinks bench.core.journal result.1.core.journal
-        (map (λ l. link_of l.ear l.mouth) links.items) (map (λ l. link_of l.ear l.mouth) result.0.items) (map K.told bench.desks.items) (map K.told result.1.desks.items)) }
+        (links_of links.items) (links_of result.0.items) (map K.told bench.desks.items) (map K.told result.1.desks.items)) }
     ensures held { IfOk result.2 (λ _. All (λ l. IsHeld result.1.core.journal l.ear l.mouth) result.0.items) }
-    ensures same { AreSameLinks (map (λ l. link_of l.ear l.mouth) links.items) (map (λ l. link_of l.ear l.mouth) result.0.items) }
+    ensures same { AreSameLinks (links_of links.items) (links_of result.0.items) }
     ensures core { IsSameCore bench.core result.1.core }
     ensures desks { vec_len result.1.desks ≡ vec_len bench.desks }
 {
@@ -274,14 +272,14 @@ fn serve_links<
     requires desks { (0 < vec_len links) × (vec_len links ≤ vec_len bench.desks) × (vec_len bench.desks ≤ 64) }
     requires tasks { (bench.core.opening.tasks ≡ tasks.now) × AreTasks tasks.now }
     requires folder { has_newline setup.now.work ≡ false }
-    requires can { PoolCan bench.core.opening bench.core.journal (map (λ l. link_of l.ear l.mouth) links.items) }
+    requires can { PoolCan bench.core.opening bench.core.journal (links_of links.items) }
     ensures serves { MatchResult result.2
         (λ _. ServesLinks bench.core.opening setup.now bench.core.journal result.1.core.journal
-        (map (λ l. link_of l.ear l.mouth) links.items) (map (λ l. link_of l.ear l.mouth) result.0.items) (map K.told bench.desks.items) (map K.told result.1.desks.items))
+        (links_of links.items) (links_of result.0.items) (map K.told bench.desks.items) (map K.told result.1.desks.items))
         (λ _. StarvedLinks bench.core.journal result.1.core.journal
-        (map (λ l. link_of l.ear l.mouth) links.items) (map (λ l. link_of l.ear l.mouth) result.0.items) (map K.told bench.desks.items) (map K.told result.1.desks.items)) }
+        (links_of links.items) (links_of result.0.items) (map K.told bench.desks.items) (map K.told result.1.desks.items)) }
     ensures held { IfOk result.2 (λ _. All (λ l. IsHeld result.1.core.journal l.ear l.mouth) result.0.items) }
-    ensures same { AreSameLinks (map (λ l. link_of l.ear l.mouth) links.items) (map (λ l. link_of l.ear l.mouth) result.0.items) }
+    ensures same { AreSameLinks (links_of links.items) (links_of result.0.items) }
     ensures core { IsSameCore bench.core result.1.core }
     ensures desks { vec_len result.1.desks ≡ vec_len bench.desks }
 {
@@ -303,7 +301,8 @@ fn serve_links<
 /// `NoMemory` is answered where no memory was found to start a child, or for the round: then no task was done, and those that were
 /// started are closed.
 pub(crate) fn serve_pool<P: Programs, K: Desk + Send + Drop, R: Threads + Wait + Sync>(
-    setting: &Setting<'_, R>,
+    rt: &R,
+    setting: &Setting<'_>,
     programs: &mut P,
     link: Lone<P::Inlet, P::Outlet>,
     stub: P::Stub,
@@ -315,14 +314,8 @@ where
     P::Outlet: Send + Drop,
     P::Stub: Drop,
     requires desks { (1 < vec_len bench.desks) × (vec_len bench.desks ≤ 64) }
-    requires tasks { (bench.core.opening.tasks ≡ setting.now.tasks.now) × AreTasks setting.now.tasks.now }
-    requires folder { has_newline setting.now.plan.now.setup.work ≡ false }
-    requires can { CanBeServed bench.core.opening bench.core.journal link.ear link.mouth false }
-    requires few { count is_start bench.core.journal + 64 < 4294967295 }
-    requires pool { has_pool bench.core.journal ≡ true }
-    requires last { last_slot bench.core.journal ≡ 0 }
-    requires since { is_unclaimed_since bench.core.journal ≡ true }
-    requires last_child { link.ear.child ≡ count is_start bench.core.journal }
+    requires handed { IsHanded bench.core.opening setting.now.tasks.now setting.now.plan.now.setup }
+    requires ready { StandsReady bench.core.opening bench.core.journal link.ear link.mouth false }
     requires room { vec_len wires.old + vec_len bench.desks ≤ vec_capacity wires.old }
     ensures served { PoolServed (IsErr result.1) bench.core.opening setting.now.plan.now.setup setting.now.plan.now.starts setting.now.plan.now.program bench.core.journal result.0.core.journal
         (map K.told bench.desks.items) (map K.told result.0.desks.items) (is_ok result.1) link.ear link.mouth
@@ -345,7 +338,7 @@ where
     ) {
         Gathering::Whole(Pool { links, seats }) => {
             let (links, bench, served) = serve_links(
-                setting.rt,
+                rt,
                 setting.alloc,
                 setting.tasks,
                 &setting.plan.setup,

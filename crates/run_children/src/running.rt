@@ -1,23 +1,63 @@
-ghost use Rattle.std.specs.Prelude.{◌≡◌, ◌≤◌, ◌<◌, ◌*◌, [], map, IsErr, vec_len, vec_capacity, false};
+ghost use Rattle.std.specs.Prelude.{◌≡◌, ◌≤◌, ◌<◌, ◌*◌, [], ◌∷◌, map, IfOk, IsErr, vec_len, vec_capacity, false};
 ghost use Rattle.annex_model.specs.Lines.{has_newline};
 ghost use Rattle.child_end.specs.Programs.{Leaves};
 ghost use Rattle.child_start.specs.Cores.{IsSameCore};
 ghost use Rattle.run_children.specs.JobRuns.{RanJobs};
-ghost use Rattle.run_starts.specs.Rounds.{IsWhole};
+ghost use Rattle.run_children.specs.Runs.{IsHanded, MayRun};
+ghost use Rattle.run_starts.specs.Rounds.{EndsClosed, IsWhole};
 ghost use Rattle.crew_worker.specs.Works.{AreTasks};
 
+use crate::alone::start_all;
 use crate::bench::Bench;
 use crate::setting::Setting;
 use crate::starting::start_children;
 use ann_key::NoMemory;
 use ann_outside::{Desk, Programs};
 use child_link::Wire;
+use host_core::Core;
 use run_starts::{Plan, answer_left};
 use std::alloc::Global;
 use std::marker::{Send, Sync};
 use std::sync::Wait;
 use std::thread::Threads;
 use task_text::Task;
+
+/// Does all tasks over children, and answers each, in one thread and with one desk. Children are started one after the other. Where one is
+/// lost the next one goes on; where no start is left, the tasks that are left are answered `nochild`. `NoMemory` is answered where no memory
+/// was found to start a child; what was done until then stands in the journal.
+pub fn run_alone<P: Programs, K: Desk>(
+    alloc: Global,
+    programs: &mut P,
+    plan: &Plan,
+    tasks: &[Task],
+    core: &mut Core,
+    desk: &mut K,
+    wires: &mut Vec<Wire<P::Inlet, P::Outlet>>,
+) -> Result<(), NoMemory>
+where
+    P::Inlet: Drop,
+    P::Outlet: Drop,
+    requires handed { IsHanded core.old.opening tasks.now plan.now.setup }
+    requires may { MayRun core.old.journal plan.now.starts 1 wires.old.items (vec_capacity wires.old) }
+    ensures ran { RanJobs core.old.opening plan.now.setup plan.now.offers plan.now.starts core.new.journal (K.told desk.old ∷ []) (K.told desk.new ∷ []) }
+    ensures whole { IsWhole core.old.opening core.new.journal result }
+    ensures last { IfOk result (λ _. EndsClosed core.new.journal) }
+    ensures leaves { Leaves (IsErr result) plan.now.program core.new.journal (P.told programs.old)
+        (P.told programs.new) wires.new.items }
+    ensures core { IsSameCore core.old core.new }
+{
+    let setting = Setting { alloc, plan, tasks };
+    match start_all(&setting, programs, core, desk, wires) {
+        Ok(()) => {
+            if core.unclaimed() > 0 {
+                answer_left(core);
+                return Ok(());
+            }
+            Ok(())
+        }
+        Err(NoMemory) => Err(NoMemory),
+    }
+}
 
 /// Does all tasks over children, and answers each. Over a child that takes tags, a worker for each desk does tasks side by side, in a thread
 /// of its own. After one that takes none, one more is started for each further desk, and each has a worker of its own. Where there are no
@@ -51,13 +91,8 @@ where
     ensures core { IsSameCore bench.core result.0.core }
     ensures desks { vec_len result.0.desks ≡ vec_len bench.desks }
 {
-    let setting = Setting {
-        rt,
-        alloc,
-        plan,
-        tasks,
-    };
-    let (bench, started) = start_children(&setting, programs, bench, wires);
+    let setting = Setting { alloc, plan, tasks };
+    let (bench, started) = start_children(rt, &setting, programs, bench, wires);
     let mut bench = bench;
     match started {
         Ok(()) => {

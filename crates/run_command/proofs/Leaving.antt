@@ -1,6 +1,6 @@
 -- What is left of a run's programs, and which desks were asked for.
 use Rattle.ann_outside.specs.Told.{DeskTold, ProgramsTold}
-use Rattle.std.proofs.Common.{◌≡◌, ◌≤◌, ◌+◌, inl, inr, ℕ, suc, List, [], ◌∷◌, ◌++◌, length, append_assoc, refl, sym, ap, subst, ◌∙◌, arith, true, false, Some, None, Option, Ok}
+use Rattle.std.proofs.Common.{◌≡◌, ◌≤◌, ◌+◌, inl, ℕ, suc, List, [], ◌∷◌, ◌++◌, length, append_assoc, refl, sym, ap, subst, ◌∙◌, arith, true, false, Some, None, Option, Ok}
 use Rattle.std.specs.Prelude.{Result, IsErr}
 use Rattle.std.specs.List.{range_with_len}
 use Rattle.std.proofs.lemmas.List.{append-nil, length-append, map-append}
@@ -11,13 +11,13 @@ use Rattle.journal_model.specs.declared.entry.Entry.{Entry}
 use Rattle.journal_model.specs.Legality.{count}
 use Rattle.child_link.specs.Wires.{WireValue}
 use Rattle.child_end.specs.Wires.{AreWires, came}
-use Rattle.child_end.specs.Programs.{told, AddsAll, HaveStarted, Leaves, RoseBy, is_failed_start}
+use Rattle.child_end.specs.Programs.{told, AddsAll, Leaves, RoseBy, is_failed_start}
 use Rattle.run_starts.proofs.Leaving.{rose_still}
 use Rattle.run_command.specs.Runs.{AddsMade, BeganAs, origins_of}
 use Rattle.run_command.specs.Workings.{AddsWorkers}
 use Rattle.run_command.proofs.Origins.{began_more, began_same}
 use Rattle.ann_key.proofs.Lists.{range_next as range_more}
-use Rattle.child_end.proofs.Across.{adds_none}
+use Rattle.child_end.proofs.Across.{adds_none, leaves_if}
 
 -- ---- programs
 
@@ -36,11 +36,7 @@ pub leaves_named : {V W : Type 0} {program program' : List ℕ} {journal journal
 leaves_named {V} {W} {program} {program'} {journal} {journal'} {before} {after} {wires} f j e h =
     subst (λ (x : List Entry). Leaves W program' x before after wires) (sym j)
     (subst (λ (p : List ℕ). Leaves W p journal before after wires) e
-    (record { wired = h.wired; started = go h.started; faults = h.faults }))
-  where
-    go : HaveStarted V program journal before.starts after.starts → HaveStarted W program journal before.starts after.starts
-    go (inl all) = inl all
-    go (inr more) = inr (f more.0, more.1)
+    (leaves_if f h))
 
 pub ok_err : {T E A : Type 0} (r : Result T E) (x : T) → r ≡ Ok x → IsErr r → A
 ok_err r x e h = absurd (let bad : false ≡ true = subst IsErr e h in cc)

@@ -21,7 +21,7 @@ use Rattle.run_starts.proofs.Leaving.{rose_still, of_start, adds_stays, stays_no
 use Rattle.child_link.specs.Alone.{KeepsLink}
 use Rattle.child_link.specs.Wires.{WireValue}
 use Rattle.run_once.proofs.Looking.{through}
-use Rattle.child_end.proofs.Across.{adds_one as adds_all, adds_none}
+use Rattle.child_end.proofs.Across.{adds_one as adds_all, adds_none, leaves_if}
 
 -- ---- the starts
 
@@ -156,8 +156,4 @@ pub leaves_as : {V W : Type 0} {program : List ℕ} {journal journal' : List Ent
 leaves_as {V} {W} {program} {journal} {journal'} {before} {before'} {after} {wires} f j o h =
     subst (λ (x : List Entry). Leaves W program x before' after wires) (sym j)
     (subst (λ (x : ProgramsTold). Leaves W program journal x after wires) (sym o)
-    (record { wired = h.wired; started = go h.started; faults = h.faults }))
-  where
-    go : HaveStarted V program journal before.starts after.starts → HaveStarted W program journal before.starts after.starts
-    go (inl all) = inl all
-    go (inr more) = inr (f more.0, more.1)
+    (leaves_if f h))

@@ -14,6 +14,7 @@ use Rattle.journal_model.specs.Journal.{any, is_ended}
 use Rattle.journal_model.specs.Legality.{count, is_prepared, is_start}
 use Rattle.journal_model.specs.Shares.{are_by}
 use Rattle.host_core.specs.Steps.{unclaimed}
+use Rattle.child_link.specs.declared.lone.Lone.{Lone}
 use Rattle.child_link.specs.Wires.{WireValue}
 use Rattle.child_end.specs.Wires.{IsOfStart, came}
 use Rattle.child_end.specs.Programs.{HaveStarted, RoseBy, is_failed_start}
@@ -85,6 +86,10 @@ pub record GathersBy (wanted : Type 0) (program : List ℕ) (new later : List En
 
 -- ---- what gathering comes to
 
+-- what links tell
+abbrev pub links_of : {I O : Type 0} {sinks : SinkGhosts I} {sources : SourceGhosts O} → List (Lone I O sinks sources) → List LinkValue
+links_of links = map (λ l. link_of l.ear l.mouth) links
+
 -- what a seat tells
 abbrev pub seat_value : {I O S : Type 0} → Seat I O S → SeatValue
 seat_value (Over wire) = OverBy wire
@@ -108,7 +113,7 @@ pub record IsWithin (jobs links seats : ℕ) : Type 0 where
 
 abbrev pub PoolIs : {I O S : Type 0} {sinks : SinkGhosts I} {sources : SourceGhosts O} → Type 0 → Bool → Opening → ℕ → List ℕ → List Entry → List Entry → LinkValue → ProgramsTold → ProgramsTold → Pool I O S sinks sources → Type 0
 PoolIs wanted whole o jobs program old new first before after pool =
-    IsPool wanted whole o jobs program old new first before after (map seat_value pool.seats.items) (map (λ l. link_of l.ear l.mouth) pool.links.items) × IsWithin jobs (vec_len pool.links) (vec_len pool.seats)
+    IsPool wanted whole o jobs program old new first before after (map seat_value pool.seats.items) (links_of pool.links.items) × IsWithin jobs (vec_len pool.links) (vec_len pool.seats)
 
 -- nothing was done, and the link is as it was
 pub record IsUngathered (old new : List Entry) (first link : LinkValue) (before after : ProgramsTold) : Type 0 where

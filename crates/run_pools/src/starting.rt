@@ -10,7 +10,7 @@ ghost use Rattle.crew_tagged.specs.Tagged.{link_of};
 ghost use Rattle.crew_worker.specs.KnownLayouts.{IsBook};
 ghost use Rattle.crew_laws.specs.Rounds.{IsAtRest};
 ghost use Rattle.crew_tagged.specs.PoolChildren.{PoolCan};
-ghost use Rattle.run_pools.specs.Pools.{GathersAs, Serves, seat_value};
+ghost use Rattle.run_pools.specs.Pools.{GathersAs, Serves, links_of, seat_value};
 ghost use Rattle.run_pools.specs.Seats.{SeatsNone, SeatsOne, SeatsOver};
 ghost use Rattle.run_pools.specs.Slots.{has_pool, is_unclaimed_since, last_slot};
 
@@ -40,7 +40,7 @@ fn take_room<I: Sink + Drop, O: Source + Drop, S: Drop>(
 fn seat_serving<I: Sink, O: Source, S>(pool: &mut Pool<I, O, S>, link: Lone<I, O>, stub: S)
     requires room { (vec_len pool.old.links < vec_capacity pool.old.links) × (vec_len pool.old.seats < vec_capacity pool.old.seats) }
     ensures seats { map seat_value pool.new.seats.items ≡ map seat_value pool.old.seats.items ++ Serves ∷ [] }
-    ensures links { map (λ l. link_of l.ear l.mouth) pool.new.links.items ≡ map (λ l. link_of l.ear l.mouth) pool.old.links.items ++ link_of link.ear link.mouth ∷ [] }
+    ensures links { links_of pool.new.links.items ≡ links_of pool.old.links.items ++ link_of link.ear link.mouth ∷ [] }
     ensures lengths { (vec_len pool.new.links ≡ vec_len pool.old.links + 1) × (vec_len pool.new.seats ≡ vec_len pool.old.seats + 1) }
     ensures room { (vec_capacity pool.new.links ≡ vec_capacity pool.old.links) × (vec_capacity pool.new.seats ≡ vec_capacity pool.old.seats) }
 {
@@ -67,7 +67,7 @@ where
     ensures wired { LoneWired core.new.journal link.ear link.mouth }
     ensures over { SeatsOver link.ear link.mouth (P.told programs.old)
         (P.told programs.new) (map seat_value pool.old.seats.items) (map seat_value pool.new.seats.items)
-        (map (λ l. link_of l.ear l.mouth) pool.old.links.items) (map (λ l. link_of l.ear l.mouth) pool.new.links.items) }
+        (links_of pool.old.links.items) (links_of pool.new.links.items) }
     ensures lengths { (vec_len pool.new.links ≡ vec_len pool.old.links) × (vec_len pool.new.seats ≡ vec_len pool.old.seats + 1) }
     ensures room { (vec_capacity pool.new.links ≡ vec_capacity pool.old.links) × (vec_capacity pool.new.seats ≡ vec_capacity pool.old.seats) }
     ensures core { IsSameCore core.old core.new }
@@ -99,10 +99,10 @@ where
     ensures seats { MatchResult result
         (λ _. SeatsOne core.old.opening program.now slot core.old.journal core.new.journal (P.told programs.old)
         (P.told programs.new) (map seat_value pool.old.seats.items) (map seat_value pool.new.seats.items)
-        (map (λ l. link_of l.ear l.mouth) pool.old.links.items) (map (λ l. link_of l.ear l.mouth) pool.new.links.items))
+        (links_of pool.old.links.items) (links_of pool.new.links.items))
         (λ _. SeatsNone program.now core.old.journal core.new.journal (P.told programs.old)
         (P.told programs.new) (map seat_value pool.old.seats.items) (map seat_value pool.new.seats.items)
-        (map (λ l. link_of l.ear l.mouth) pool.old.links.items) (map (λ l. link_of l.ear l.mouth) pool.new.links.items)) }
+        (links_of pool.old.links.items) (links_of pool.new.links.items)) }
     ensures room { (vec_capacity pool.new.links ≡ vec_capacity pool.old.links) × (vec_capacity pool.new.seats ≡ vec_capacity pool.old.seats) }
     ensures core { IsSameCore core.old core.new }
 {

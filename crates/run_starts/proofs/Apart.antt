@@ -12,7 +12,7 @@ use Rattle.journal_model.specs.declared.entry.Entry.{Entry}
 use Rattle.journal_model.specs.declared.opening.Opening.{Opening}
 use Rattle.journal_model.specs.Journal.{any, ends, mutes, offers, is_ended, is_mute, is_tagged, verdict_of, why_of}
 use Rattle.journal_model.specs.Legality.{Legal, is_done, is_prepared, prepares, asks_prepare}
-use Rattle.journal_model.specs.Shares.{by_link, is_closed, is_of_child}
+use Rattle.journal_model.specs.Shares.{is_closed, is_of_child}
 use Rattle.journal_model.proofs.Looks.{any-append, or_none, settled_none, verdict_of-append}
 use Rattle.journal_model.proofs.Linking.{why_of-append}
 use Rattle.journal_model.proofs.Projecting.{invariant}
@@ -114,10 +114,6 @@ spent_on past more d h =
 abbrev pub is_unclosed_end : What → Bool
 is_unclosed_end (End child why) = not (is_closed why)
 is_unclosed_end w = true
-
-pub link_unclosed : (c : ℕ) (w : What) → by_link c w ≡ true → is_unclosed_end w ≡ true
-link_unclosed c (End child why) h = (both (child == c) (not (is_closed why)) h).1
-link_unclosed c w h = refl
 
 pub why_unclosed : (why : Why) → is_closed why ≡ false → is_unclosed (Some why) ≡ true
 why_unclosed Closed h = absurd cc

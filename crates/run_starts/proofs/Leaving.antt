@@ -1,6 +1,6 @@
 -- The wires and the programs of a run, as its journal grows.
 use Rattle.ann_outside.specs.Told.{ProgramsTold}
-use Rattle.std.proofs.Common.{◌≡◌, ◌⊎◌, ℕ, suc, ◌+◌, ◌≤◌, List, [], ◌∷◌, ◌++◌, refl, sym, ap, subst, ◌∙◌, append-nil, length, length-append, Bool, true, false, Some, None, Option, arith, inl, inr}
+use Rattle.std.proofs.Common.{◌≡◌, ℕ, suc, ◌+◌, ◌≤◌, List, [], ◌∷◌, ◌++◌, refl, sym, ap, subst, ◌∙◌, append-nil, length, length-append, Bool, true, false, Some, None, Option, arith}
 use Rattle.std.specs.Prelude.{◌-◌, ◌^◌, min}
 use Rattle.std.specs.List.{cons_option}
 use Rattle.ann_outside.specs.Starts.{Starts, IsNumbered}
@@ -10,7 +10,7 @@ use Rattle.journal_model.specs.declared.entry.What.TheVariants.{Start, NoStart}
 use Rattle.journal_model.specs.declared.entry.Entry.{Entry}
 use Rattle.journal_model.specs.Journal.{any}
 use Rattle.journal_model.specs.Legality.{count, is_start}
-use Rattle.journal_model.specs.Halves.{EarValue, MouthValue, IsSameEar, IsSameMouth}
+use Rattle.journal_model.specs.Halves.{EarValue, MouthValue}
 use Rattle.journal_model.specs.Shares.{is_of_child}
 use Rattle.journal_model.proofs.Looks.{each_of-append}
 use Rattle.child_link.proofs.Linked.{any_narrower}
@@ -20,10 +20,10 @@ use Rattle.child_end.specs.Wires.{IsHeld, IsLaid, IsOfStart, came, came_in}
 use Rattle.child_end.proofs.Held.{held_apart}
 use Rattle.child_end.specs.Programs.{AddsAll, RoseBy, is_failed_start, told, told_in}
 use Rattle.run_starts.specs.Starting.{is_any_start}
-use Rattle.run_starts.specs.Stints.{AreLinked, AreUpTo, IsLinked, Kept, StartsOne, ear_of, main_entry, mouth_of}
+use Rattle.run_starts.specs.Stints.{AreLinked, AreUpTo, IsLinked, Kept, StartsOne, ear_of, mouth_of}
 use Rattle.run_starts.proofs.Tests.{each_without, none_came}
 use Rattle.journal_model.proofs.Working.{count-append, count_none}
-use Rattle.child_end.proofs.Across.{adds_one, adds_both}
+use Rattle.child_end.proofs.Across.{adds_one}
 
 -- ---- counts of faults
 
@@ -49,11 +49,6 @@ stays_none None (Some ys) s = absurd s
 stays_none (Some xs) None s = absurd s
 stays_none (Some xs) (Some ys) s = s ∙ sym (append-nil xs)
 
--- the program is named otherwise
-pub may_ask : {p q : List ℕ} (before after : ProgramsTold) → p ≡ q → Stays before.starts after.starts ⊎ ((b : Bool) × AddsOne before.starts after.starts (p, b)) → Stays before.starts after.starts ⊎ ((b : Bool) × AddsOne before.starts after.starts (q, b))
-may_ask before after e (inl s) = inl s
-may_ask before after e (inr (b, a)) = inr (b, subst (λ (x : List ℕ). AddsOne before.starts after.starts (x, b)) e a)
-
 -- ---- the numbers of starts
 
 pub of_start : (old new : Option Starts) (x : List ℕ × Bool) (n : Option ℕ) → AddsOne old new x → IsNumbered new n → IsOfStart old 1 n
@@ -61,18 +56,6 @@ of_start old new x None a h = tt
 of_start None new x (Some n) a h = tt
 of_start (Some xs) None x (Some n) a h = absurd a
 of_start (Some xs) (Some ys) x (Some n) a h = h ∙ ap (λ (zs : Starts). length zs) a ∙ length-append xs (x ∷ [])
-
--- a start after those that were told
-shifted : (old mid : Option Starts) (told_so : Starts) (k : ℕ) (n : Option ℕ) → AddsAll old mid told_so → length told_so ≡ k → IsOfStart mid 1 n → IsOfStart old (k + 1) n
-shifted old mid told_so k None a e h = tt
-shifted None mid told_so k (Some n) a e h = tt
-shifted (Some xs) None told_so k (Some n) a e h = absurd a
-shifted (Some xs) (Some ys) told_so k (Some n) a e h =
-    let many = ap (λ (zs : Starts). length zs) a ∙ length-append xs told_so in
-    omega (arith, h, many, e)
-
-numbered_on : (starts : Option Starts) (e e' : EarValue) (m m' : MouthValue) → IsSameEar e e' → IsSameMouth m m' → AreNumbered starts e m → AreNumbered starts e' m'
-numbered_on starts e e' m m' same_ear same_mouth h = (subst (IsNumbered starts) (sym same_mouth.1) h.0, subst (IsNumbered starts) (sym same_ear.1) h.1)
 
 -- ---- told and came
 
@@ -167,13 +150,6 @@ starts_child program journal c offer before mid after faults ear mouth wires wir
   later = omega arith;
 }
 
--- the halves of a link that did something
-pub starts_kept : (program : List ℕ) (journal : List Entry) (c : ℕ) (offer : Bool) (before : ProgramsTold) (mid : Option Starts) (after : ProgramsTold) (faults : ℕ) (e ear : EarValue) (m mouth : MouthValue) (wires wires' : List WireValue)
-    → AddsOne before.starts mid (program, true) → Stays mid after.starts → before.faults ≤ faults → faults ≤ after.faults → AreNumbered mid e m → IsSameEar e ear → IsSameMouth m mouth → e.child ≡ c → mouth.child ≡ ear.child
-    → IsHeld journal ear mouth → IsLaid ear mouth wires wires' → StartsOne program journal (Start c 0 offer) before after wires wires'
-starts_kept program journal c offer before mid after faults e ear m mouth wires wires' adds stays le le' numbered se sm its one linked laid =
-    starts_child program journal c offer before mid after faults ear mouth wires wires' adds stays le le' (numbered_on mid e ear m mouth se sm numbered) (se.0 ∙ its) one linked laid
-
 -- no child was started
 pub starts_none : (program : List ℕ) (journal : List Entry) (before after : ProgramsTold) (wires wires' : List WireValue) → AddsOne before.starts after.starts (program, false) → Rose before.faults after.faults → before.faults ≤ after.faults
     → wires' ≡ wires → StartsOne program journal (NoStart 0) before after wires wires'
@@ -189,54 +165,6 @@ starts_none program journal before after wires wires' adds rose le same = record
 -- ---- all that is kept
 
 module _ {program : List ℕ} {old : List Entry} {start before : ProgramsTold} {wires : List WireValue} (k : Kept program old start before wires) (up_to : AreUpTo (count is_start old) (came old)) where
-  -- after one start more
-  pub kept_next : (new : List Entry) (first : What) (later : List Entry) (after : ProgramsTold) (wires' : List WireValue) → new ≡ old ++ main_entry first ∷ later → any is_any_start later ≡ false
-      → ((d : ℕ) → d ≤ count is_start old → any (is_of_child d) (main_entry first ∷ later) ≡ false) → StartsOne program new first before after wires wires' → Kept program new start after wires'
-  kept_next new first later after wires' is none apart s = record {
-    linked = subst (AreLinked start.starts new 0 (came new)) (sym s.laid) (subst (λ (cs : List (Option ℕ)). AreLinked start.starts new 0 cs (wires ++ s.new)) (sym came_new)
-        (linked_both start.starts new 0 (came old) (came (main_entry first ∷ [])) wires s.new earlier (here first s.new s.linked)));
-    started = subst (AddsAll start.starts after.starts) (sym told_new) (adds_both start.starts before.starts after.starts (told program old) (told program (main_entry first ∷ [])) k.started s.adds);
-    faults = subst (λ (n : ℕ). RoseBy n start.faults after.faults) (sym failed_new) (rose_both (count is_failed_start old) (count is_failed_start (main_entry first ∷ [])) start.faults before.faults after.faults k.faults s.faults);
-    later = (let a = k.later in let b = s.later in omega (arith, a, b));
-  }
-    where
-      tail : List Entry
-      tail = main_entry first ∷ later
-
-      came_new : came new ≡ came old ++ came (main_entry first ∷ [])
-      came_new = ap came is ∙ each_of-append came_in old tail ∙ ap (λ (cs : List (Option ℕ)). came old ++ cons_option (came_in first) cs) (none_came later none)
-
-      told_new : told program new ≡ told program old ++ told program (main_entry first ∷ [])
-      told_new = ap (told program) is ∙ each_of-append (told_in program) old tail ∙ ap (λ (ts : Starts). told program old ++ cons_option (told_in program first) ts) (none_told program later none)
-
-      earlier : AreLinked start.starts new 0 (came old) wires
-      earlier = subst (λ (j : List Entry). AreLinked start.starts j 0 (came old) wires) (sym is) (linked_on start.starts old tail (count is_start old) apart 0 (came old) wires up_to k.linked)
-
-      here : (w : What) (ws : List WireValue) → AreLinked before.starts new 0 (came (main_entry w ∷ [])) ws → AreLinked start.starts new (0 + length (came old)) (came (main_entry w ∷ [])) ws
-      here (Start child slot offer) [] h = absurd h
-      here (Start child slot offer) (v ∷ []) h =
-          let many = as_many program old in (
-            h.0,
-            record {
-              linked = h.1.linked;
-              inlet = shifted start.starts before.starts (told program old) (0 + length (came old)) v.inlet_number k.started (omega (arith, many)) h.1.inlet;
-              outlet = shifted start.starts before.starts (told program old) (0 + length (came old)) v.outlet_number k.started (omega (arith, many)) h.1.outlet;
-              closed = h.1.closed;
-            },
-            tt,
-          )
-      here (Start child slot offer) (v ∷ u ∷ ws) h = absurd h.2
-      here (NoStart slot) [] h = tt
-      here (NoStart slot) (v ∷ ws) h = absurd h
-      here w [] h = tt
-      here w (v ∷ ws) h = absurd h
-
-      failed_new : count is_failed_start new ≡ count is_failed_start old + count is_failed_start (main_entry first ∷ [])
-      failed_new =
-          ap (count is_failed_start) is ∙ count-append is_failed_start old tail
-          ∙ ap (λ (n : ℕ). count is_failed_start old + n)
-          (count-append is_failed_start (main_entry first ∷ []) later ∙ (let none_failed = count_none is_failed_start later (any_narrower is_failed_start is_any_start failed_start_is later none) in omega (arith, none_failed)))
-
   -- after entries that start nothing and are of no child
   pub kept_still : (new more : List Entry) → new ≡ old ++ more → any is_any_start more ≡ false → ((d : ℕ) → any (is_of_child d) more ≡ false) → Kept program new start before wires
   kept_still new more is none apart = record {

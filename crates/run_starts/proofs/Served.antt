@@ -146,7 +146,7 @@ untagged true true = refl
 untagged true false = refl
 untagged false b = refl
 
-module _ (o : Opening) (setup : Setup) (limit : ℕ) (offer tagged : Bool) (old g new : List Entry) (c : ℕ) (desk desk' : DeskTold)
+module _ (o : Opening) (setup : Setup) (offer tagged : Bool) (old g new : List Entry) (c : ℕ) (desk desk' : DeskTold)
     (legal : Legal o old) (left : are_all_claimed o old ≡ false) (greeted : Greeted old g 0 offer c) (legal' : Legal o g) (ready : IsReady g c) (tag : tagged ≡ is_tagged g c) (s : HasServed o setup c g new desk desk') where
   abbrev first : Entry
   first = main_entry (Start c 0 offer)
@@ -184,16 +184,16 @@ module _ (o : Opening) (setup : Setup) (limit : ℕ) (offer tagged : Bool) (old 
       ∙ ap (λ (p : List Entry). turns_by 0 p (its ++ k.tail)) (append_assoc old (first ∷ []) greeted.more ∙ sym greeted.grown)
       ∙ turns_by-append 0 g its k.tail ∙ ap (λ (l : List (ℕ × ℕ)). turns_by 0 g its ++ l) (of_closing c k.tail k.one (λ (x : List Entry). turns_by 0 (g ++ its) x ≡ []) refl refl) ∙ append-nil (turns_by 0 g its)
 
-  done : TasksDone o setup limit new (old ++ first ∷ []) later desk desk'
+  done : TasksDone o setup new (old ++ first ∷ []) later desk desk'
   done =
-      let at_end : TasksDone o setup limit (s.mid ++ k.tail) g its desk desk' = record {
+      let at_end : TasksDone o setup (s.mid ++ k.tail) g its desk desk' = record {
         done = s.worked.done;
         claimed = sym s.worked.did.claimed;
-        ran = worker_runs o setup limit c s.mid k.tail s.worked.done s.can.serves.number s.worked.ran;
+        ran = worker_runs o setup c s.mid k.tail s.worked.done s.can.serves.number s.worked.ran;
         log_is = s.worked.log_is;
         caused = s.worked.caused;
       } in
-      done_same o setup limit new g (old ++ first ∷ []) its later desk desk' taken (subst (λ (j : List Entry). TasksDone o setup limit j g its desk desk') (sym k.is) at_end)
+      done_same o setup new g (old ++ first ∷ []) its later desk desk' taken (subst (λ (j : List Entry). TasksDone o setup j g its desk desk') (sym k.is) at_end)
 
   abbrev so_far : List Entry
   so_far = (first ∷ greeted.more) ++ its
@@ -237,7 +237,7 @@ module _ (o : Opening) (setup : Setup) (limit : ℕ) (offer tagged : Bool) (old 
   ready_said : is_ready_untagged new c ≡ not tagged
   ready_said = ap (λ (j : List Entry). is_ready_untagged j c) behind ∙ ready_now o g (its ++ k.tail) c legal' ready greeted.idle rest_part.within ∙ ap not (sym tag)
 
-  pub served_stint : Stint o setup limit offer (offer && tagged) (Start c 0 offer) old new desk desk'
+  pub served_stint : Stint o setup offer (offer && tagged) (Start c 0 offer) old new desk desk'
   served_stint = record {
     stretch = record {
       left = left;

@@ -7,10 +7,8 @@ use Rattle.journal_model.specs.declared.entry.What.TheVariants.{Start, NoStart}
 use Rattle.journal_model.specs.declared.entry.Entry.{Entry}
 use Rattle.journal_model.specs.declared.opening.Opening.{Opening}
 use Rattle.journal_model.specs.Journal.{any, each_of}
-use Rattle.journal_model.specs.Legality.{count, is_claimed, numbers_of}
+use Rattle.journal_model.specs.Legality.{is_claimed, numbers_of}
 use Rattle.journal_model.proofs.Holding.{claimed, claimed_append, closed, unclaimed_on}
-use Rattle.journal_model.proofs.Looks.{any-append}
-use Rattle.journal_model.proofs.Testing.{all-each}
 use Rattle.host_core.specs.Steps.{are_all_claimed}
 use Rattle.child_end.specs.Wires.{came, came_in}
 use Rattle.crew_laws.specs.Tasks.{claimed_turn, turns_by}
@@ -18,19 +16,6 @@ use Rattle.run_starts.specs.Starting.{AllOffer, OffersWell, children, is_any_sta
 use Rattle.run_starts.specs.Stints.{AreUpTo}
 use Rattle.ann_key.proofs.Booleans.{left_false as either_left, right_false as either_right}
 use Rattle.std.proofs.lemmas.Bool.{and_parts as both}
-
--- ---- counts
-
-pub count_fewer : (p q : What → Bool) → ((w : What) → p w ≡ true → q w ≡ true) → (xs : List Entry) → count p xs ≤ count q xs
-count_fewer p q f [] = omega arith
-count_fewer p q f (e ∷ xs) = go (p e.what) (q e.what) (f e.what) (count_fewer p q f xs)
-  where
-    go : (a b : Bool) → (a ≡ true → b ≡ true) → count p xs ≤ count q xs
-        → length (cond a (e ∷ filter (λ (x : Entry). p x.what) xs) (filter (λ (x : Entry). p x.what) xs)) ≤ length (cond b (e ∷ filter (λ (x : Entry). q x.what) xs) (filter (λ (x : Entry). q x.what) xs))
-    go true true f h = omega (arith, h)
-    go true false f h = absurd (let bad : false ≡ true = f refl in cc)
-    go false true f h = omega (arith, h)
-    go false false f h = h
 
 -- ---- what a stretch doesn't say
 

@@ -27,7 +27,7 @@ use Rattle.task_model.specs.TaskRuns.{ended_answer, failed_start, gone_answer, o
 use Rattle.crew_laws.specs.Tasks.{turns_by}
 use Rattle.crew_laws.proofs.Turning.{turns_by-append}
 use Rattle.run_starts.specs.Starting.{is_ready_untagged, is_spent, is_unclosed}
-use Rattle.run_starts.specs.Rounds.{ZeroAnswers, start_untaken, turn_of}
+use Rattle.run_starts.specs.Rounds.{start_untaken, turn_of}
 use Rattle.run_starts.specs.Stints.{AnswersOne, Stint, TasksDone, TurnsAway, in_stint, main_entry}
 use Rattle.crew_worker.proofs.Working.{ends_behind}
 use Rattle.run_starts.proofs.Apart.{spent_on, why_unclosed}
@@ -115,7 +115,7 @@ no_turn c (Start child slot offer) h = absurd cc
 no_turn c (NoStart slot) h = absurd cc
 no_turn c w h = refl
 
-module _ (o : Opening) (setup : Setup) (limit : ℕ) (offer : Bool) (old g new : List Entry) (c : ℕ) (answer : Answer) (desk : DeskTold)
+module _ (o : Opening) (setup : Setup) (offer : Bool) (old g new : List Entry) (c : ℕ) (answer : Answer) (desk : DeskTold)
     (left : are_all_claimed o old ≡ false) (rest : (t : ℕ) → is_busy old t ≡ false) (greeted : Greeted old g 0 offer c) (unready : IsUnready g c answer) where
   abbrev first : Entry
   first = main_entry (Start c 0 offer)
@@ -126,8 +126,8 @@ module _ (o : Opening) (setup : Setup) (limit : ℕ) (offer : Bool) (old g new :
   untaken_now : start_untaken g ≡ Some (Some c)
   untaken_now = ap start_untaken greeted.grown ∙ child_untaken old greeted.more c offer (each_none turn_of (is_of_greeting c) (no_turn c) greeted.more greeted.own)
 
-  answers : (t : ℕ) → ZeroAnswers limit g (failed_start g (start_untaken g)) t answer
-  answers t = subst (λ (x : Option Answer). ZeroAnswers limit g x t answer) (sym (ap (failed_start g) untaken_now ∙ unready.says)) refl
+  failed : failed_start g (start_untaken g) ≡ Some answer
+  failed = ap (failed_start g) untaken_now ∙ unready.says
 
   module _ (mid : List Entry) (t : ℕ) (is : mid ≡ g ++ main_entry (Claim t 0) ∷ main_entry (Answered t answer) ∷ []) (k : Closing c mid new) where
     abbrev zero : List Entry
@@ -151,8 +151,8 @@ module _ (o : Opening) (setup : Setup) (limit : ℕ) (offer : Bool) (old g new :
         ∙ ap (λ (p : List Entry). turns_by 0 p (zero ++ k.tail)) (append_assoc old (first ∷ []) greeted.more ∙ sym greeted.grown)
         ∙ turns_by-append 0 g zero k.tail ∙ ap (λ (l : List (ℕ × ℕ)). turns_by 0 g zero ++ l) (of_closing c k.tail k.one (λ (x : List Entry). turns_by 0 (g ++ zero) x ≡ []) refl refl)
 
-    done : TasksDone o setup limit new (old ++ first ∷ []) later desk desk
-    done = done_same o setup limit new g (old ++ first ∷ []) zero later desk desk taken (done_zero o setup limit new g k.tail t answer desk behind (answers t) unready.quiet)
+    done : TasksDone o setup new (old ++ first ∷ []) later desk desk
+    done = done_same o setup new g (old ++ first ∷ []) zero later desk desk taken (done_zero o setup new g k.tail t answer desk behind failed unready.quiet)
 
     pub unprepared : is_ready_untagged new c ≡ false
     unprepared =
@@ -160,7 +160,7 @@ module _ (o : Opening) (setup : Setup) (limit : ℕ) (offer : Bool) (old g new :
         let v : verdict_of new c 1 ≡ verdict_of g c 1 = ap (λ (j : List Entry). verdict_of j c 1) behind ∙ verdict_of-append c 1 g (zero ++ k.tail) ∙ or_none (verdict_of g c 1) (verdict_of (zero ++ k.tail) c 1) none in
         ap (λ (b : Bool). (b && any (prepares c) new) && not (is_tagged new c)) (ap is_done v ∙ unready.undone)
 
-    pub turned_away : Stint o setup limit offer offer (Start c 0 offer) old new desk desk
+    pub turned_away : Stint o setup offer offer (Start c 0 offer) old new desk desk
     turned_away = record {
       stretch = record {
         left = left;
@@ -184,13 +184,13 @@ module _ (o : Opening) (setup : Setup) (limit : ℕ) (offer : Bool) (old g new :
       last = λ all. closing_ends c k.tail k.one g new (main_entry (Claim t 0)) (main_entry (Answered t answer) ∷ []) (k.is ∙ ap (λ (x : List Entry). x ++ k.tail) is) refl;
     }
 
-  pub away_stint : TurnsAway o c g new answer → Stint o setup limit offer offer (Start c 0 offer) old new desk desk
+  pub away_stint : TurnsAway o c g new answer → Stint o setup offer offer (Start c 0 offer) old new desk desk
   away_stint (mid, (false, a), closes) = absurd (let bad : true ≡ false = sym a.1 ∙ still_left in cc)
   away_stint (mid, (true, a), closes) = turned_away mid a.0 a.2 (closing c mid new closes)
 
 -- ---- no child was started
 
-module _ (o : Opening) (setup : Setup) (limit : ℕ) (offer : Bool) (old g new : List Entry) (desk : DeskTold)
+module _ (o : Opening) (setup : Setup) (offer : Bool) (old g new : List Entry) (desk : DeskTold)
     (left : are_all_claimed o old ≡ false) (rest : (t : ℕ) → is_busy old t ≡ false) (failed : g ≡ old ++ main_entry (NoStart 0) ∷ []) where
   fault_left : are_all_claimed o g ≡ false
   fault_left = ap (are_all_claimed o) failed ∙ claimed_same o old (main_entry (NoStart 0) ∷ []) refl refl ∙ left
@@ -201,10 +201,10 @@ module _ (o : Opening) (setup : Setup) (limit : ℕ) (offer : Bool) (old g new :
       closing_free : (u : ℕ) → is_busy (old ++ main_entry (NoStart 0) ∷ []) u ≡ false
       closing_free u = ap is_some (holder_append old (main_entry (NoStart 0) ∷ []) u) ∙ rest u
 
-  fault_answers : (t : ℕ) → ZeroAnswers limit g (failed_start g (start_untaken g)) t StartFault
-  fault_answers t = subst (λ (x : Option Answer). ZeroAnswers limit g x t StartFault) (sym (ap (failed_start g) (ap start_untaken failed ∙ fault_untaken old))) refl
+  fault_failed : failed_start g (start_untaken g) ≡ Some StartFault
+  fault_failed = ap (failed_start g) (ap start_untaken failed ∙ fault_untaken old)
 
-  fault_one : (t : ℕ) → new ≡ g ++ main_entry (Claim t 0) ∷ main_entry (Answered t StartFault) ∷ [] → Stint o setup limit offer offer (NoStart 0) old new desk desk
+  fault_one : (t : ℕ) → new ≡ g ++ main_entry (Claim t 0) ∷ main_entry (Answered t StartFault) ∷ [] → Stint o setup offer offer (NoStart 0) old new desk desk
   fault_one t is = record {
     stretch = record {
       left = left;
@@ -223,8 +223,8 @@ module _ (o : Opening) (setup : Setup) (limit : ℕ) (offer : Bool) (old g new :
       offers = and_true offer;
     };
     main = refl;
-    done = subst (λ (p : List Entry). TasksDone o setup limit new p (main_entry (Claim t 0) ∷ main_entry (Answered t StartFault) ∷ []) desk desk) failed
-        (done_zero o setup limit new g [] t StartFault desk is (fault_answers t) refl);
+    done = subst (λ (p : List Entry). TasksDone o setup new p (main_entry (Claim t 0) ∷ main_entry (Answered t StartFault) ∷ []) desk desk) failed
+        (done_zero o setup new g [] t StartFault desk is fault_failed refl);
     last = λ all. record {
       past = g ++ main_entry (Claim t 0) ∷ main_entry (Answered t StartFault) ∷ [];
       closings = [];
@@ -234,6 +234,6 @@ module _ (o : Opening) (setup : Setup) (limit : ℕ) (offer : Bool) (old g new :
     };
   }
 
-  pub fault_stint : (b : Bool) → AnswersOne o g new (λ t. StartFault) b → Stint o setup limit offer offer (NoStart 0) old new desk desk
+  pub fault_stint : (b : Bool) → AnswersOne o g new (λ t. StartFault) b → Stint o setup offer offer (NoStart 0) old new desk desk
   fault_stint true a = fault_one a.0 a.2
   fault_stint false a = absurd (let bad : true ≡ false = sym a.1 ∙ fault_left in cc)

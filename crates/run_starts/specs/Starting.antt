@@ -1,5 +1,5 @@
 -- Which starts a run makes, when it offers ASYNC, and what spends a start.
-use Rattle.std.specs.Prelude.{ℕ, ◌≡◌, ◌==◌, ◌&&◌, ◌||◌, not, if◌then◌else◌, Bool, true, false, List, [], ◌∷◌, ◌++◌, Option, Some, None, is_some}
+use Rattle.std.specs.Prelude.{ℕ, ◌≡◌, ◌&&◌, ◌||◌, not, if◌then◌else◌, Bool, true, false, List, [], ◌∷◌, ◌++◌, Option, Some, None, is_some}
 use Rattle.std.specs.List.{list_all, list_any}
 use Rattle.journal_model.specs.declared.verdict.Why.{Why}
 use Rattle.journal_model.specs.declared.verdict.Why.TheVariants.{Closed}
@@ -17,12 +17,6 @@ abbrev pub is_any_start : What → Bool
 is_any_start (Start child slot offer) = true
 is_any_start (NoStart slot) = true
 is_any_start w = false
-
--- a start in another slot than 0
-abbrev pub is_elsewhere : What → Bool
-is_elsewhere (Start child slot offer) = not (slot == 0)
-is_elsewhere (NoStart slot) = not (slot == 0)
-is_elsewhere w = false
 
 -- the child that a start gave
 abbrev pub started_in : What → Option ℕ
@@ -69,20 +63,6 @@ is_spent past c = is_some (refusal_of past c) || (is_mute past c || is_unclosed 
 abbrev pub up_to : (What → Bool) → List Entry → List Entry
 up_to is [] = []
 up_to is (e ∷ rest) = if is e.what then [] else e ∷ up_to is rest
-
--- Of a start, the last of these entries, and of what stands after it: it gave no child, or its child is spent by what stands before the
--- next start.
-abbrev pub is_start_spent : List Entry → What → List Entry → Bool
-is_start_spent here (Start child slot offer) rest = is_spent (here ++ up_to is_any_start rest) child
-is_start_spent here w rest = true
-
--- so is each start of the entries, which stand after past
-abbrev pub are_spent : List Entry → List Entry → Bool
-are_spent past [] = true
-are_spent past (e ∷ rest) = is_start_spent (past ++ e ∷ []) e.what rest && are_spent (past ++ e ∷ []) rest
-
-abbrev pub AreSpent : List Entry → Type 0
-AreSpent journal = are_spent [] journal ≡ true
 
 -- each child has ended
 abbrev pub AreEnded : List Entry → Type 0

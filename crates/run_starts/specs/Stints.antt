@@ -1,6 +1,6 @@
 -- What one start and what follows it comes to, and how a run stands between two starts.
 use Rattle.ann_outside.specs.Told.{DeskTold, ProgramsTold}
-use Rattle.std.specs.Prelude.{ℕ, ◌≡◌, ◌⊎◌, ◌≤◌, ◌+◌, ◌==◌, ◌&&◌, not, Bool, true, false, List, [], ◌∷◌, ◌++◌, Option, Some, None, is_some, option_map, Result, MatchResult}
+use Rattle.std.specs.Prelude.{ℕ, ◌≡◌, ◌⊎◌, ◌<◌, ◌≤◌, ◌+◌, ◌==◌, ◌&&◌, not, Bool, true, false, List, [], ◌∷◌, ◌++◌, Option, Some, None, option_map, Result, MatchResult}
 use Rattle.std.specs.List.{list_all, list_any}
 use Rattle.ann_key.specs.declared.bytes.NoMemory.{NoMemory}
 use Rattle.ann_outside.specs.Calls.{Gained}
@@ -12,8 +12,8 @@ use Rattle.journal_model.specs.declared.entry.What.{What}
 use Rattle.journal_model.specs.declared.entry.What.TheVariants.{Claim, Start, NoStart, Lead, Ask, Put, Sent, Mute, Got, End, Verdict as Settled, Lost, Answer as Answered, Note, Again}
 use Rattle.journal_model.specs.declared.entry.Entry.{Entry}
 use Rattle.journal_model.specs.declared.opening.Opening.{Opening}
-use Rattle.journal_model.specs.Journal.{any, is_ended, is_started}
-use Rattle.journal_model.specs.Legality.{Legal, count, is_busy, is_start, least_free, turn_of_task}
+use Rattle.journal_model.specs.Journal.{is_ended}
+use Rattle.journal_model.specs.Legality.{count, is_busy, is_start, least_free, turn_of_task}
 use Rattle.journal_model.specs.Shares.{are_by}
 use Rattle.journal_model.specs.Halves.{EarValue, MouthValue}
 use Rattle.host_core.specs.declared.event.Reply.{Reply}
@@ -24,14 +24,15 @@ use Rattle.crew_laws.specs.Tasks.{IsThrough, turns_by}
 use Rattle.child_start.specs.declared.greeting.Came.{Came}
 use Rattle.child_start.specs.declared.greeting.Came.TheVariants.{Ready, Refused, Ended, Unsent}
 use Rattle.task_model.specs.declared.setup.Setup.{Setup}
-use Rattle.task_model.specs.TaskRuns.{refused_at}
-use Rattle.crew_worker.specs.Works.{CanWork, NoneAtWork, TaskDone, WorkedAlone, CausedInTurn, all_calls, turns_of}
+use Rattle.task_model.specs.TaskRuns.{failed_start, refused_at}
+use Rattle.crew_laws.specs.JournalRuns.{JournalRun}
+use Rattle.crew_worker.specs.Works.{CanWork, TaskDone, WorkedAlone, CausedInTurn, all_calls, turns_of}
 use Rattle.task_model.specs.declared.turn.TaskTurn.{TaskTurn}
 use Rattle.child_link.specs.Wires.{WireValue}
 use Rattle.child_end.specs.Wires.{IsHeld, IsOfStart, came}
 use Rattle.child_end.specs.Programs.{AddsAll, RoseBy, is_failed_start, told}
-use Rattle.run_starts.specs.Starting.{AllOffer, AreEnded, AreSpent, children, is_any_start, is_elsewhere, is_offered, is_ready_untagged, is_spent}
-use Rattle.run_starts.specs.Rounds.{AllLostWell, AllStandNext, EndsClosed, HasRun, NoneUntaken, ends_for_memory, is_of_run}
+use Rattle.run_starts.specs.Starting.{children, is_ready_untagged, is_spent}
+use Rattle.run_starts.specs.Rounds.{AllLostWell, AllStandNext, EndsClosed, NoneUntaken, ends_for_memory, is_of_run, start_untaken}
 
 -- an entry of the main thread's own
 abbrev pub main_entry : What → Entry
@@ -98,36 +99,36 @@ came_answer (Refused verdict) = option_map NotPrepared (refused_at verdict)
 came_answer (Ended why) = Some (EndedAnswer why)
 came_answer Unsent = Some UnsentAnswer
 
--- the child was started and has no open job, and no task is busy, in a legal journal
-pub record IsIdle (o : Opening) (c : ℕ) (seen : List Entry) : Type 0 where
-  pub legal : Legal o seen
-  pub started : is_started seen c ≡ true
-  pub rests : NoneAtWork c seen
-
--- a child that is ready can work; one that isn't is idle, and there is an answer for it
-abbrev pub CanMeet : Opening → ℕ → List Entry → Came → Type 0
-CanMeet o c seen (Ready tagged) = CanWork o c seen
-CanMeet o c seen came = IsIdle o c seen × (is_some (came_answer came) ≡ true)
-
--- Of a child that is ready tasks were done, and else one was answered; and the child was closed. `next` says whether ASYNC may be offered
--- from then on.
-abbrev pub Meets : Opening → Setup → ℕ → List Entry → List Entry → Came → Bool → DeskTold → DeskTold → Type 0
-Meets o setup c old new (Ready tagged) next desk desk' = HasServed o setup c old new desk desk' × (next ≡ tagged)
-Meets o setup c old new came next desk desk' = ((answer : Answer) × (Some answer ≡ came_answer came) × TurnsAway o c old new answer) × (next ≡ true) × (desk' ≡ desk)
-
 -- ---- tasks that are done
 
+-- It was claimed for a child, run over it by the main thread, and closed so.
+pub record ChildRun (o : Opening) (setup : Setup) (journal : List Entry) (r : TaskDone) : Type 0 where
+  pub run : JournalRun o setup r.calls 0 r.task r.turn journal
+  pub child : 0 < run.run.child
+  pub answer : run.run.answer ≡ r.answer
+
+-- It was claimed without a child after a start that gave none that is ready, and answered at once by what came of that start.
+pub record FailedRun (journal : List Entry) (t : ℕ) (answer : Answer) : Type 0 where
+  pub past : List Entry
+  pub rest : List Entry
+  pub is : journal ≡ past ++ main_entry (Claim t 0) ∷ main_entry (Answered t answer) ∷ rest
+  pub failed : failed_start past (start_untaken past) ≡ Some answer
+
+-- over a child, or without one and without a call of its desk
+abbrev pub HasRun : Opening → Setup → List Entry → TaskDone → Type 0
+HasRun o setup journal r = ChildRun o setup journal r ⊎ (FailedRun journal r.task r.answer × (r.calls ≡ []))
+
 -- each of them has its run
-abbrev pub AllHaveRun : Opening → Setup → ℕ → List Entry → List TaskDone → Type 0
-AllHaveRun o setup limit journal [] = Unit {0}
-AllHaveRun o setup limit journal (r ∷ rs) = HasRun o setup limit journal r × AllHaveRun o setup limit journal rs
+abbrev pub AllHaveRun : Opening → Setup → List Entry → List TaskDone → Type 0
+AllHaveRun o setup journal [] = Unit {0}
+AllHaveRun o setup journal (r ∷ rs) = HasRun o setup journal r × AllHaveRun o setup journal rs
 
 -- The turns of tasks that the main thread claims among the entries, which stand after past, are run in the journal, one after the other,
 -- and the desk made the calls of these runs.
-pub record TasksDone (o : Opening) (setup : Setup) (limit : ℕ) (journal past entries : List Entry) (desk desk' : DeskTold) : Type 0 where
+pub record TasksDone (o : Opening) (setup : Setup) (journal past entries : List Entry) (desk desk' : DeskTold) : Type 0 where
   pub done : List TaskDone
   pub claimed : turns_of done ≡ turns_by 0 past entries
-  pub ran : AllHaveRun o setup limit journal done
+  pub ran : AllHaveRun o setup journal done
   pub log_is : Gained desk.log desk'.log (all_calls done)
   pub caused : CausedInTurn desk.counts done desk'.counts
 
@@ -177,10 +178,10 @@ pub record Stretch (o : Opening) (offer next : Bool) (first : What) (old new : L
   pub offers : next ≡ (offer && not (list_any (is_ready_untagged new) (children (main_entry first ∷ []))))
 
 -- the same, where the main thread made it, did the tasks and closed the child
-pub record Stint (o : Opening) (setup : Setup) (limit : ℕ) (offer next : Bool) (first : What) (old new : List Entry) (desk desk' : DeskTold) : Type 0 where
+pub record Stint (o : Opening) (setup : Setup) (offer next : Bool) (first : What) (old new : List Entry) (desk desk' : DeskTold) : Type 0 where
   pub stretch : Stretch o offer next first old new
   pub main : are_by 0 stretch.later ≡ true
-  pub done : TasksDone o setup limit new (old ++ main_entry first ∷ []) stretch.later desk desk'
+  pub done : TasksDone o setup new (old ++ main_entry first ∷ []) stretch.later desk desk'
   pub last : are_all_claimed o new ≡ true → EndsClosed new
 
 -- ---- wires and programs
@@ -216,22 +217,10 @@ pub record StartsOne (program : List ℕ) (journal : List Entry) (first : What) 
   pub faults : RoseBy (count is_failed_start (main_entry first ∷ [])) before.faults after.faults
   pub later : before.faults ≤ after.faults
 
--- one start, in the journal and of the objects
-abbrev pub OneStart : Opening → Setup → ℕ → Bool → Bool → List ℕ → List Entry → List Entry → DeskTold → DeskTold → ProgramsTold → ProgramsTold → List WireValue → List WireValue → Type 0
-OneStart o setup limit offer next program old new desk desk' before after wires wires' =
-    (first : What) × Stint o setup limit offer next first old new desk desk' × StartsOne program new first before after wires wires'
-
 -- the programs were not asked, or once for nothing
 abbrev pub MayHaveAsked : List ℕ → ProgramsTold → ProgramsTold → Type 0
 MayHaveAsked program before after =
     (Stays before.starts after.starts ⊎ ((b : Bool) × AddsOne before.starts after.starts (program, b))) × (before.faults ≤ after.faults)
-
--- no memory was found to start a child: nothing was noted or done, though the programs may have been asked
-pub record Unstarted (program : List ℕ) (old new : List Entry) (desk desk' : DeskTold) (before after : ProgramsTold) (wires wires' : List WireValue) : Type 0 where
-  pub journal : new ≡ old
-  pub desk_is : desk' ≡ desk
-  pub wires_are : wires' ≡ wires
-  pub asked : MayHaveAsked program before after
 
 -- ---- between two starts
 
@@ -240,30 +229,6 @@ abbrev pub AreUpTo : ℕ → List (Option ℕ) → Type 0
 AreUpTo n [] = Unit {0}
 AreUpTo n (None ∷ cs) = AreUpTo n cs
 AreUpTo n (Some c ∷ cs) = (c ≤ n) × AreUpTo n cs
-
--- So many starts were made, all in slot 0, each in its turn, offering ASYNC where it was to. Their children have ended, and are spent unless all
--- tasks are claimed; no task is busy, and no start is left for one to take.
-pub record Spaced (o : Opening) (may : Bool) (made : ℕ) (offer : Bool) (journal : List Entry) : Type 0 where
-  pub legal : Legal o journal
-  pub slots : any is_elsewhere journal ≡ false
-  pub turn : AllStandNext o [] journal
-  pub starts : count is_any_start journal ≡ made
-  pub offers : AllOffer may [] journal
-  pub offered : offer ≡ (may && is_offered journal)
-  pub ended : AreEnded journal
-  pub asks : list_all (λ e. is_of_run e.what) journal ≡ true
-  pub lost : AllLostWell [] journal
-  pub rest : (t : ℕ) → is_busy journal t ≡ false
-  pub spent : AreSpent journal ⊎ (are_all_claimed o journal ≡ true)
-  pub untaken : NoneUntaken journal
-  pub few : AreUpTo (count is_start journal) (came journal)
-
--- the same, where the main thread made all of it; each task that was claimed is done
-pub record Between (o : Opening) (setup : Setup) (may : Bool) (limit made : ℕ) (offer : Bool) (journal : List Entry) (desk desk' : DeskTold) : Type 0 where
-  pub spaced : Spaced o may made offer journal
-  pub main : are_by 0 journal ≡ true
-  pub done : TasksDone o setup limit journal [] journal desk desk'
-  pub last : are_all_claimed o journal ≡ true → EndsClosed journal
 
 -- the programs were asked for what the journal says, each of its children has its wire, and a fault was counted for each that failed
 pub record Kept (program : List ℕ) (journal : List Entry) (before after : ProgramsTold) (wires : List WireValue) : Type 0 where
@@ -282,8 +247,3 @@ KeptOr program journal before after wires result =
 -- all starts are made, or all tasks claimed
 abbrev pub IsOver : Opening → ℕ → ℕ → List Entry → Type 0
 IsOver o limit made journal = (made ≡ limit) ⊎ (are_all_claimed o journal ≡ true)
-
--- The children were started, one after the other, until that, or until no memory was found to start one.
-abbrev pub HasStarted : Opening → Setup → Bool → ℕ → List Entry → DeskTold → DeskTold → Result (Unit {0}) NoMemory → Type 0
-HasStarted o setup may limit journal desk desk' result =
-    (made : ℕ) × (offer : Bool) × Between o setup may limit made offer journal desk desk' × (made ≤ limit) × MatchResult result (λ _. IsOver o limit made journal) (λ _. Unit {0})

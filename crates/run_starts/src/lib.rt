@@ -1,17 +1,15 @@
-// A whole run by one thread: children are started one after the other, and each does tasks until it is gone.
+// The parts of a run: what a child that was greeted came to, the tasks that are done over one that is ready, and those that are answered
+// without a child.
 #![tactic(auto)]
 
+mod coming;
 mod plan;
 mod renewed;
-mod running;
 mod serving;
-mod setting;
-mod starting;
 mod starved;
 mod zero;
 
+pub use coming::{is_offered, tagged_of, unready_answer};
 pub use plan::Plan;
-pub use running::run_alone;
 pub use serving::{serve, turn_away};
-pub use starting::{is_offered, tagged_of, unready_answer};
 pub use zero::{answer_left, answer_one};

@@ -37,7 +37,8 @@ use Rattle.init_command.specs.declared.made.InitEnd.TheVariants as N
 use Rattle.special_cli.specs.Setups.{HasSetUp, end_of_init, set_up_in}
 use Rattle.special_cli.specs.Calls.{IsCalled, IsDone, World}
 use Rattle.special_cli.specs.Commands.{ComesToNothing, EndsCheck, HasChecked, HasInformed, UnlessRefused, Runs}
-use Rattle.special_cli.specs.Endings.{is_well, status_of, IsChecked, IsPrinted, IsTold, LacksMemory}
+use Rattle.check_command.proofs.Checked.{unstarted_at}
+use Rattle.special_cli.specs.Endings.{is_well, status_of, IsPrinted, IsTold, LacksMemory}
 use Rattle.info_command.specs.Informs.{EndsInfo}
 use Rattle.info_command.specs.declared.made.InfoEnd.{InfoEnd}
 use Rattle.info_command.specs.declared.made.InfoEnd.TheVariants as I
@@ -47,7 +48,6 @@ use Rattle.special_cli.specs.Left.{Left, RanValue, IsIdle}
 use Rattle.child_end.specs.Programs.{HaveStarted, Leaves}
 use Rattle.child_end.specs.Outsides.{HaveMade}
 use Rattle.cli_words.specs.Refusals.{reason_refused, refusal_if, unless}
-use Rattle.special_cli.proofs.Checked.{unstarted}
 use Rattle.special_cli.proofs.Few.{few_done}
 use Rattle.special_cli.proofs.Rehearsed.{few_rehearsed, nothing_rehearsed}
 use Rattle.special_cli.specs.Rehearsals.{HasRehearsed, end_of_rehearsal, rehearsal_text}
@@ -800,17 +800,13 @@ few clock before input (Some (Walk seed tasks)) ran ranges h = few_walked seed t
 
 -- ---- no memory was found for the words
 
-pub nothing_checked : (clock : Option ℕ) (program key : List ℕ) (before : OutsideValue) (ran : RanValue) → ran.end ≡ Memory → IsIdle before ran.left → HasChecked clock program key before ran
+nothing_checked : (clock : Option ℕ) (program key : List ℕ) (before : OutsideValue) (ran : RanValue) → ran.end ≡ Memory → IsIdle before ran.left → HasChecked clock program key before ran
 nothing_checked clock program key before ran e idle = record {
-  checked = checked_at clock;
+  checked = unstarted_at clock key ran.left.journal idle.journal;
   ends = subst (λ (x : End). EndsCheck ran.left x) (sym e) idle.answers;
   objects = leaves_nothing _ before.programs ran.left.outside.programs program ran.left.journal ran.left.wires (ap (λ (o : OutsideValue). o.programs) idle.outside) idle.journal idle.wires;
   desks = record { made = ap (λ (o : OutsideValue). o.made) idle.outside; tables = idle.tables };
 }
-  where
-    checked_at : (told : Option ℕ) → IsChecked told key ran.left.journal
-    checked_at None = unstarted None key 0 ran.left.journal tt idle.journal
-    checked_at (Some stamp) = unstarted (Some stamp) key stamp ran.left.journal refl idle.journal
 
 nothing_informed_of : (program : List ℕ) (key : Option (List ℕ)) (before : OutsideValue) (ran : RanValue) → ran.end ≡ Memory → IsIdle before ran.left → HasInformed program key before ran
 nothing_informed_of program key before ran e idle = record {

@@ -8,7 +8,8 @@ use Rattle.audit_command.specs.declared.error.AuditError.{AuditError}
 use Rattle.journal_audit.specs.declared.found.Audit.{Audit}
 use Rattle.cli_words.specs.declared.command.Command.{Command}
 use Rattle.cli_words.specs.declared.command.Command.TheVariants.{Audit as AuditWord}
-use Rattle.special_cli.specs.Endings.{refused_in, check_in, info_in, init_in, run_in, tasks_in, IsChecked, IsTold, LacksMemory}
+use Rattle.special_cli.specs.Endings.{refused_in, check_in, info_in, init_in, run_in, tasks_in, IsTold, LacksMemory}
+use Rattle.check_command.specs.Checks.{IsChecked}
 use Rattle.info_command.specs.Informs.{IsInformed}
 use Rattle.special_cli.specs.Informs.{IsInfoTold}
 use Rattle.child_end.specs.Outsides.{OutsideValue}

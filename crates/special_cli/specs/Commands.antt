@@ -1,14 +1,14 @@
 -- What comes of a command, before it is told.
-use Rattle.std.specs.Prelude.{ℕ, ◌≡◌, ◌⊎◌, List, [], Option, None, Some, false}
+use Rattle.std.specs.Prelude.{ℕ, ◌≡◌, ◌⊎◌, List, [], Option, None, Some}
 use Rattle.journal_model.specs.declared.answer.Answer.{Answer}
 use Rattle.special_cli.specs.declared.end.End.{End}
 use Rattle.special_cli.specs.declared.end.End.TheVariants.{Usage, Shown, Refused, Memory, Answered}
 use Rattle.cli_words.specs.declared.refusals.Reason.{Reason}
-use Rattle.special_cli.specs.declared.check.Ready.{Ready}
-use Rattle.special_cli.specs.Openings.{check_opening}
+use Rattle.check_command.specs.declared.made.CheckEnd.{CheckEnd}
+use Rattle.check_command.specs.declared.made.CheckEnd.TheVariants as C
+use Rattle.check_command.specs.Checks.{IsAnswered, IsChecked}
 use Rattle.info_command.specs.Informs.{HasInformed as HasMade}
 use Rattle.info_command.specs.declared.made.InfoEnd.{InfoEnd}
-use Rattle.special_cli.specs.Endings.{IsChecked, IsAnswered, check_setup}
 use Rattle.special_cli.specs.Informs.{end_of_info, informed_in}
 use Rattle.child_end.specs.Outsides.{OutsideValue}
 use Rattle.special_cli.specs.Left.{Left, RanValue, IsIdle}
@@ -35,12 +35,10 @@ pub record HasNoDesk (before : OutsideValue) (left : Left) : Type 0 where
 
 -- ---- check
 
--- what a check of the key is done with
-pub record IsPrepared (program key : List ℕ) (stamp : ℕ) (r : Ready) : Type 0 where
-  pub opening : r.core.opening ≡ check_opening key stamp
-  pub empty : r.core.journal ≡ []
-  pub tasks : r.tasks ≡ r.core.opening.tasks
-  pub plan : r.plan ≡ record { program = program; starts = 1; offers = false; setup = check_setup stamp }
+-- what is to be told of it
+abbrev pub end_of_check : CheckEnd → End
+end_of_check C.Answered = Answered
+end_of_check C.Memory = Memory
 
 -- there is the one answer, or none was found for lack of memory
 abbrev pub EndsCheck : Left → End → Type 0

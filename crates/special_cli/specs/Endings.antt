@@ -1,23 +1,17 @@
 -- Which words and keys end a call before any child, and what is told of a check.
-use Rattle.ann_outside.specs.Told.{DeskTold}
-use Rattle.std.specs.Prelude.{ℕ, ◌≡◌, ◌⊎◌, if◌then◌else◌, Bool, true, false, List, [], ◌∷◌, take, codes, Option, Some, None, IfSome}
+use Rattle.std.specs.Prelude.{ℕ, ◌≡◌, ◌⊎◌, if◌then◌else◌, Bool, true, false, List, [], take, Option, Some, None}
 use Rattle.std.specs.Io.KnownBytes.{Appends}
 use Rattle.ann_outside.specs.Causes.{Stays}
 use Rattle.journal_model.specs.declared.answer.Answer.{Answer}
 use Rattle.journal_model.specs.declared.answer.Answer.TheVariants.{Stored, Got, Present, Dropped, Renamed}
 use Rattle.journal_model.specs.Output.{answer_line}
 use Rattle.journal_model.specs.declared.entry.Entry.{Entry}
-use Rattle.journal_model.specs.Due.{replies_at}
-use Rattle.journal_model.specs.Projection.{JobFits}
-use Rattle.task_model.specs.declared.setup.Setup.{Setup}
-use Rattle.run_starts.specs.Rounds.{EndsClosed, RanAlone}
-use Rattle.run_command.specs.Runs.{answer_of}
 use Rattle.cli_words.specs.declared.command.Command.{Command}
 use Rattle.cli_words.specs.declared.command.Command.TheVariants.{Check, Info, Init, Run}
 use Rattle.cli_words.specs.declared.command.InitWords.{InitWords}
 use Rattle.cli_words.specs.declared.command.RunWords.{RunWords}
 use Rattle.cli_words.specs.Refusals.{reason_refused, refusal_if, unless}
-use Rattle.special_cli.specs.Openings.{check_opening}
+use Rattle.check_command.specs.Checks.{IsAnswered}
 use Rattle.cli_words.specs.declared.refusals.Reason.{Reason}
 
 -- the key of a check or an info is refused so
@@ -54,22 +48,6 @@ run_in (Some (Init words)) = Some words.program
 run_in (Some (Run words)) = Some words.program
 run_in wish = None
 
--- ---- the journal
-
--- a check has no files, and its content has no chunks
-abbrev pub check_setup : ℕ → Setup
-check_setup stamp = record { work = codes "."; stamp = stamp; chunk = 0 }
-
--- From the opening that the words and the clock give, where it tells, the one task was done as in a run of one start that doesn't
--- offer ASYNC, by a desk that is nobody's, and each job's part fits.
-pub record IsChecked (told : Option ℕ) (key : List ℕ) (journal : List Entry) : Type 0 where
-  pub stamp : ℕ
-  pub clock : IfSome told (λ n. stamp ≡ n)
-  pub desk : DeskTold
-  pub desk' : DeskTold
-  pub ran : RanAlone (check_opening key stamp) (check_setup stamp) false 1 journal desk desk'
-  pub parts : (c j : ℕ) → JobFits (replies_at (check_opening key stamp) journal) journal c j
-
 -- ---- the answer
 
 -- the task did what it was to do
@@ -84,12 +62,6 @@ is_well answer = false
 -- the status of an answer that was printed
 abbrev pub status_of : Answer → ℕ
 status_of answer = if is_well answer then 0 else 1
-
--- There is one answer, the journal's. After it the child was closed, and nothing else was done.
-pub record IsAnswered (journal : List Entry) (answers : List Answer) (answer : Answer) : Type 0 where
-  pub one : answers ≡ answer ∷ []
-  pub given : answer_of journal 1 ≡ Some answer
-  pub closed : EndsClosed journal
 
 -- out gained the text, and the status is the one that goes with it; or at status 5 or 7 it gained the first bytes of the text,
 -- which may be none or all

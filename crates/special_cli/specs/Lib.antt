@@ -5,7 +5,6 @@ pub mod Doings
 pub mod Endings
 pub mod Informs
 pub mod Left
-pub mod Openings
 pub mod Rehearsals
 pub mod Sayings
 pub mod Tells

@@ -8,7 +8,6 @@ mod end;
 mod info;
 mod init;
 pub mod laws;
-mod openings;
 mod outside;
 mod ran;
 mod rehearsal;

@@ -32,7 +32,7 @@ use Rattle.special_cli.specs.Endings.{is_well}
 use Rattle.special_cli.specs.Left.{Left}
 use Rattle.special_cli.specs.Tells.{Flow, IsMemoryTold, IsToldOf, IsWritten, answers_status}
 use Rattle.special_laws.specs.Completeness.{AreAllWell, EndsWell, HasCompleted, IdleLacksMemory, IsKeptQuiet, IsQuiet, RunCompletes, says_memory}
-use Rattle.task_laws.specs.LoneWell.{AreKeysRead}
+use Rattle.task_laws.specs.ChildrenWell.{AreKeysRead}
 use Rattle.task_laws.specs.WentWell.{IsSuccess, success_of}
 use Rattle.task_text.specs.TaskLines.{IsTask, has_chunk}
 use Rattle.task_text.specs.declared.task.Task.{Task}

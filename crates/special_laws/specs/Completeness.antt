@@ -19,7 +19,7 @@ use Rattle.special_cli.specs.Doings.{end_of, made_in}
 use Rattle.special_cli.specs.Left.{Left}
 use Rattle.special_cli.specs.Tells.{Flow, IsToldOf}
 use Rattle.task_input.specs.declared.limits.TheConstants.Limits.{TASKS}
-use Rattle.task_laws.specs.LoneWell.{ChildrenWell}
+use Rattle.task_laws.specs.ChildrenWell.{ChildrenWell}
 use Rattle.task_laws.specs.RunWell.{AreAskedWell}
 use Rattle.task_laws.specs.WentWell.{IsSuccess}
 use Rattle.task_text.specs.declared.task.Task.{Task}

@@ -8,8 +8,9 @@ ghost use Rattle.journal_model.specs.declared.entry.What.TheVariants.{Got};
 ghost use Rattle.journal_model.specs.Journal.{is_tagged};
 ghost use Rattle.journal_model.specs.Wires.{is_heard_in_turn};
 ghost use Rattle.journal_model.specs.Rows.{sample_key, by_main, greeting, check_present, not_closed, no_disk, away, out_of_disk};
-ghost use Rattle.run_starts.specs.Rounds.{ZeroRun};
-ghost use Rattle.special_cli.specs.Endings.{IsChecked, IsTold, LacksMemory};
+ghost use Rattle.run_children.specs.Unserved.{IsUnserved};
+ghost use Rattle.check_command.specs.Checks.{IsChecked};
+ghost use Rattle.special_cli.specs.Endings.{IsTold, LacksMemory};
 ghost use Rattle.ann_outside.specs.Files.{Files};
 ghost use Rattle.child_end.specs.Programs.{HaveStarted};
 ghost use Rattle.child_end.specs.Wires.{is_served_alone};
@@ -38,7 +39,7 @@ pub fn check_present_is_told()
 /// A check whose child can't get ready is told by what the child said of that, and by no other answer.
 pub fn refusal_is_told()
     ensures told { IsTold 1 ⊥ (Some []) (Some (codes "1 notprepared no disk" ++ 10 ∷ [])) no_disk (NotPrepared 8 ∷ []) }
-    ensures run { ZeroRun 1 no_disk 1 (NotPrepared 8) }
+    ensures run { IsUnserved 1 no_disk 1 (NotPrepared 8) }
     ensures alone { (status : ℕ) (out : Option (List ℕ)) (answer : Answer) → IsTold status ⊥ (Some []) out no_disk (answer ∷ []) → answer ≡ NotPrepared 8 }
 {}
 
@@ -58,8 +59,8 @@ pub fn error_is_told()
 /// before which nothing was started has no such run.
 pub fn nochild_is_told()
     ensures told { IsTold 1 ⊥ (Some []) (Some (codes "1 nochild" ++ 10 ∷ [])) gone_early (NoChild ∷ []) }
-    ensures run { ZeroRun 1 gone_early 1 NoChild }
-    ensures unstarted { (answer : Answer) → ZeroRun 1 unstarted 1 answer → ⊥ }
+    ensures run { IsUnserved 1 gone_early 1 NoChild }
+    ensures unstarted { (answer : Answer) → IsUnserved 1 unstarted 1 answer → ⊥ }
 {}
 
 /// The wire of that first check has what the child said and what it was asked. There is one, with the halves of the first start.

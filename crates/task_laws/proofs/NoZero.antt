@@ -1,29 +1,21 @@
--- Where all goes well with the children, no task is claimed without one.
-use Rattle.std.proofs.Common.{◌≡◌, ◌∙◌, ◌⊎◌, inl, inr, ℕ, ◌==◌, Bool, true, false, not, List, [], ◌∷◌, ◌++◌, append_assoc, length, refl, sym, ap, subst, arith}
-use Rattle.std.specs.Prelude.{◌&&◌, cond, if◌then◌else◌, Option, Some, None, is_some, is_none, option_and_then, find, filter, slice_index_or}
+-- Where all goes well with the children, no start failed.
+use Rattle.std.proofs.Common.{◌≡◌, ◌∙◌, ◌⊎◌, inl, inr, ℕ, ◌==◌, Bool, true, false, not, List, [], ◌∷◌, ◌++◌, refl, sym, ap}
+use Rattle.std.specs.Prelude.{◌&&◌, cond, if◌then◌else◌, Option, Some, None, is_some, is_none, option_and_then, find}
 use Rattle.std.specs.List.{list_all, cons_option, last_or}
 use Rattle.std.proofs.lemmas.Bool.{and_parts, or_parts}
-use Rattle.ann_key.specs.Keys.{Parts, key_reading}
-use Rattle.journal_model.specs.declared.answer.Answer.{Answer}
 use Rattle.journal_model.specs.declared.answer.Answer.TheVariants.{Unsent}
 use Rattle.journal_model.specs.declared.verdict.Verdict.{Verdict}
 use Rattle.journal_model.specs.declared.verdict.Why.{Why}
 use Rattle.journal_model.specs.declared.verdict.Why.TheVariants.{Eof, ReadFault, LongLine, Full, Memory, Closed, Foul, Error, Version}
 use Rattle.journal_model.specs.declared.entry.What.{What}
-use Rattle.journal_model.specs.declared.entry.What.TheVariants.{Claim, Start, NoStart, Mute, End, Verdict as Settled, Answer as Answered}
+use Rattle.journal_model.specs.declared.entry.What.TheVariants.{Claim, Start, NoStart, Mute, End, Verdict as Settled}
 use Rattle.journal_model.specs.declared.entry.Entry.{Entry}
-use Rattle.journal_model.specs.declared.opening.Opening.{Opening}
 use Rattle.journal_model.specs.Journal.{any, each_of, first_of, ends, mutes, is_ended, is_mute, verdict_in, verdict_of, end_why, why_of}
-use Rattle.journal_model.specs.Legality.{is_done, count}
+use Rattle.journal_model.specs.Legality.{is_done}
 use Rattle.journal_model.specs.Shares.{is_closed}
-use Rattle.journal_model.proofs.Looks.{any-append}
-use Rattle.task_model.specs.declared.setup.Setup.{Setup}
 use Rattle.task_model.specs.TaskRuns.{refused_at, refusal_of, or_refusal, ended_answer, gone_answer, unready_answer, failed_start}
-use Rattle.crew_worker.specs.Works.{TaskDone}
-use Rattle.run_starts.specs.Starting.{is_any_start, is_unclosed, is_spent, is_start_spent, are_spent, up_to}
-use Rattle.run_starts.specs.Rounds.{turn_of, start_untaken, ZeroAnswers, HasRun}
-use Rattle.task_laws.specs.LoneWell.{is_no_start, is_refusal, is_unclosed_end, is_muting, ChildrenWell, NoneWithoutChild, IsDeskWell, WentWellAlone, IsDoneWell, LoneSucceeds}
-use Rattle.task_laws.proofs.RunsWell.{one_succeeds}
+use Rattle.run_starts.specs.Rounds.{turn_of, start_untaken}
+use Rattle.task_laws.specs.ChildrenWell.{is_no_start, is_refusal, is_unclosed_end, is_muting, ChildrenWell}
 use Rattle.ann_key.proofs.Booleans.{false_is_true as apart}
 
 -- ---- of the entries before a place
@@ -38,7 +30,7 @@ before p (x ∷ xs) ys h =
 
 -- ---- no child is mute, ended unless it was closed, or refused
 
-pub none_mute : (past : List Entry) (c : ℕ) → any is_muting past ≡ false → is_mute past c ≡ false
+none_mute : (past : List Entry) (c : ℕ) → any is_muting past ≡ false → is_mute past c ≡ false
 none_mute [] c h = refl
 none_mute (e ∷ past) c h =
     let parts = or_parts (is_muting e.what) (any is_muting past) h in
@@ -107,21 +99,14 @@ no_refusal past c h = of_first (each_of (verdict_in c 1) past) (none_refused pas
     of_first [] k = refl
     of_first (v ∷ vs) k = none_is (refused_at v) (and_parts (is_none (refused_at v)) (list_all (λ w. is_none (refused_at w)) vs) k).0
 
--- these entries tell of nothing that went wrong with a child
-record AreWell (past : List Entry) : Type 0 where
-  started : any is_no_start past ≡ false
-  heard : any is_muting past ≡ false
-  closed : any is_unclosed_end past ≡ false
-  ready : any is_refusal past ≡ false
-
 -- what is so before a place
-record Calm (past : List Entry) : Type 0 where
-  started : any is_no_start past ≡ false
-  mute : (c : ℕ) → is_mute past c ≡ false
-  closing : (c : ℕ) → (why_of past c ≡ None) ⊎ (why_of past c ≡ Some Closed)
-  refusal : (c : ℕ) → refusal_of past c ≡ None
+pub record Calm (past : List Entry) : Type 0 where
+  pub started : any is_no_start past ≡ false
+  pub mute : (c : ℕ) → is_mute past c ≡ false
+  pub closing : (c : ℕ) → (why_of past c ≡ None) ⊎ (why_of past c ≡ Some Closed)
+  pub refusal : (c : ℕ) → refusal_of past c ≡ None
 
-calm : (past more : List Entry) → ChildrenWell (past ++ more) → Calm past
+pub calm : (past more : List Entry) → ChildrenWell (past ++ more) → Calm past
 calm past more w = record {
   started = before is_no_start past more w.started;
   mute = λ c. none_mute past c (before is_muting past more w.heard);
@@ -177,7 +162,7 @@ last_kept : (d : Option (Option (Option ℕ))) (turns : List (Option (Option ℕ
 last_kept d [] h k = h
 last_kept d (x ∷ turns) h k = last_kept (Some x) turns (and_parts (is_kept x) (list_all is_kept turns) k).0 (and_parts (is_kept x) (list_all is_kept turns) k).1
 
-none_failed : (past : List Entry) → Calm past → failed_start past (start_untaken past) ≡ None
+pub none_failed : (past : List Entry) → Calm past → failed_start past (start_untaken past) ≡ None
 none_failed past k = by_turn (last_or None (each_of turn_of past)) (last_kept None (each_of turn_of past) refl (turns_kept past k.started))
   where
     by_turn : (last : Option (Option (Option ℕ))) → is_last_kept last ≡ true → failed_start past (option_and_then (λ (turn : Option (Option ℕ)). turn) last) ≡ None
@@ -185,99 +170,3 @@ none_failed past k = by_turn (last_or None (each_of turn_of past)) (last_kept No
     by_turn (Some None) h = refl
     by_turn (Some (Some None)) h = apart h
     by_turn (Some (Some (Some c))) h = not_unready past c k
-
--- ---- and none is spent
-
-not_spent : (past : List Entry) (c : ℕ) → Calm past → is_spent past c ≡ false
-not_spent past c k = by_end (k.closing c)
-  where
-    refusal : is_some (refusal_of past c) ≡ false
-    refusal = ap is_some (k.refusal c)
-
-    by_end : (why_of past c ≡ None) ⊎ (why_of past c ≡ Some Closed) → is_spent past c ≡ false
-    by_end (inl e) = let m : is_mute past c ≡ false = k.mute c in let u : is_unclosed (why_of past c) ≡ false = ap is_unclosed e in rw (refusal, m, u) refl
-    by_end (inr e) = let m : is_mute past c ≡ false = k.mute c in let u : is_unclosed (why_of past c) ≡ false = ap is_unclosed e in rw (refusal, m, u) refl
-
--- up to the next start all goes well too
-part_calm : (here xs : List Entry) → AreWell (here ++ xs) → Calm (here ++ up_to is_any_start xs)
-part_calm here xs w = record {
-  started = part is_no_start w.started;
-  mute = λ c. none_mute (here ++ up_to is_any_start xs) c (part is_muting w.heard);
-  closing = λ c. all_closed (here ++ up_to is_any_start xs) c (part is_unclosed_end w.closed);
-  refusal = λ c. no_refusal (here ++ up_to is_any_start xs) c (part is_refusal w.ready);
-}
-  where
-    shorter : (p : What → Bool) (ys : List Entry) → any p ys ≡ false → any p (up_to is_any_start ys) ≡ false
-    shorter p [] h = refl
-    shorter p (y ∷ ys) h =
-        let t = or_parts (p y.what) (any p ys) h in
-        go (is_any_start y.what) t.0 (shorter p ys t.1)
-      where
-        go : (b : Bool) → p y.what ≡ false → any p (up_to is_any_start ys) ≡ false → any p (cond b [] (y ∷ up_to is_any_start ys)) ≡ false
-        go true one rest = refl
-        go false one rest = rw (one, rest) refl
-
-    part : (p : What → Bool) → any p (here ++ xs) ≡ false → any p (here ++ up_to is_any_start xs) ≡ false
-    part p h =
-        let t = or_parts (any p here) (any p xs) (sym (any-append p here xs) ∙ h) in
-        any-append p here (up_to is_any_start xs) ∙ (let one : any p here ≡ false = t.0 in rw (one, shorter p xs t.1) refl)
-
-none_started : (past xs : List Entry) → AreWell (past ++ xs) → any is_no_start xs ≡ false → are_spent past xs ≡ true → count is_any_start xs ≡ 0
-none_started past [] w h k = refl
-none_started past (x ∷ xs) w h k =
-    let started = or_parts (is_no_start x.what) (any is_no_start xs) h in
-    let spent = and_parts (is_start_spent (past ++ x ∷ []) x.what xs) (are_spent (past ++ x ∷ []) xs) k in
-    let after : AreWell ((past ++ x ∷ []) ++ xs) = subst AreWell (sym (append_assoc past (x ∷ []) xs)) w in
-    by_what x.what started.0 spent.0 after (none_started (past ++ x ∷ []) xs after started.1 spent.1)
-  where
-    by_what : (u : What) → is_no_start u ≡ false → is_start_spent (past ++ x ∷ []) u xs ≡ true → AreWell ((past ++ x ∷ []) ++ xs) → count is_any_start xs ≡ 0
-        → length (cond (is_any_start u) (x ∷ filter (λ (y : Entry). is_any_start y.what) xs) (filter (λ (y : Entry). is_any_start y.what) xs)) ≡ 0
-    by_what (Start child slot offer) n s well rest = apart (sym (not_spent ((past ++ x ∷ []) ++ up_to is_any_start xs) child (part_calm (past ++ x ∷ []) xs well)) ∙ s)
-    by_what (NoStart slot) n s well rest = apart (sym n)
-    by_what u n s well rest = rest
-
-pub none_without_child : NoneWithoutChild
-none_without_child limit journal t some w answer z =
-    by_answers (subst P failed z.answers)
-  where
-    all_well : ChildrenWell (z.past ++ record { by = 0; what = Claim t 0 } ∷ record { by = 0; what = Answered t answer } ∷ z.rest)
-    all_well = subst (λ (x : List Entry). ChildrenWell x) z.is w
-
-    well : AreWell z.past
-    well = record {
-      started = before is_no_start z.past (record { by = 0; what = Claim t 0 } ∷ record { by = 0; what = Answered t answer } ∷ z.rest) all_well.started;
-      heard = before is_muting z.past (record { by = 0; what = Claim t 0 } ∷ record { by = 0; what = Answered t answer } ∷ z.rest) all_well.heard;
-      closed = before is_unclosed_end z.past (record { by = 0; what = Claim t 0 } ∷ record { by = 0; what = Answered t answer } ∷ z.rest) all_well.closed;
-      ready = before is_refusal z.past (record { by = 0; what = Claim t 0 } ∷ record { by = 0; what = Answered t answer } ∷ z.rest) all_well.ready;
-    }
-
-    k : Calm z.past
-    k = calm z.past (record { by = 0; what = Claim t 0 } ∷ record { by = 0; what = Answered t answer } ∷ z.rest) all_well
-
-    failed : failed_start z.past (start_untaken z.past) ≡ None
-    failed = none_failed z.past k
-
-    P : Option Answer → Type 0
-    P o = ZeroAnswers limit z.past o t answer
-
-    by_answers : ZeroAnswers limit z.past None t answer → ⊥
-    by_answers a =
-        let zero_starts : count is_any_start z.past ≡ 0 = none_started [] z.past well k.started a.1 in
-        let all : count is_any_start z.past ≡ limit = a.0 in
-        omega arith
-
--- ---- the run
-
-one_well : (o : Opening) (setup : Setup) (limit : ℕ) (journal : List Entry) (done : List TaskDone) (r : TaskDone) → WentWellAlone o setup limit journal done → IsDeskWell o setup journal 0 r.task r.turn r.calls
-    → HasRun o setup limit journal r → IsDoneWell o r
-one_well o setup limit journal done r w desk (inr z) = absurd (none_without_child limit journal r.task w.starts w.children r.answer z.0)
-one_well o setup limit journal done r w desk (inl c) = by_key (key_reading c.run.task.key) refl (w.keys r.task c.run.task c.run.is)
-  where
-    by_key : (x : Option Parts) → key_reading c.run.task.key ≡ x → is_some x ≡ true → IsDoneWell o r
-    by_key None e s = apart s
-    by_key (Some key) e s =
-        one_succeeds o setup journal (record { number = 0; task = r.task; turn = r.turn; calls = r.calls; answer = r.answer }) w.asked
-        (record { run = c.run; answer_is = c.answer; key = key; keyed = e; desk = desk c.run key e })
-
-pub lone_succeeds : LoneSucceeds
-lone_succeeds o setup limit journal done w ran k d h = one_well o setup limit journal done (slice_index_or done k d) w (w.desks k d h) (ran k d h)

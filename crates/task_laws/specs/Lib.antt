@@ -8,5 +8,5 @@ pub mod Retrieval
 pub mod RunWell
 pub mod Sent
 pub mod Rows
-pub mod LoneWell
+pub mod ChildrenWell
 pub mod ToldDesks

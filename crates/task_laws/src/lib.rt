@@ -3,7 +3,6 @@
 
 pub mod files_kept;
 pub mod kept;
-pub mod lone_well;
 pub mod retrieval;
 pub mod rows;
 pub mod run_well;

@@ -19,7 +19,7 @@ use Rattle.run_children.proofs.PoolWhole.{pool_can}
 use Rattle.run_children.proofs.pooling.serve_pool.Goals as goal
 
 pub gather-requires-clause-can : goal.gather-requires-clause-can
-gather-requires-clause-can g c = λ κs fresh. pool_can c.args.bench.core.opening c.args.bench.core.journal (link_of c.args.link.ear c.args.link.mouth) false c.requires.can
+gather-requires-clause-can g c = λ κs fresh. pool_can c.args.bench.core.opening c.args.bench.core.journal (link_of c.args.link.ear c.args.link.mouth) false c.requires.ready.can
 
 pub settle-requires-clause-fits : goal.settle-requires-clause-fits
 settle-requires-clause-fits g c = λ κs fresh.
@@ -44,11 +44,11 @@ settle-requires-in-NoMemory-clause-room g c = λ κs fresh.
 
 pub close_child-requires-clause-started : goal.close_child-requires-clause-started
 close_child-requires-clause-started g c =
-    (roomless_may c.args.bench.core.opening c.args.bench.core.journal c.gather.new.core.journal (link_of c.args.link.ear c.args.link.mouth) (link_of c.in-NoRoom.link.ear c.in-NoRoom.link.mouth) _ _ c.requires.can c.in-NoRoom.ensures.gathers).0
+    (roomless_may c.args.bench.core.opening c.args.bench.core.journal c.gather.new.core.journal (link_of c.args.link.ear c.args.link.mouth) (link_of c.in-NoRoom.link.ear c.in-NoRoom.link.mouth) _ _ c.requires.ready.can c.in-NoRoom.ensures.gathers).0
 
 pub close_child-requires-clause-idle : goal.close_child-requires-clause-idle
 close_child-requires-clause-idle g c =
-    (roomless_may c.args.bench.core.opening c.args.bench.core.journal c.gather.new.core.journal (link_of c.args.link.ear c.args.link.mouth) (link_of c.in-NoRoom.link.ear c.in-NoRoom.link.mouth) _ _ c.requires.can c.in-NoRoom.ensures.gathers).1
+    (roomless_may c.args.bench.core.opening c.args.bench.core.journal c.gather.new.core.journal (link_of c.args.link.ear c.args.link.mouth) (link_of c.in-NoRoom.link.ear c.in-NoRoom.link.mouth) _ _ c.requires.ready.can c.in-NoRoom.ensures.gathers).1
 
 pub returns-in-Whole-clause-served : goal.returns-in-Whole-clause-served
 returns-in-Whole-clause-served g c =
@@ -59,10 +59,10 @@ returns-in-Whole-clause-served g c =
     c.args.link.ear c.args.link.mouth (g.P.Programs.told c.args.programs.now) (g.P.Programs.told c.settle.new.programs) c.args.wires.now.items c.settle.new.wires.items) c.view-program.ensures
     (links_end o c.args.setting.now.plan.now.setup c.args.setting.now.plan.now.starts c.len-jobs.result c.view-program.result.now c.args.bench.core.journal c.gather.new.core.journal new (link_of c.args.link.ear c.args.link.mouth) (g.P.Programs.told c.args.programs.now) (g.P.Programs.told c.gather.new.programs) (g.P.Programs.told c.settle.new.programs)
     (map seat_value c.in-Whole.field-0.seats.items) (map (λ l. link_of l.ear l.mouth) c.in-Whole.field-0.links.items) (map (λ l. link_of l.ear l.mouth) c.serve_links-links.result.0.items) (map g.K.Desk.told c.args.bench.desks.items) (map g.K.Desk.told c.serve_links-links.result.1.desks.items)
-    c.args.wires.now.items c.settle.new.wires.items jobs c.serve_links-links.result.2 c.in-Whole.ensures.gathers.0 c.requires.can c.requires.last_child
+    c.args.wires.now.items c.settle.new.wires.items jobs c.serve_links-links.result.2 c.in-Whole.ensures.gathers.0 c.requires.ready.can c.requires.ready.last_child
     (subst (λ (w : Opening). MatchResult c.serve_links-links.result.2 (λ _. ServesLinks w c.args.setting.now.plan.now.setup c.gather.new.core.journal new (map (λ l. link_of l.ear l.mouth) c.in-Whole.field-0.links.items) (map (λ l. link_of l.ear l.mouth) c.serve_links-links.result.0.items) (map g.K.Desk.told c.args.bench.desks.items) (map g.K.Desk.told c.serve_links-links.result.1.desks.items)) (λ _. StarvedLinks c.gather.new.core.journal new (map (λ l. link_of l.ear l.mouth) c.in-Whole.field-0.links.items) (map (λ l. link_of l.ear l.mouth) c.serve_links-links.result.0.items) (map g.K.Desk.told c.args.bench.desks.items) (map g.K.Desk.told c.serve_links-links.result.1.desks.items)))
     c.gather.ensures.core.opening c.serve_links-links.ensures.serves)
-    (subst (λ (w : Opening). Legal w new) (c.serve_links-links.ensures.core.opening ∙ c.gather.ensures.core.opening) (c.serve_links-links.ensures.core.legal (c.gather.ensures.core.legal c.requires.can.can.serves.legal)))
+    (subst (λ (w : Opening). Legal w new) (c.serve_links-links.ensures.core.opening ∙ c.gather.ensures.core.opening) (c.serve_links-links.ensures.core.legal (c.gather.ensures.core.legal c.requires.ready.can.can.serves.legal)))
     c.serve_links-links.ensures.same (if_ok c.serve_links-links.result.2 (λ h. All-map (λ (l : LinkValue). IsHeld new l.ear l.mouth) (λ l. link_of l.ear l.mouth) c.serve_links-links.result.0.items h) c.serve_links-links.ensures.held)
     (all_mapped (λ (l : LinkValue). l.mouth.child ≡ l.ear.child) (λ l. link_of l.ear l.mouth) (λ l. l.one_child) c.serve_links-links.result.0.items) c.settle.ensures.laid c.settle.ensures.starts c.settle.ensures.later)
 
@@ -78,9 +78,9 @@ returns-in-NoMemory-clause-served g c =
     c.args.link.ear c.args.link.mouth (g.P.Programs.told c.args.programs.now) (g.P.Programs.told c.settle-in-NoMemory.new.programs) c.args.wires.now.items c.settle-in-NoMemory.new.wires.items) c.view-program.ensures
     (starved_ends o c.args.setting.now.plan.now.setup c.args.setting.now.plan.now.starts c.len-jobs.result c.view-program.result.now c.args.bench.core.journal c.gather.new.core.journal new (link_of c.args.link.ear c.args.link.mouth) (g.P.Programs.told c.args.programs.now) (g.P.Programs.told c.gather.new.programs) (g.P.Programs.told c.settle-in-NoMemory.new.programs)
     (map seat_value c.in-NoMemory.field-0.seats.items) (map (λ l. link_of l.ear l.mouth) c.in-NoMemory.field-0.links.items) (map g.K.Desk.told c.args.bench.desks.items)
-    c.args.wires.now.items c.settle-in-NoMemory.new.wires.items jobs (λ w. refl) c.in-NoMemory.ensures.gathers.0 c.requires.can c.requires.last_child
+    c.args.wires.now.items c.settle-in-NoMemory.new.wires.items jobs (λ w. refl) c.in-NoMemory.ensures.gathers.0 c.requires.ready.can c.requires.ready.last_child
     (subst (λ xs. ClosesAll (children_of (map (λ l. link_of l.ear l.mouth) xs)) c.gather.new.core.journal new) c.deref.ensures.value c.close_links.ensures.closes)
-    (subst (λ (w : Opening). Legal w new) (c.close_links.ensures.core.opening ∙ c.gather.ensures.core.opening) (c.close_links.ensures.core.legal (c.gather.ensures.core.legal c.requires.can.can.serves.legal)))
+    (subst (λ (w : Opening). Legal w new) (c.close_links.ensures.core.opening ∙ c.gather.ensures.core.opening) (c.close_links.ensures.core.legal (c.gather.ensures.core.legal c.requires.ready.can.can.serves.legal)))
     (all_mapped (λ (l : LinkValue). l.mouth.child ≡ l.ear.child) (λ l. link_of l.ear l.mouth) (λ l. l.one_child) c.in-NoMemory.field-0.links.items) c.settle-in-NoMemory.ensures.laid c.settle-in-NoMemory.ensures.starts c.settle-in-NoMemory.ensures.later)
 
 pub returns-in-NoMemory-clause-room : goal.returns-in-NoMemory-clause-room
@@ -102,8 +102,8 @@ returns-in-NoRoom-clause-served g c =
     c.args.link.ear c.args.link.mouth (g.P.Programs.told c.args.programs.now) (g.P.Programs.told c.finish.new.programs) c.args.wires.now.items c.finish.new.wires.items) c.view-program.ensures
     (starved_ends o c.args.setting.now.plan.now.setup c.args.setting.now.plan.now.starts c.len-jobs.result c.view-program.result.now c.args.bench.core.journal c.gather.new.core.journal new (link_of c.args.link.ear c.args.link.mouth) (g.P.Programs.told c.args.programs.now) (g.P.Programs.told c.gather.new.programs) (g.P.Programs.told c.finish.new.programs)
     _ _ (map g.K.Desk.told c.args.bench.desks.items) c.args.wires.now.items c.finish.new.wires.items jobs (λ w. absurd w)
-    (roomless_pool o c.len-jobs.result c.view-program.result.now c.args.bench.core.journal c.gather.new.core.journal (link_of c.args.link.ear c.args.link.mouth) link (g.P.Programs.told c.args.programs.now) (g.P.Programs.told c.gather.new.programs) c.requires.can c.in-NoRoom.ensures.gathers) c.requires.can c.requires.last_child
+    (roomless_pool o c.len-jobs.result c.view-program.result.now c.args.bench.core.journal c.gather.new.core.journal (link_of c.args.link.ear c.args.link.mouth) link (g.P.Programs.told c.args.programs.now) (g.P.Programs.told c.gather.new.programs) c.requires.ready.can c.in-NoRoom.ensures.gathers) c.requires.ready.can c.requires.ready.last_child
     (closes_alone link c.gather.new.core.journal new c.close_child.ensures.closes)
-    (subst (λ (w : Opening). Legal w new) (c.close_child.ensures.core.opening ∙ c.gather.ensures.core.opening) (c.close_child.ensures.core.legal (c.gather.ensures.core.legal c.requires.can.can.serves.legal)))
+    (subst (λ (w : Opening). Legal w new) (c.close_child.ensures.core.opening ∙ c.gather.ensures.core.opening) (c.close_child.ensures.core.legal (c.gather.ensures.core.legal c.requires.ready.can.can.serves.legal)))
     (all_mapped (λ (l : LinkValue). l.mouth.child ≡ l.ear.child) (λ l. link_of l.ear l.mouth) (λ l. l.one_child) (c.in-NoRoom.link ∷ []))
     (laid_alone link c.args.wires.now.items c.finish.new.wires.items c.finish.ensures.laid) c.finish.ensures.starts c.finish.ensures.later)

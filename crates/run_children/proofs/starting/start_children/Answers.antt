@@ -1,12 +1,14 @@
 use Rattle.ann_outside.specs.Told.{DeskTold, ProgramsTold}
-use Rattle.std.proofs.Common.{◌+◌, arith, inl, inr, map, subst, sym, ap, refl, ◌∙◌, List, length, true, vec_len}
+use Rattle.std.proofs.Common.{◌+◌, map, vec_len, arith, inl, inr, subst, sym, ap, refl, ◌∙◌, List, length, true}
 use Rattle.std.proofs.lemmas.Nat.{mul-le}
+use Rattle.std.proofs.lemmas.List.{length-map}
 use Rattle.journal_model.specs.declared.opening.Opening.{Opening}
 use Rattle.journal_model.specs.Legality.{Legal}
 use Rattle.host_core.specs.Steps.{are_all_claimed}
 use Rattle.child_link.specs.Wires.{WireValue}
 use Rattle.run_starts.proofs.Ending.{cores_both, kept_begin, left_nothing, left_some}
-use Rattle.run_children.proofs.Between.{at_err, at_ok, at_rest, jobs_begin}
+use Rattle.run_children.proofs.Between.{at_err, at_ok, at_rest, jobs_begin, still_many}
+use Rattle.run_children.specs.Runs.{AreDesks, IsHanded}
 use Rattle.run_children.proofs.Objects.{wires_many}
 use Rattle.run_children.proofs.Steps.{broken_kept, broken_started, next_job_start}
 use Rattle.run_children.proofs.starting.start_children.Goals as goal
@@ -14,11 +16,10 @@ use Rattle.ann_key.proofs.Numbers.{one_more}
 
 pub children-init : goal.children-init
 children-init g c = record {
-  between = jobs_begin c.args.bench.core.opening c.args.setting.now.plan.now.setup c.args.setting.now.plan.now.offers c.args.setting.now.plan.now.starts c.args.bench.core.journal (map g.K.Desk.told c.args.bench.desks.items) true c.requires.empty;
-  kept = kept_begin c.args.setting.now.plan.now.program c.args.bench.core.journal (g.P.Programs.told c.args.programs.now) c.args.wires.now.items c.requires.empty c.requires.none;
+  between = jobs_begin c.args.bench.core.opening c.args.setting.now.plan.now.setup c.args.setting.now.plan.now.offers c.args.setting.now.plan.now.starts c.args.bench.core.journal (map g.K.Desk.told c.args.bench.desks.items) true c.requires.may.empty;
+  kept = kept_begin c.args.setting.now.plan.now.program c.args.bench.core.journal (g.P.Programs.told c.args.programs.now) c.args.wires.now.items c.requires.may.empty c.requires.may.none;
   core = record { opening = refl; legal = λ h. h };
-  room = ((let none = c.args.wires.now.ok.0 ∙ ap (λ (xs : List _). length xs) c.requires.none in omega (arith, none)), refl);
-  desks = refl;
+  room = ((let none = c.args.wires.now.ok.0 ∙ ap (λ (xs : List _). length xs) c.requires.may.none in omega (arith, none)), refl);
 }
 
 pub returns-then-unclaimed-eq0-clause-started : goal.returns-then-unclaimed-eq0-clause-started
@@ -38,32 +39,26 @@ returns-then-unclaimed-eq0-clause-kept g c = c.children.invariant.kept
 pub returns-then-unclaimed-eq0-clause-core : goal.returns-then-unclaimed-eq0-clause-core
 returns-then-unclaimed-eq0-clause-core g c = c.children.invariant.core
 
-pub returns-then-unclaimed-eq0-clause-desks : goal.returns-then-unclaimed-eq0-clause-desks
-returns-then-unclaimed-eq0-clause-desks g c = c.children.invariant.desks
+pub start_one-after-requires-clause-handed : goal.start_one-after-requires-clause-handed
+start_one-after-requires-clause-handed g c = λ κs fresh.
+    subst (λ (w : Opening). IsHanded w c.args.setting.now.tasks.now c.args.setting.now.plan.now.setup) (sym c.children.invariant.core.opening) c.requires.handed
 
-pub start_one-after-requires-clause-legal : goal.start_one-after-requires-clause-legal
-start_one-after-requires-clause-legal g c = λ κs fresh. subst (λ (w : Opening). Legal w c.children.bench.core.journal) (sym c.children.invariant.core.opening) c.children.invariant.between.legal
-
-pub start_one-after-requires-clause-calm : goal.start_one-after-requires-clause-calm
-start_one-after-requires-clause-calm g c = λ κs fresh. at_rest c.children.invariant.between
-
-pub start_one-after-requires-clause-few : goal.start_one-after-requires-clause-few
-start_one-after-requires-clause-few g c = λ κs fresh. (
-    let many = wires_many c.children.invariant.kept ∙ sym c.children.wires.ok.0 in
-    let used = c.children.invariant.room.0 in
-    let below = c.children-test.true in
-    let end = c.children.auto.made-end in
-    let most = mul-le c.children.made (vec_len c.args.bench.desks) 16 64 (let starts = c.requires.starts.1 in omega (arith, below, end, starts)) c.requires.desks.1 in
-    omega (arith, many, used, most))
-
-pub start_one-after-requires-clause-left : goal.start_one-after-requires-clause-left
-start_one-after-requires-clause-left g c = λ κs fresh. left_some c.children.bench.core.opening c.children.bench.core.journal c.unclaimed.result c.unclaimed.ensures c.if-unclaimed-eq0.false
-
-pub start_one-after-requires-clause-tasks : goal.start_one-after-requires-clause-tasks
-start_one-after-requires-clause-tasks g c = λ κs fresh. (ap (λ (w : Opening). w.tasks) c.children.invariant.core.opening ∙ c.requires.tasks.0, c.requires.tasks.1)
+pub start_one-after-requires-clause-may : goal.start_one-after-requires-clause-may
+start_one-after-requires-clause-may g c = λ κs fresh. record {
+  legal = subst (λ (w : Opening). Legal w c.children.bench.core.journal) (sym c.children.invariant.core.opening) c.children.invariant.between.legal;
+  calm = at_rest c.children.invariant.between;
+  few =
+      let many = wires_many c.children.invariant.kept ∙ sym c.children.wires.ok.0 in
+      let used = c.children.invariant.room.0 in
+      let below = c.children-test.true in
+      let end = c.children.auto.made-end in
+      let most = mul-le c.children.made (vec_len c.args.bench.desks) 16 64 (let starts = c.requires.may.starts.1 in omega (arith, below, end, starts)) c.requires.may.desks.1 in
+      omega (arith, many, used, most);
+  left = left_some c.children.bench.core.opening c.children.bench.core.journal c.unclaimed.result c.unclaimed.ensures c.if-unclaimed-eq0.false;
+}
 
 pub start_one-after-requires-clause-desks : goal.start_one-after-requires-clause-desks
-start_one-after-requires-clause-desks g c = λ κs fresh. (let same = c.children.invariant.desks in let some = c.requires.desks.0 in let few = c.requires.desks.1 in (omega (arith, same, some), omega (arith, same, few)))
+start_one-after-requires-clause-desks g c = λ κs fresh. subst AreDesks (sym (c.children.bench.desks.ok.0 ∙ sym (length-map c.children.bench.desks.items g.K.Desk.told) ∙ still_many c.children.invariant.between ∙ length-map c.args.bench.desks.items g.K.Desk.told ∙ sym c.args.bench.desks.ok.0)) c.requires.may.desks
 
 pub start_one-after-requires-clause-room : goal.start_one-after-requires-clause-room
 start_one-after-requires-clause-room g c = λ κs fresh. (
@@ -71,10 +66,10 @@ start_one-after-requires-clause-room g c = λ κs fresh. (
     let end = c.children.auto.made-end in
     let used = c.children.invariant.room.0 in
     let room = c.children.invariant.room.1 in
-    let same = c.children.invariant.desks in
+    let same = c.children.bench.desks.ok.0 ∙ sym (length-map c.children.bench.desks.items g.K.Desk.told) ∙ still_many c.children.invariant.between ∙ length-map c.args.bench.desks.items g.K.Desk.told ∙ sym c.args.bench.desks.ok.0 in
     let one = one_more c.children.made (vec_len c.args.bench.desks) in
     let most = mul-le (c.children.made + 1) (vec_len c.args.bench.desks) c.args.setting.now.plan.now.starts (vec_len c.args.bench.desks) (omega (arith, below, end)) (omega arith) in
-    let all = c.requires.room in
+    let all = c.requires.may.room in
     omega (arith, used, room, same, one, most, all))
 
 pub returns-in-Err-clause-started : goal.returns-in-Err-clause-started
@@ -119,9 +114,6 @@ returns-in-Err-clause-kept g c =
 pub returns-in-Err-clause-core : goal.returns-in-Err-clause-core
 returns-in-Err-clause-core g c = cores_both c.children.invariant.core c.start_one-after.ensures.core
 
-pub returns-in-Err-clause-desks : goal.returns-in-Err-clause-desks
-returns-in-Err-clause-desks g c = c.start_one-after.ensures.desks ∙ c.children.invariant.desks
-
 pub children-preserved : goal.children-preserved
 children-preserved g c =
     let o = c.args.bench.core.opening in
@@ -145,10 +137,9 @@ children-preserved g c =
       kept = after_one.1;
       core = cores_both c.children.invariant.core c.start_one-after.ensures.core;
       room = (
-        (let was = c.children.invariant.room.0 in let now = c.start_one-after.ensures.room.0 in let same = c.children.invariant.desks in let one = one_more c.children.made (vec_len c.args.bench.desks) in omega (arith, was, now, same, one)),
+        (let was = c.children.invariant.room.0 in let now = c.start_one-after.ensures.room.0 in let same = c.children.bench.desks.ok.0 ∙ sym (length-map c.children.bench.desks.items g.K.Desk.told) ∙ still_many c.children.invariant.between ∙ length-map c.args.bench.desks.items g.K.Desk.told ∙ sym c.args.bench.desks.ok.0 in let one = one_more c.children.made (vec_len c.args.bench.desks) in omega (arith, was, now, same, one)),
         c.start_one-after.ensures.room.1 ∙ c.children.invariant.room.1,
       );
-      desks = c.start_one-after.ensures.desks ∙ c.children.invariant.desks;
     }
 
 pub returns-clause-started : goal.returns-clause-started
@@ -166,6 +157,3 @@ returns-clause-kept g c = c.children.invariant.kept
 
 pub returns-clause-core : goal.returns-clause-core
 returns-clause-core g c = c.children.invariant.core
-
-pub returns-clause-desks : goal.returns-clause-desks
-returns-clause-desks g c = c.children.invariant.desks

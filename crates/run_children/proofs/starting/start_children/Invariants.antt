@@ -1,4 +1,4 @@
-use Rattle.std.proofs.Common.{◌≡◌, ◌≤◌, ◌*◌, map, true, vec_len, vec_capacity}
+use Rattle.std.proofs.Common.{map, ◌≡◌, ◌≤◌, ◌*◌, true, vec_len, vec_capacity}
 use Rattle.child_start.specs.Cores.{IsSameCore}
 use Rattle.run_starts.specs.Stints.{Kept}
 use Rattle.run_children.specs.Starts.{JobsBetween}
@@ -11,5 +11,4 @@ invariant-children g l = record {
       l.wires.items;
   core : IsSameCore l.initial.bench.core l.bench.core;
   room : (vec_len l.wires ≤ l.made * vec_len l.initial.bench.desks) × (vec_capacity l.wires ≡ vec_capacity l.initial.wires);
-  desks : vec_len l.bench.desks ≡ vec_len l.initial.bench.desks;
 }

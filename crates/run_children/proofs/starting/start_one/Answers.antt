@@ -1,155 +1,81 @@
 use Rattle.ann_outside.specs.Told.{DeskTold, ProgramsTold}
-use Rattle.std.proofs.Common.{◌<◌, Bool, List, ℕ, arith, false, map, refl, sym, ap, subst, ◌∙◌, length, None, true}
+use Rattle.std.proofs.Common.{◌≡◌, ◌<◌, ◌∙◌, ℕ, List, Bool, true, inl, map, sym, ap, subst, arith, length}
 use Rattle.std.specs.Prelude.{IsErr, is_ok}
 use Rattle.std.proofs.lemmas.List.{length-map}
-use Rattle.ann_outside.specs.Causes.{AddsOne}
-use Rattle.ann_outside.specs.Desks.{no_counts}
-use Rattle.journal_model.specs.declared.answer.Answer.{Answer}
-use Rattle.journal_model.specs.declared.answer.Answer.TheVariants.{StartFault}
-use Rattle.journal_model.specs.declared.entry.What.TheVariants.{Start, NoStart}
-use Rattle.journal_model.specs.declared.opening.Opening.{Opening}
-use Rattle.journal_model.specs.Legality.{Legal}
-use Rattle.child_link.specs.Wires.{WireValue}
-use Rattle.child_end.proofs.Held.{lone_held}
-use Rattle.crew_worker.specs.KnownLayouts.{IsBook}
-use Rattle.run_starts.specs.Stints.{AnswersOne, TurnsAway, next_child}
-use Rattle.run_starts.proofs.Leaving.{starts_child, starts_none}
-use Rattle.run_starts.proofs.Stinting.{greeting_rests, greeting_started}
-use Rattle.run_starts.proofs.Meeting.{came_ready, came_some, came_unready}
-use Rattle.run_starts.proofs.Unready.{IsUnready, away_stint, fault_rests, fault_stint}
-use Rattle.run_children.specs.Servings.{FirstServed}
-use Rattle.run_children.specs.Starts.{OneJobStart}
-use Rattle.run_children.proofs.Firsts.{first_err, first_ok}
-use Rattle.run_children.proofs.Objects.{one_all}
-use Rattle.run_children.proofs.PoolStretch.{greeted_count, greeted_pool, greeted_slot, greeted_unclaimed}
-use Rattle.run_children.proofs.Stretching.{away_idle, away_quiet, can_be_served, fault_idle, fault_quiet, job_start, more_than, quiet_none, stint_any}
-use Rattle.run_children.proofs.starting.start_one.Goals as goal
 use Rattle.ann_key.proofs.Numbers.{ok_no_err}
+use Rattle.child_link.specs.Wires.{WireValue}
+use Rattle.journal_model.specs.declared.opening.Opening.{Opening}
+use Rattle.run_children.specs.Runs.{IsHanded}
+use Rattle.run_children.specs.Servings.{FirstServed, StandsReady}
+use Rattle.run_children.specs.Starts.{OneJobStart, RunLacksMemory}
+use Rattle.run_children.proofs.Firsts.{first_err, first_ok}
+use Rattle.run_children.proofs.starting.start_one.Goals as goal
 
-pub serve_child-bench-requires-clause-can : goal.serve_child-bench-requires-clause-can
-serve_child-bench-requires-clause-can g c = λ κs fresh.
-    can_be_served c.greet.new.core.opening c.args.bench.core.journal c.greet.new.core.journal c.args.offer c.in-Child.link.ear.child c.in-Child.ensures.tells.0
-    (subst (λ (w : Opening). Legal w c.args.bench.core.journal) (sym c.greet.ensures.core.opening) c.requires.legal) (c.greet.ensures.core.legal c.requires.legal)
-    c.in-Child.link.ear c.in-Child.link.mouth c.in-Some.tagged refl (came_ready c.greet.new.core.journal c.in-Child.link.ear.child c.in-Child.came c.in-Some.tagged (sym c.in-Some.ensures) c.in-Child.ensures.tells.1).0 (came_ready c.greet.new.core.journal c.in-Child.link.ear.child c.in-Child.came c.in-Some.tagged (sym c.in-Some.ensures) c.in-Child.ensures.tells.1).1
-    (subst (λ (w : Opening). IsBook w.notes) c.opening.ensures c.know_book.ensures) c.requires.calm c.in-Child.ensures.wired
+pub begin_one-requires-clause-room : goal.begin_one-requires-clause-room
+begin_one-requires-clause-room g c = λ κs fresh. (let some = c.requires.desks.0 in let room = c.requires.room in omega (arith, some, room))
 
-pub serve_child-bench-requires-clause-few : goal.serve_child-bench-requires-clause-few
-serve_child-bench-requires-clause-few g c = λ κs fresh. (
-    let one = greeted_count c.args.bench.core.opening c.args.bench.core.journal c.greet.new.core.journal c.args.offer c.in-Child.link.ear.child c.in-Child.ensures.tells.0 in
-    let few = c.requires.few in
-    omega (arith, one, few))
+pub serve_child-bench-requires-clause-handed : goal.serve_child-bench-requires-clause-handed
+serve_child-bench-requires-clause-handed g c = λ κs fresh.
+    subst (λ (w : Opening). IsHanded w c.args.setting.now.tasks.now c.args.setting.now.plan.now.setup) (sym c.begin_one.ensures.core.opening) c.requires.handed
 
-pub serve_child-bench-requires-clause-pool : goal.serve_child-bench-requires-clause-pool
-serve_child-bench-requires-clause-pool g c = λ κs fresh plain.
-    greeted_pool c.args.bench.core.opening c.args.bench.core.journal c.greet.new.core.journal c.args.offer c.in-Child.link.ear.child c.in-Child.ensures.tells.0 (came_ready c.greet.new.core.journal c.in-Child.link.ear.child c.in-Child.came c.in-Some.tagged (sym c.in-Some.ensures) c.in-Child.ensures.tells.1).0 (sym (came_ready c.greet.new.core.journal c.in-Child.link.ear.child c.in-Child.came c.in-Some.tagged (sym c.in-Some.ensures) c.in-Child.ensures.tells.1).1 ∙ plain)
+pub serve_child-bench-requires-clause-ready : goal.serve_child-bench-requires-clause-ready
+serve_child-bench-requires-clause-ready g c = λ κs fresh.
+    subst (λ (w : Opening). StandsReady w c.begin_one.new.core.journal c.in-Ready.child.link.ear c.in-Ready.child.link.mouth c.in-Ready.child.tagged) (sym c.begin_one.ensures.core.opening) c.in-Ready.ensures.begins.0.stands
 
-pub serve_child-bench-requires-clause-last : goal.serve_child-bench-requires-clause-last
-serve_child-bench-requires-clause-last g c = λ κs fresh. greeted_slot c.args.bench.core.opening c.args.bench.core.journal c.greet.new.core.journal c.args.offer c.in-Child.link.ear.child c.in-Child.ensures.tells.0
-
-pub serve_child-bench-requires-clause-since : goal.serve_child-bench-requires-clause-since
-serve_child-bench-requires-clause-since g c = λ κs fresh. greeted_unclaimed c.args.bench.core.opening c.args.bench.core.journal c.greet.new.core.journal c.args.offer c.in-Child.link.ear.child c.in-Child.ensures.tells.0
-
-pub serve_child-bench-requires-clause-last_child : goal.serve_child-bench-requires-clause-last_child
-serve_child-bench-requires-clause-last_child g c = λ κs fresh. (
-    c.in-Child.ensures.tells.0.next
-    ∙ sym (greeted_count c.args.bench.core.opening c.args.bench.core.journal c.greet.new.core.journal c.args.offer c.in-Child.link.ear.child c.in-Child.ensures.tells.0))
-
-pub turn_away-requires-clause-rest : goal.turn_away-requires-clause-rest
-turn_away-requires-clause-rest g c = greeting_rests c.args.bench.core.journal c.greet.new.core.journal c.args.offer c.in-Child.link.ear.child c.in-Child.ensures.tells.0 c.requires.calm.idle
-
-pub turn_away-requires-clause-started : goal.turn_away-requires-clause-started
-turn_away-requires-clause-started g c = greeting_started c.args.bench.core.journal c.greet.new.core.journal c.args.offer c.in-Child.link.ear.child c.in-Child.ensures.tells.0
-
-pub unready_answer-requires : goal.unready_answer-requires
-unready_answer-requires g c = came_some c.greet.new.core.journal c.in-Child.link.ear.child c.in-Child.came (sym c.in-None.ensures) c.in-Child.ensures.tells.1
-
-pub answer_one-requires-clause-rest : goal.answer_one-requires-clause-rest
-answer_one-requires-clause-rest g c =
-    fault_rests c.args.bench.core.opening c.args.setting.now.plan.now.setup c.args.setting.now.plan.now.starts c.args.offer c.args.bench.core.journal c.greet.new.core.journal c.greet.new.core.journal (record { counts = no_counts; files = None; log = None }) c.requires.left c.requires.calm.idle c.in-StartFault.ensures.tells
+pub serve_child-bench-requires-clause-room : goal.serve_child-bench-requires-clause-room
+serve_child-bench-requires-clause-room g c = λ κs fresh.
+    let same : _ ≡ _ = c.begin_one.new.wires.ok.0 ∙ ap (λ (ws : List _). length ws) c.in-Ready.ensures.begins.1 ∙ sym c.args.wires.now.ok.0 in
+    let room = c.requires.room in
+    let capacity = c.begin_one.ensures.room.1 in
+    omega (arith, same, room, capacity)
 
 pub returns-in-Ok-clause-starts : goal.returns-in-Ok-clause-starts
 returns-in-Ok-clause-starts g c =
     let o = c.args.bench.core.opening in
     let old = c.args.bench.core.journal in
-    let mid = c.greet.new.core.journal in
+    let mid = c.begin_one.new.core.journal in
     let new = c.serve_child-bench.result.0.core.journal in
+    let b = c.in-Ready.ensures.begins.0 in
+    let link = c.in-Ready.child.link in
     let desks : List DeskTold = map g.K.Desk.told c.args.bench.desks.items in
     let desks' : List DeskTold = map g.K.Desk.told c.serve_child-bench.result.0.desks.items in
     let before : ProgramsTold = g.P.Programs.told c.args.programs.now in
-    let between : ProgramsTold = g.P.Programs.told c.greet.new.programs in
+    let between : ProgramsTold = g.P.Programs.told c.begin_one.new.programs in
     let after : ProgramsTold = g.P.Programs.told c.serve_child-bench.new.programs in
-    let wires : List WireValue = c.args.wires.now.items in
+    let wires : List WireValue = c.begin_one.new.wires.items in
     let wires' : List WireValue = c.serve_child-bench.new.wires.items in
     let r = c.serve_child-bench.result.1 in
-    let served = subst (λ (w : Opening). FirstServed (IsErr r) w c.args.setting.now.plan.now.setup c.args.setting.now.plan.now.starts c.args.setting.now.plan.now.program mid new desks desks' (is_ok r) c.in-Child.link.ear c.in-Child.link.mouth between after wires wires') c.greet.ensures.core.opening c.serve_child-bench.ensures.served in
-    let adds : AddsOne before.starts between.starts (c.args.setting.now.plan.now.program, true) = subst (λ (p : List ℕ). AddsOne before.starts between.starts (p, true)) c.view-program.ensures c.in-Child.ensures.starts in
-    let legal' : Legal o mid = subst (λ (w : Opening). Legal w mid) c.greet.ensures.core.opening (c.greet.ensures.core.legal c.requires.legal) in
-    subst (λ (next : Bool). OneJobStart o c.args.setting.now.plan.now.setup c.args.setting.now.plan.now.starts c.args.offer next true c.args.setting.now.plan.now.program old new desks desks' before after wires wires') (sym c.is_offered.ensures)
-    (first_ok o c.args.setting.now.plan.now.setup c.args.setting.now.plan.now.starts c.args.offer c.in-Some.tagged old mid new desks desks' (IsErr r) c.args.setting.now.plan.now.program c.in-Child.link.ear c.in-Child.link.mouth before between after wires wires'
-    c.requires.legal c.requires.left c.in-Child.ensures.tells.0 legal' (came_ready c.greet.new.core.journal c.in-Child.link.ear.child c.in-Child.came c.in-Some.tagged (sym c.in-Some.ensures) c.in-Child.ensures.tells.1).0 (came_ready c.greet.new.core.journal c.in-Child.link.ear.child c.in-Child.came c.in-Some.tagged (sym c.in-Some.ensures) c.in-Child.ensures.tells.1).1 adds c.in-Child.ensures.later c.in-Child.ensures.numbers (is_ok r) (ap is_ok c.in-Ok.is) (ok_no_err r _ c.in-Ok.is) served)
+    let served = subst (λ (w : Opening). FirstServed (IsErr r) w c.args.setting.now.plan.now.setup c.args.setting.now.plan.now.starts c.args.setting.now.plan.now.program mid new desks desks' (is_ok r) link.ear link.mouth between after wires wires') c.begin_one.ensures.core.opening c.serve_child-bench.ensures.served in
+    subst (λ (ws : List WireValue). OneJobStart o c.args.setting.now.plan.now.setup c.args.setting.now.plan.now.starts c.args.offer c.is_offered.result true c.args.setting.now.plan.now.program old new desks desks' before after ws wires') c.in-Ready.ensures.begins.1
+    (subst (λ (next : Bool). OneJobStart o c.args.setting.now.plan.now.setup c.args.setting.now.plan.now.starts c.args.offer next true c.args.setting.now.plan.now.program old new desks desks' before after wires wires') (sym c.is_offered.ensures)
+    (first_ok o c.args.setting.now.plan.now.setup c.args.setting.now.plan.now.starts c.args.offer c.in-Ready.child.tagged old mid new desks desks' (IsErr r) c.args.setting.now.plan.now.program link.ear link.mouth before between after wires wires'
+    c.requires.may.legal c.requires.may.left b.greeted b.legal b.ready b.tag b.adds b.later b.numbered (is_ok r) (ap is_ok c.in-Ok.is) (ok_no_err r _ c.in-Ok.is) served))
 
 pub returns-in-Err-clause-starts : goal.returns-in-Err-clause-starts
 returns-in-Err-clause-starts g c =
     let o = c.args.bench.core.opening in
     let old = c.args.bench.core.journal in
-    let mid = c.greet.new.core.journal in
+    let mid = c.begin_one.new.core.journal in
     let new = c.serve_child-bench.result.0.core.journal in
+    let b = c.in-Ready.ensures.begins.0 in
+    let link = c.in-Ready.child.link in
     let desks : List DeskTold = map g.K.Desk.told c.args.bench.desks.items in
     let desks' : List DeskTold = map g.K.Desk.told c.serve_child-bench.result.0.desks.items in
     let before : ProgramsTold = g.P.Programs.told c.args.programs.now in
-    let between : ProgramsTold = g.P.Programs.told c.greet.new.programs in
+    let between : ProgramsTold = g.P.Programs.told c.begin_one.new.programs in
     let after : ProgramsTold = g.P.Programs.told c.serve_child-bench.new.programs in
-    let wires : List WireValue = c.args.wires.now.items in
+    let wires : List WireValue = c.begin_one.new.wires.items in
     let wires' : List WireValue = c.serve_child-bench.new.wires.items in
     let r = c.serve_child-bench.result.1 in
-    let served = subst (λ (w : Opening). FirstServed (IsErr r) w c.args.setting.now.plan.now.setup c.args.setting.now.plan.now.starts c.args.setting.now.plan.now.program mid new desks desks' (is_ok r) c.in-Child.link.ear c.in-Child.link.mouth between after wires wires') c.greet.ensures.core.opening c.serve_child-bench.ensures.served in
-    let adds : AddsOne before.starts between.starts (c.args.setting.now.plan.now.program, true) = subst (λ (p : List ℕ). AddsOne before.starts between.starts (p, true)) c.view-program.ensures c.in-Child.ensures.starts in
-    let legal' : Legal o mid = subst (λ (w : Opening). Legal w mid) c.greet.ensures.core.opening (c.greet.ensures.core.legal c.requires.legal) in
-    first_err o c.args.setting.now.plan.now.setup c.args.setting.now.plan.now.starts c.args.offer c.in-Some.tagged old mid new desks desks' (IsErr r) c.args.setting.now.plan.now.program c.in-Child.link.ear c.in-Child.link.mouth before between after wires wires'
-    c.requires.legal c.requires.left c.in-Child.ensures.tells.0 legal' (came_ready c.greet.new.core.journal c.in-Child.link.ear.child c.in-Child.came c.in-Some.tagged (sym c.in-Some.ensures) c.in-Child.ensures.tells.1).0 (came_ready c.greet.new.core.journal c.in-Child.link.ear.child c.in-Child.came c.in-Some.tagged (sym c.in-Some.ensures) c.in-Child.ensures.tells.1).1 adds c.in-Child.ensures.later c.in-Child.ensures.numbers (is_ok r) (ap is_ok c.in-Err.is) served
+    let served = subst (λ (w : Opening). FirstServed (IsErr r) w c.args.setting.now.plan.now.setup c.args.setting.now.plan.now.starts c.args.setting.now.plan.now.program mid new desks desks' (is_ok r) link.ear link.mouth between after wires wires') c.begin_one.ensures.core.opening c.serve_child-bench.ensures.served in
+    subst (λ (ws : List WireValue). RunLacksMemory o c.args.setting.now.plan.now.setup c.args.setting.now.plan.now.starts c.args.offer c.args.setting.now.plan.now.program old new desks desks' before after ws wires') c.in-Ready.ensures.begins.1
+    (first_err o c.args.setting.now.plan.now.setup c.args.setting.now.plan.now.starts c.args.offer c.in-Ready.child.tagged old mid new desks desks' (IsErr r) c.args.setting.now.plan.now.program link.ear link.mouth before between after wires wires'
+    c.requires.may.legal c.requires.may.left b.greeted b.legal b.ready b.tag b.adds b.later b.numbered (is_ok r) (ap is_ok c.in-Err.is) served)
 
-pub returns-in-None-clause-starts : goal.returns-in-None-clause-starts
-returns-in-None-clause-starts g c =
-    let o = c.args.bench.core.opening in
-    let old = c.args.bench.core.journal in
-    let mid = c.greet.new.core.journal in
-    let new = c.turn_away.new.core.journal in
-    let child = c.in-Child.link.ear.child in
-    let answer : Answer = c.unready_answer.result in
-    let desks : List DeskTold = map g.K.Desk.told c.args.bench.desks.items in
-    let away : TurnsAway o child mid new answer = subst (λ (w : Opening). TurnsAway w child mid new answer) c.greet.ensures.core.opening c.turn_away.ensures.away in
-    let some : 0 < length desks = subst (λ (n : ℕ). 0 < n) (sym (length-map c.args.bench.desks.items _ ∙ sym c.args.bench.desks.ok.0)) c.requires.desks.0 in
-    let unready : IsUnready mid child answer = came_unready mid child c.in-Child.came answer c.in-Child.ensures.tells.1 c.unready_answer.ensures in
-    let quiet = away_quiet o c.args.offer old mid new child answer unready.undone c.in-Child.ensures.tells.0 away in
-    job_start quiet.more quiet.is
-    (one_all quiet.more (quiet_none quiet)
-    (starts_child c.args.setting.now.plan.now.program new child c.args.offer (g.P.Programs.told c.args.programs.now) (g.P.Programs.told c.greet.new.programs).starts
-    (g.P.Programs.told c.finish.new.programs) (g.P.Programs.told c.greet.new.programs).faults
-    c.in-Child.link.ear c.in-Child.link.mouth _ _ (subst (λ (p : List ℕ). AddsOne (g.P.Programs.told c.args.programs.now).starts (g.P.Programs.told c.greet.new.programs).starts (p, true)) c.view-program.ensures c.in-Child.ensures.starts)
-    c.finish.ensures.starts c.in-Child.ensures.later c.finish.ensures.later c.in-Child.ensures.numbers refl c.in-Child.link.one_child
-    (lone_held new c.in-Child.link.ear c.in-Child.link.mouth (c.turn_away.ensures.wired c.in-Child.ensures.wired)) c.finish.ensures.laid))
-    (stint_any o c.args.setting.now.plan.now.setup c.args.setting.now.plan.now.starts c.args.offer c.args.offer (Start child 0 c.args.offer) old new desks some
-    (λ d. away_stint o c.args.setting.now.plan.now.setup (more_than new) c.args.offer old mid new child answer d c.requires.left c.requires.calm.idle c.in-Child.ensures.tells.0 unready away)
-    true quiet
-    (λ shut. away_idle o child (next_child old) mid new answer c.in-Child.ensures.tells.0.next c.in-Child.ensures.tells.0.idle away))
+pub returns-in-Turned-clause-starts : goal.returns-in-Turned-clause-starts
+returns-in-Turned-clause-starts g c =
+    c.in-Turned.ensures.begins (map g.K.Desk.told c.args.bench.desks.items)
+    (subst (λ (n : ℕ). 0 < n) (c.args.bench.desks.ok.0 ∙ sym (length-map c.args.bench.desks.items g.K.Desk.told)) c.requires.desks.0)
 
-pub returns-in-StartFault-clause-starts : goal.returns-in-StartFault-clause-starts
-returns-in-StartFault-clause-starts g c =
-    let o = c.args.bench.core.opening in
-    let old = c.args.bench.core.journal in
-    let mid = c.greet.new.core.journal in
-    let new = c.answer_one.new.core.journal in
-    let desks : List DeskTold = map g.K.Desk.told c.args.bench.desks.items in
-    let one : AnswersOne o mid new (λ t. StartFault) c.answer_one.result = subst (λ (w : Opening). AnswersOne w mid new (λ t. StartFault) c.answer_one.result) c.greet.ensures.core.opening c.answer_one.ensures.answers in
-    let some : 0 < length desks = subst (λ (n : ℕ). 0 < n) (sym (length-map c.args.bench.desks.items _ ∙ sym c.args.bench.desks.ok.0)) c.requires.desks.0 in
-    let quiet = fault_quiet o old mid new StartFault c.answer_one.result c.in-StartFault.ensures.tells one in
-    job_start quiet.more quiet.is
-    (one_all quiet.more (quiet_none quiet)
-    (starts_none c.args.setting.now.plan.now.program new (g.P.Programs.told c.args.programs.now)
-    (g.P.Programs.told c.greet.new.programs) _ _
-    (subst (λ (p : List ℕ). AddsOne (g.P.Programs.told c.args.programs.now).starts (g.P.Programs.told c.greet.new.programs).starts (p, false)) c.view-program.ensures c.in-StartFault.ensures.starts)
-    (c.in-StartFault.ensures.fault refl) c.in-StartFault.ensures.later refl))
-    (stint_any o c.args.setting.now.plan.now.setup c.args.setting.now.plan.now.starts c.args.offer c.args.offer (NoStart 0) old new desks some
-    (λ d. fault_stint o c.args.setting.now.plan.now.setup (more_than new) c.args.offer old mid new d c.requires.left c.requires.calm.idle c.in-StartFault.ensures.tells c.answer_one.result one)
-    true quiet
-    (λ shut. fault_idle o (next_child old) old mid new StartFault c.answer_one.result c.in-StartFault.ensures.tells one shut))
+pub returns-in-NoMemory-clause-starts : goal.returns-in-NoMemory-clause-starts
+returns-in-NoMemory-clause-starts g c = inl (c.in-NoMemory.ensures.begins (map g.K.Desk.told c.args.bench.desks.items))

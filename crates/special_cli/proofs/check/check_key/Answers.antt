@@ -1,15 +1,11 @@
+use Rattle.std.proofs.Common.{ap, map, refl, sym}
 use Rattle.ann_key.specs.KeyRefs.{text_of}
-use Rattle.special_cli.proofs.Calling.{nothing_checked}
+use Rattle.child_end.specs.Outsides.{OutsideValue}
+use Rattle.special_cli.proofs.Checked.{has_checked}
 use Rattle.special_cli.proofs.check.check_key.Goals as goal
 
-pub returns-in_default : goal.returns-in_default
-returns-in_default g c = nothing_checked (g.C.Clock.answer c.args.clock.now) c.args.program.now (text_of c.args.key) c.args.outside c.nothing.result c.nothing.ensures.end c.nothing.ensures.idle
-
-pub returns-in-Err : goal.returns-in-Err
-returns-in-Err g c = nothing_checked (g.C.Clock.answer c.args.clock.now) c.args.program.now (text_of c.args.key) c.args.outside c.nothing-in-Err.result c.nothing-in-Err.ensures.end c.nothing-in-Err.ensures.idle
-
-pub check_ready-requires-clause-ready : goal.check_ready-requires-clause-ready
-check_ready-requires-clause-ready g c = λ κs lives. (c.args.program.now, text_of c.args.key, c.now-stamp.result, c.in-Ok-prepare.ensures.prepared)
-
-pub returns-in-Ok-prepare : goal.returns-in-Ok-prepare
-returns-in-Ok-prepare g c = c.check_ready.ensures (g.C.Clock.answer c.args.clock.now) c.args.program.now (text_of c.args.key) c.now-stamp.result c.now-stamp.ensures.told c.in-Ok-prepare.ensures.prepared
+pub returns : goal.returns
+returns g c =
+    has_checked (g.C.Clock.answer c.args.clock.now) c.args.program.now (text_of c.args.key) _ c.do_check-made.result c.args.outside _ c.do_check-made.ensures
+    (sym (ap (λ (o : OutsideValue). o.programs) c.outside.view_is)) refl refl refl c.end_of.ensures
+    (record { made = ap (λ (o : OutsideValue). o.made) c.outside.view_is; tables = ap (map _) c.new.ensures.items })

@@ -1,6 +1,6 @@
 use Rattle.std.proofs.Common.{◌≡◌, ◌++◌, [], ◌∷◌, true, false, take, refl, sym, ap, inl, inr}
 use Rattle.std.specs.Prelude.{codes}
-use Rattle.special_cli.specs.Endings.{IsAnswered}
+use Rattle.check_command.specs.Checks.{IsAnswered}
 use Rattle.std.specs.Fmt.{digits}
 use Rattle.journal_model.specs.declared.answer.Answer.TheVariants.{Present}
 use Rattle.journal_model.specs.Output.{answer_line}

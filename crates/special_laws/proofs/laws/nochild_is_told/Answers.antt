@@ -8,7 +8,8 @@ use Rattle.journal_model.specs.declared.entry.What.TheVariants.{Claim, Mute, Ans
 use Rattle.journal_model.specs.Output.{answer_line}
 use Rattle.journal_model.specs.Rows.{by_main, greeting, closed}
 use Rattle.task_model.specs.TaskRuns.{failed_start}
-use Rattle.run_starts.specs.Rounds.{ZeroAnswers, ZeroRun, start_untaken}
+use Rattle.run_starts.specs.Rounds.{start_untaken}
+use Rattle.run_children.specs.Unserved.{IsUnserved, UnservedAnswers}
 use Rattle.special_laws.specs.Rows.{gone_early, unstarted}
 use Rattle.special_laws.proofs.laws.nochild_is_told.Goals as goal
 
@@ -30,10 +31,10 @@ pub returns-clause-run : goal.returns-clause-run
 returns-clause-run c = record { past = mute; rest = closed ∷ []; is = refl; answers = (refl, refl, refl) }
 
 -- nothing stands before its claim
-no_start : (answer : Answer) → ZeroRun 1 unstarted 1 answer → ⊥
+no_start : (answer : Answer) → IsUnserved 1 unstarted 1 answer → ⊥
 no_start answer z = go z.past z.is z.answers
   where
-    go : (past : List Entry) → unstarted ≡ past ++ by_main (Claim 1 0) ∷ by_main (Answered 1 answer) ∷ z.rest → ZeroAnswers 1 past (failed_start past (start_untaken past)) 1 answer → ⊥
+    go : (past : List Entry) → unstarted ≡ past ++ by_main (Claim 1 0) ∷ by_main (Answered 1 answer) ∷ z.rest → UnservedAnswers 1 past (failed_start past (start_untaken past)) 1 answer → ⊥
     go [] e a = let bad : 0 ≡ 1 = a.0 in cc
     go (p ∷ []) e a = let bad : [] ≡ by_main (Answered 1 answer) ∷ z.rest = cc in cc
     go (p ∷ q ∷ []) e a = let bad : [] ≡ by_main (Claim 1 0) ∷ by_main (Answered 1 answer) ∷ z.rest = cc in cc

@@ -3,7 +3,7 @@ use Rattle.special_laws.proofs.Mains.{alone}
 use Rattle.special_laws.proofs.laws.one_thread_serves_alone.Goals as goal
 
 pub returns-clause-check : goal.returns-clause-check
-returns-clause-check c = λ told key journal n h. alone journal n h.ran.main
+returns-clause-check c = λ told key journal n h. alone journal n (h.ran.alone refl)
 
 pub returns-clause-info : goal.returns-clause-info
 returns-clause-info c = λ key journal n h. alone journal n h.run.main
