@@ -1,5 +1,5 @@
--- The wire of a worked check, checks without a child, and an info that asks nothing.
-use Rattle.std.specs.Prelude.{List, [], ◌∷◌, ◌++◌, Some, codes, false}
+-- The wire of a worked check, checks without a child, an info that asks nothing, and what a worked rehearsal and a worked walk print.
+use Rattle.std.specs.Prelude.{ℕ, List, [], ◌∷◌, ◌++◌, Some, codes, false}
 use Rattle.annex_model.specs.Lines.{text}
 use Rattle.journal_model.specs.Journal.{got_lines}
 use Rattle.journal_model.specs.declared.answer.Answer.TheVariants.{Memory, NoChild}
@@ -41,3 +41,13 @@ unstarted = by_main (Claim 1 0) ∷ by_main (Answered 1 Memory) ∷ []
 -- the child got ready, and was closed before it was asked about itself
 abbrev pub unasked : List Entry
 unasked = greeting ++ closed ∷ []
+
+-- what is printed of five answers, one of which has no word of its own
+abbrev pub rehearsal_lines : List (List ℕ)
+rehearsal_lines = codes "stored 2" ∷ codes "got 0" ∷ codes "present 1" ∷ codes "absent 0" ∷ codes "dropped 0" ∷ codes "failed 1" ∷ codes "other 1" ∷ codes "legal" ∷ []
+
+-- what is printed of a walk, in which what was fetched was equal once
+abbrev pub walk_lines : List (List ℕ)
+walk_lines =
+    codes "stored 2" ∷ codes "got 1" ∷ codes "present 0" ∷ codes "absent 0" ∷ codes "dropped 0" ∷ codes "failed 1" ∷ codes "other 0" ∷ codes "equal 1"
+    ∷ codes "legal" ∷ []

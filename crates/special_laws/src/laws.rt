@@ -1,5 +1,4 @@
 // Laws over the definitions, each the contract of a function with nothing to do.
-ghost use Rattle.ann_outside.specs.Told.{DeskTold};
 ghost use Rattle.std.specs.Prelude.{ℕ, ◌≡◌, ◌++◌, List, [], ◌∷◌, Option, Some, None, codes, true, false};
 ghost use Rattle.journal_model.specs.declared.verdict.Why.TheVariants.{Error};
 ghost use Rattle.journal_model.specs.declared.answer.Answer.{Answer};
@@ -11,15 +10,12 @@ ghost use Rattle.journal_model.specs.Rows.{sample_key, by_main, greeting, check_
 ghost use Rattle.run_children.specs.Unserved.{IsUnserved};
 ghost use Rattle.check_command.specs.Checks.{IsChecked};
 ghost use Rattle.special_cli.specs.Endings.{IsTold, LacksMemory};
-ghost use Rattle.ann_outside.specs.Files.{Files};
 ghost use Rattle.child_end.specs.Programs.{HaveStarted};
 ghost use Rattle.child_end.specs.Wires.{is_served_alone};
-ghost use Rattle.cli_words.specs.declared.command.RunWords.{RunWords};
 ghost use Rattle.journal_model.specs.declared.entry.Entry.{Entry};
-ghost use Rattle.run_command.specs.Inputs.{InputFlow};
-ghost use Rattle.run_command.specs.Runs.{IsRunOf};
 ghost use Rattle.info_command.specs.Informs.{IsInformed};
 ghost use Rattle.init_command.specs.Inits.{IsSetup};
+ghost use Rattle.special_laws.specs.Alone.{OneJobIsAlone};
 ghost use Rattle.special_laws.specs.Completeness.{IdleLacksMemory, RunCompletes};
 ghost use Rattle.special_laws.specs.FilesHold.{RunIsTold, RunKeeps};
 ghost use Rattle.special_laws.specs.Rows.{gone_early, unstarted, present_wire, HasWires};
@@ -95,7 +91,7 @@ pub fn one_thread_serves_alone()
     ensures check { (told : Option ℕ) (key : List ℕ) (journal : List Entry) (c : ℕ) → IsChecked told key journal → is_served_alone journal c ≡ true }
     ensures info { (key : Option (List ℕ)) (journal : List Entry) (c : ℕ) → IsInformed key journal → is_served_alone journal c ≡ true }
     ensures init { (journal : List Entry) (c : ℕ) → IsSetup journal → is_served_alone journal c ≡ true }
-    ensures run { (words : RunWords) (clock : Option ℕ) (told : Option Files) (input : InputFlow) (workers : List DeskTold) (journal : List Entry) (c : ℕ) → IsRunOf words clock told input workers journal → words.jobs ≡ 1 → is_served_alone journal c ≡ true }
+    ensures run { OneJobIsAlone }
     ensures untagged { (journal : List Entry) (c : ℕ) → is_tagged journal c ≡ false → is_served_alone journal c ≡ true }
 {}
 
