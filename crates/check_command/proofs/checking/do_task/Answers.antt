@@ -13,7 +13,7 @@ use Rattle.check_command.proofs.checking.do_task.Goals as goal
 pub run_alone-ran-requires-clause-handed : goal.run_alone-ran-requires-clause-handed
 run_alone-ran-requires-clause-handed g c = λ κs lives.
     let is = c.requires.ready.3 in
-    let same = c.view-tasks.ensures ∙ is.tasks in
+    let same = c.view.ensures ∙ is.tasks in
     record {
       tasks = (sym same, subst AreTasks (sym same) (all_tasks c.args.ready.core.opening.tasks c.requires.may.tasks));
       folder = ap (λ (p : Plan). has_newline p.setup.work) is.plan;
