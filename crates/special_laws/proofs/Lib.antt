@@ -3,3 +3,4 @@ pub mod AtZero
 pub mod Mains
 pub mod Completing
 pub mod Holding
+pub mod OneSlot

@@ -15,7 +15,7 @@ ghost use Rattle.child_end.specs.Wires.{is_served_alone};
 ghost use Rattle.journal_model.specs.declared.entry.Entry.{Entry};
 ghost use Rattle.info_command.specs.Informs.{IsInformed};
 ghost use Rattle.init_command.specs.Inits.{IsSetup};
-ghost use Rattle.special_laws.specs.Alone.{OneJobIsAlone};
+ghost use Rattle.special_laws.specs.Alone.{OneJobIsAlone, OneJobOneSlot};
 ghost use Rattle.special_laws.specs.Completeness.{IdleLacksMemory, RunCompletes};
 ghost use Rattle.special_laws.specs.FilesHold.{RunIsTold, RunKeeps};
 ghost use Rattle.special_laws.specs.Rows.{gone_early, unstarted, present_wire, HasWires};
@@ -93,6 +93,11 @@ pub fn one_thread_serves_alone()
     ensures init { (journal : List Entry) (c : ℕ) → IsSetup journal → is_served_alone journal c ≡ true }
     ensures run { OneJobIsAlone }
     ensures untagged { (journal : List Entry) (c : ℕ) → is_tagged journal c ≡ false → is_served_alone journal c ≡ true }
+{}
+
+/// With one job, as in a check, each start is in slot 0, and there are at most as many as the run may make: one in a check.
+pub fn one_job_starts_in_one_slot()
+    ensures { OneJobOneSlot }
 {}
 
 /// A run in which no count of faults rose, and all else went well from outside, ends with status 0 and with each task's success, unless
