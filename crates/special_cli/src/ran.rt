@@ -6,7 +6,6 @@ use crate::end::End;
 use crate::outside::Outside;
 use ann_outside::{Desks, Programs};
 use child_link::Wire;
-use host_core::Core;
 use journal_look::Journal;
 use journal_model::Answer;
 use std::alloc::Global;
@@ -72,12 +71,4 @@ impl<P: Programs, K: Desks> Ran<P, K> {
             tables: self.tables,
         }
     }
-}
-
-/// The journal of a core whose registers and notes are of no use any more.
-pub(crate) fn journal_of(core: Core) -> Journal
-    ensures { result.entries ≡ core.journal }
-{
-    let (journal, _, _) = core.close();
-    journal
 }
