@@ -22,11 +22,14 @@ ends_as left made ej ea h = go made.end (subst (λ (j : List Entry). HasEnded j 
     go C.Memory h = h
 
 -- what it made is left
-pub has_checked : (clock : Option ℕ) (program key : List ℕ) (programs : ProgramsTold) (made : MadeValue) (before : OutsideValue) (ran : RanValue) → HasMade clock program key programs ran.left.outside.programs made → before.programs ≡ programs
+pub has_checked : (clock : Option ℕ) (program key : List ℕ) (programs : ProgramsTold) (value made : MadeValue) (before : OutsideValue) (ran : RanValue) → HasMade clock program key programs ran.left.outside.programs value → made ≡ value → before.programs ≡ programs
     → ran.left.journal ≡ made.journal → ran.left.answers ≡ made.answers → ran.left.wires ≡ made.wires → ran.end ≡ end_of_check made.end → HasNoDesk before ran.left → HasChecked clock program key before ran
-has_checked clock program key programs made before ran h begun ej ea ew ee desks = record {
+has_checked clock program key programs value made before ran its same begun ej ea ew ee desks = record {
   checked = subst (λ (j : List Entry). IsChecked clock key j) (sym ej) h.checked;
   ends = subst (λ (x : End). EndsCheck ran.left x) (sym ee) (ends_as ran.left made ej ea h.ends);
   objects = leaves_as (λ (e : made.end ≡ C.Memory). ee ∙ ap end_of_check e) ej begun (subst (λ (ws : List WireValue). Leaves (made.end ≡ C.Memory) program made.journal programs ran.left.outside.programs ws) (sym ew) h.objects);
   desks = desks;
 }
+  where
+    h : HasMade clock program key programs ran.left.outside.programs made
+    h = subst (HasMade clock program key programs ran.left.outside.programs) (sym same) its
