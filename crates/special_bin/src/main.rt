@@ -2,6 +2,8 @@
 #![tactic(auto)]
 
 use ann_os::{OsClock, OsDesks, OsErrors, OsInput, OsOutput, OsPrograms};
+use ann_outside::write_all;
+use cli_words::memory_line;
 use special_cli::special;
 use std::env;
 use std::io::ErrorKind;
@@ -26,12 +28,16 @@ fn words_of<R: Env + AllocGlobal>(rt: &R) -> Option<Vec<String>> {
 }
 
 fn main(rt: HostRuntime) -> ExitCode {
+    let mut err = OsErrors::new(rt.stderr());
     let Some(words) = words_of(&rt) else {
-        return ExitCode::from(7);
+        let status = match write_all(&mut err, memory_line()) {
+            Ok(()) => 7,
+            Err(_) => 5,
+        };
+        return ExitCode::from(status);
     };
     let mut input = OsInput::new(rt.stdin());
     let mut out = OsOutput::new(rt.stdout());
-    let mut err = OsErrors::new(rt.stderr());
     let mut clock = OsClock::new(&rt);
     let closing = special(
         &rt,
