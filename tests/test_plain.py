@@ -4,7 +4,7 @@ import os
 import random
 import signal
 
-from harness import SPECIAL, TOP, expect, finish, require
+from harness import SPECIAL, TOP, Done, expect, finish, require
 
 PLAIN = os.path.abspath(os.environ.get("ANNEX_REMOTE_PLAIN") or TOP / "crates/remote_plain_bin/out/remote_plain_bin")
 LONGEST = 1048576
@@ -96,6 +96,15 @@ def case_a_line_over_the_limit_of_the_host_ends_it(room):
     remote = room.child("remote", "sys.stdin.read()\n")
     done = room.run([PLAIN], input=b"a" * (LONGEST + 1) + b"\n", env={"ANNEX_REMOTE_PROGRAM": remote})
     expect(done.status, 1, "the status")
+
+
+def case_words_print_or_are_refused(room):
+    expect(room.run([PLAIN, "--version"]), Done(0, "annex-remote-plain 0.1.0\n", ""), "--version")
+    done = room.run([PLAIN, "--help"])
+    expect((done.status, done.err), (0, ""), "--help")
+    require("ANNEX_REMOTE_PROGRAM" in done.out, "the help names the variable")
+    for words in (["help"], ["--help", "x"], [""], ["-h"]):
+        expect(room.run([PLAIN, *words], input="PREPARE\n"), Done(2, "", "annex-remote-plain: it takes no words\n"), f"{words}")
 
 
 def case_no_program_is_named(room):

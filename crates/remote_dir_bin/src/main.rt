@@ -10,12 +10,12 @@ ghost use Rattle.dir_remote.specs.Contents.{IsMark};
 
 use ann_key::{Bytes, NoMemory, Text};
 use ann_os::{OsClock, OsDesk, OsDesks, OsErrors, OsInput, OsOutput};
-use ann_outside::{Clock, Desks, Sink, write_all};
+use ann_outside::{Clock, Desks};
 use dir_remote::{DirRemote, is_mark};
 use kit_async::serve_async_described;
 use kit_async_model::Fact;
+use remote_words::{Wish, print, read_wish};
 use std::alloc::Global;
-use std::io::ErrorKind;
 use std::process::ExitCode;
 use std::rt::Env;
 use std::{env, process};
@@ -34,51 +34,6 @@ take what was stored last.
 const VERSION: &[u8] = b"annex-remote-dir 0.1.0\n";
 
 const USAGE: &[u8] = b"annex-remote-dir: usage\n";
-
-// What the words ask for.
-#[derive(Clone, Copy)]
-enum Wish {
-    Serve,
-    Print(&'static [u8]),
-    // Words that it doesn't know.
-    Refused,
-}
-
-fn wish_of(words: &[String]) -> Wish {
-    match words {
-        [] => Wish::Serve,
-        [word] if word.as_str() == "--help" => Wish::Print(HELP),
-        [word] if word.as_str() == "--version" => Wish::Print(VERSION),
-        _ => Wish::Refused,
-    }
-}
-
-// The words after the program's own name. Words that aren't UTF-8 are none that it knows; None: out of memory.
-fn read_wish<R: Env + AllocGlobal>(rt: &R) -> Option<Wish> {
-    let args = match env::args(rt) {
-        Ok(args) => args,
-        Err(error) if error.kind() == ErrorKind::OutOfMemory => return None,
-        Err(_) => return Some(Wish::Refused),
-    };
-    let mut words = Vec::new(rt.alloc());
-    for word in args.skip(1) {
-        if words.push(word).is_err() {
-            return None;
-        }
-    }
-    Some(wish_of(&words))
-}
-
-// Status 5 where it can't be written.
-fn print<W: Sink>(sink: &mut W, text: &[u8], status: u8) -> u8
-    requires { (W.told sink.old).is_open ≡ true }
-{
-    if write_all(sink, text).is_ok() && sink.flush().is_ok() {
-        status
-    } else {
-        5
-    }
-}
 
 // Whether a store waits for the disk.
 fn waits<R: Env + AllocGlobal>(rt: &R) -> bool {
@@ -155,7 +110,8 @@ fn main(rt: HostRuntime) -> ExitCode {
     let alloc = rt.alloc();
     let status = match read_wish(&rt) {
         None => 7,
-        Some(Wish::Print(text)) => print(&mut OsOutput::new(rt.stdout()), text, 0),
+        Some(Wish::Help) => print(&mut OsOutput::new(rt.stdout()), HELP, 0),
+        Some(Wish::Version) => print(&mut OsOutput::new(rt.stdout()), VERSION, 0),
         Some(Wish::Refused) => print(&mut OsErrors::new(rt.stderr()), USAGE, 2),
         Some(Wish::Serve) => match (directories(&rt), facts(alloc)) {
             (Ok(remotes), Ok(facts)) => {

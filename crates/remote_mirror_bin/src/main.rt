@@ -8,13 +8,12 @@ mod mirrored;
 ghost use Rattle.std.specs.Prelude.{◌≡◌, true};
 
 use ann_os::{OsErrors, OsInput, OsOutput};
-use ann_outside::{Sink, write_all};
+use ann_outside::Sink;
 use kit_serve::{Served, serve_described};
 use mirrored::Mirrored;
-use std::env;
-use std::io::{ErrorKind, Stdout};
+use remote_words::{Wish, print, read_wish};
+use std::io::Stdout;
 use std::process::ExitCode;
-use std::rt::Env;
 
 const HELP: &[u8] = b"\
 annex-remote-mirror: several special remotes of git-annex as one
@@ -29,51 +28,6 @@ that gives it.
 const VERSION: &[u8] = b"annex-remote-mirror 0.1.0\n";
 
 const USAGE: &[u8] = b"annex-remote-mirror: usage\n";
-
-// What the words ask for.
-#[derive(Clone, Copy)]
-enum Wish {
-    Serve,
-    Print(&'static [u8]),
-    // Words that it doesn't know.
-    Refused,
-}
-
-fn wish_of(words: &[String]) -> Wish {
-    match words {
-        [] => Wish::Serve,
-        [word] if word.as_str() == "--help" => Wish::Print(HELP),
-        [word] if word.as_str() == "--version" => Wish::Print(VERSION),
-        _ => Wish::Refused,
-    }
-}
-
-// The words after the program's own name. Words that aren't UTF-8 are none that it knows. None: out of memory.
-fn read_wish<R: Env + AllocGlobal>(rt: &R) -> Option<Wish> {
-    let args = match env::args(rt) {
-        Ok(args) => args,
-        Err(error) if error.kind() == ErrorKind::OutOfMemory => return None,
-        Err(_) => return Some(Wish::Refused),
-    };
-    let mut words = Vec::new(rt.alloc());
-    for word in args.skip(1) {
-        if words.push(word).is_err() {
-            return None;
-        }
-    }
-    Some(wish_of(&words))
-}
-
-// Status 5 where it can't be written.
-fn print<W: Sink>(sink: &mut W, text: &[u8], status: u8) -> u8
-    requires { (W.told sink.old).is_open ≡ true }
-{
-    if write_all(sink, text).is_ok() && sink.flush().is_ok() {
-        status
-    } else {
-        5
-    }
-}
 
 // Serves the mirror until the host is done, and then stops the programs that it started. The status to end with.
 fn serve_mirror(rt: &HostRuntime, out: &mut OsOutput<Stdout>) -> u8
@@ -90,7 +44,8 @@ fn main(rt: HostRuntime) -> ExitCode {
     let mut out = OsOutput::new(rt.stdout());
     let status = match read_wish(&rt) {
         None => 7,
-        Some(Wish::Print(text)) => print(&mut out, text, 0),
+        Some(Wish::Help) => print(&mut out, HELP, 0),
+        Some(Wish::Version) => print(&mut out, VERSION, 0),
         Some(Wish::Refused) => print(&mut OsErrors::new(rt.stderr()), USAGE, 2),
         Some(Wish::Serve) => serve_mirror(&rt, &mut out),
     };

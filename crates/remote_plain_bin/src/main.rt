@@ -5,17 +5,18 @@
 ghost use Rattle.std.specs.Prelude.{◌≡◌, true};
 
 mod passing;
-mod wish;
+mod program;
 
 use ann_os::{OsErrors, OsInput, OsOutput, OsPrograms};
-use ann_outside::{Programs, Sink, Source, StartError, Started, write_all};
+use ann_outside::{Programs, Sink, Source, StartError, Started};
 use passing::{Shared, hear_remote, last_status, remote_status, start_hearing};
-use std::alloc::{AllocGlobal, Global};
+use program::named_program;
+use remote_words::{Wish, print, read_wish};
+use std::alloc::{AllocError, AllocGlobal, Global};
 use std::marker::Send;
 use std::process::{ExitCode, Processes, SystemProcess};
 use std::sync::Wait;
 use std::thread::Threads;
-use wish::{Wish, read_wish};
 
 const HELP: &[u8] = b"\
 annex-remote-plain: another remote, in plain words
@@ -33,17 +34,6 @@ const UNNAMED: &[u8] =
 
 const NOT_STARTED: &[u8] =
     b"annex-remote-plain: the program that ANNEX_REMOTE_PROGRAM names can't be started\n";
-
-// Status 5 where it can't be written.
-fn print<W: Sink>(sink: &mut W, text: &[u8], status: u8) -> u8
-    requires { (W.told sink.old).is_open ≡ true }
-{
-    if write_all(sink, text).is_ok() && sink.flush().is_ok() {
-        status
-    } else {
-        5
-    }
-}
 
 // Passes the lines on both ways until the remote has ended, and answers the status to end with.
 fn pass_on<
@@ -109,18 +99,21 @@ fn main(rt: HostRuntime) -> ExitCode {
     let mut out = OsOutput::new(rt.stdout());
     let mut err = OsErrors::new(rt.stderr());
     let status = match read_wish(&rt) {
-        Wish::Help => print(&mut out, HELP, 0),
-        Wish::Version => print(&mut out, VERSION, 0),
-        Wish::Refused => print(&mut err, USAGE, 2),
-        Wish::Unnamed => print(&mut err, UNNAMED, 2),
-        Wish::NoMemory => 7,
-        Wish::Serve(program) => serve(
-            rt,
-            program.as_str(),
-            OsInput::new(rt.stdin()),
-            &mut out,
-            &mut err,
-        ),
+        None => 7,
+        Some(Wish::Help) => print(&mut out, HELP, 0),
+        Some(Wish::Version) => print(&mut out, VERSION, 0),
+        Some(Wish::Refused) => print(&mut err, USAGE, 2),
+        Some(Wish::Serve) => match named_program(&rt) {
+            Err(AllocError) => 7,
+            Ok(None) => print(&mut err, UNNAMED, 2),
+            Ok(Some(program)) => serve(
+                rt,
+                program.as_str(),
+                OsInput::new(rt.stdin()),
+                &mut out,
+                &mut err,
+            ),
+        },
     };
     ExitCode::from(status)
 }
