@@ -1,10 +1,9 @@
 // The first word of a line, and the fields after it.
 ghost use Rattle.std.specs.Prelude.{◌≡◌, ◌==◌, position, option_map, option_copied, Some, bytes_eq};
-ghost use Rattle.std.specs.List.{list_any};
 ghost use Rattle.ann_key.specs.KeyRefs.{text_of};
 ghost use Rattle.annex_model.specs.Messages.{word_of, field_of, is_space, key_field, rest_field, word_rest_field, key_rest_field};
 
-use ann_key::KeyRef;
+use ann_key::{KeyRef, has_byte};
 
 // Where the first space stands.
 fn space_at(line: &[u8]) -> Option<usize>
@@ -50,17 +49,11 @@ pub(super) fn rest(field: Option<&[u8]>) -> &[u8]
     }
 }
 
-fn has_space(bytes: &[u8]) -> bool
-    ensures { result ≡ list_any (λ b. b == 32) bytes.now }
-{
-    bytes.iter().any(|b| *b == b' ')
-}
-
 // The key that the field spells, which holds no space.
 fn read_key(field: &[u8]) -> Option<KeyRef<'_>>
     ensures { option_map text_of result ≡ key_field (Some field.now) }
 {
-    if has_space(field) {
+    if has_byte(field, b' ') {
         return None;
     }
     match KeyRef::read(field) {

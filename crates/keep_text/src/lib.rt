@@ -5,7 +5,6 @@ mod error;
 mod fields;
 mod kept;
 pub mod laws;
-mod lines;
 mod order;
 mod reading;
 mod writing;

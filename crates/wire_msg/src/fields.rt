@@ -1,12 +1,10 @@
 // The command word of a line, and the parameters after it, by their classes.
-ghost use Rattle.std.specs.Prelude.{◌≡◌, ◌≤◌, ◌==◌, length, Some, option_map, option_copied, position, bytes_eq, true};
-ghost use Rattle.std.specs.List.{list_all, list_any};
+ghost use Rattle.std.specs.Prelude.{◌≡◌, ◌==◌, Some, option_map, option_copied, position, bytes_eq, true};
 ghost use Rattle.ann_key.specs.KeyRefs.{text_of};
-ghost use Rattle.ann_key.specs.Numbers.{is_digit, value_of};
 ghost use Rattle.annex_model.specs.Messages.{word_of, field_of, is_space, direction_of, number_field, key_field, rest_field, scope_field};
 ghost use Rattle.annex_model.specs.Messages.{word_rest_field, words_rest_field, key_rest_field, transfer_field, transfer_rest_field};
 
-use ann_key::KeyRef;
+use ann_key::{KeyRef, has_byte, number_of};
 
 // Where the first space stands.
 fn space_at(line: &[u8]) -> Option<usize>
@@ -52,59 +50,11 @@ pub(super) fn rest(field: Option<&[u8]>) -> &[u8]
     }
 }
 
-fn is_digit(b: u8) -> bool
-    ensures { result ≡ is_digit b }
-{
-    48 <= b && b < 58
-}
-
-fn all_digits(field: &[u8]) -> bool
-    ensures { result ≡ list_all is_digit field.now }
-{
-    field.iter().all(|b| is_digit(*b))
-}
-
-fn digits_value(field: &[u8]) -> u128
-    requires few { length field.now ≤ 20 }
-    requires digits { list_all is_digit field.now ≡ true }
-    ensures { result ≡ value_of field.now }
-{
-    let mut n: u128 = 0;
-    for b in field {
-        n = 10 * n + (*b - 48) as u128;
-    }
-    n
-}
-
-/// The number that the field spells; it may have leading zeros.
-pub(super) fn read_number(field: &[u8]) -> Option<u64>
-    ensures { result ≡ number_field (Some field.now) }
-{
-    if field.is_empty() || field.len() > 20 {
-        return None;
-    }
-    if !all_digits(field) {
-        return None;
-    }
-    let value = digits_value(field);
-    if value < 18_446_744_073_709_551_616 {
-        Some(value as u64)
-    } else {
-        None
-    }
-}
-
-fn has_space(bytes: &[u8]) -> bool
-    ensures { result ≡ list_any (λ b. b == 32) bytes.now }
-{
-    bytes.iter().any(|b| *b == b' ')
-}
-
 /// The key that the field spells, which holds no space.
 pub(super) fn read_key(field: &[u8]) -> Option<KeyRef<'_>>
     ensures { option_map text_of result ≡ key_field (Some field.now) }
 {
-    if has_space(field) {
+    if has_byte(field, b' ') {
         return None;
     }
     match KeyRef::read(field) {
@@ -118,7 +68,7 @@ pub(super) fn number(field: Option<&[u8]>) -> Option<u64>
     ensures { result ≡ number_field (option_copied field.entry) }
 {
     match field {
-        Some(field) => read_number(field),
+        Some(field) => number_of(field),
         None => None,
     }
 }
