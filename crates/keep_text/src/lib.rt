@@ -2,7 +2,6 @@
 #![tactic(auto)]
 
 mod error;
-mod fields;
 mod kept;
 pub mod laws;
 mod order;

@@ -14,7 +14,7 @@ fn space_at(line: &[u8]) -> Option<usize>
 }
 
 /// The command word reaches to the first space or the end.
-pub(super) fn word_of(line: &[u8]) -> &[u8]
+pub fn word_of(line: &[u8]) -> &[u8]
     ensures { result.now ≡ word_of line.now }
 {
     match space_at(line) {
@@ -24,7 +24,7 @@ pub(super) fn word_of(line: &[u8]) -> &[u8]
 }
 
 /// What follows the first space, if there is one.
-pub(super) fn field_of(line: &[u8]) -> Option<&[u8]>
+pub fn field_of(line: &[u8]) -> Option<&[u8]>
     ensures { option_copied result ≡ field_of line.now }
 {
     match space_at(line) {
@@ -34,14 +34,14 @@ pub(super) fn field_of(line: &[u8]) -> Option<&[u8]>
 }
 
 /// Whether the word is this one.
-pub(super) fn is_word(word: &[u8], name: &[u8]) -> bool
+pub fn is_word(word: &[u8], name: &[u8]) -> bool
     ensures { result ≡ bytes_eq word.now name.now }
 {
     word == name
 }
 
 /// The rest of the line, which is empty where no space came.
-pub(super) fn rest(field: Option<&[u8]>) -> &[u8]
+pub fn rest(field: Option<&[u8]>) -> &[u8]
     ensures { result.now ≡ rest_field (option_copied field.entry) }
 {
     match field {
@@ -51,7 +51,7 @@ pub(super) fn rest(field: Option<&[u8]>) -> &[u8]
 }
 
 /// The key that the field spells, which holds no space.
-pub(super) fn read_key(field: &[u8]) -> Option<KeyRef<'_>>
+pub fn read_key(field: &[u8]) -> Option<KeyRef<'_>>
     ensures { option_map text_of result ≡ key_field (Some field.now) }
 {
     if has_byte(field, b' ') {
@@ -64,7 +64,7 @@ pub(super) fn read_key(field: &[u8]) -> Option<KeyRef<'_>>
 }
 
 /// The one number.
-pub(super) fn number(field: Option<&[u8]>) -> Option<u64>
+pub fn number(field: Option<&[u8]>) -> Option<u64>
     ensures { result ≡ number_field (option_copied field.entry) }
 {
     match field {
@@ -74,7 +74,7 @@ pub(super) fn number(field: Option<&[u8]>) -> Option<u64>
 }
 
 /// The one key.
-pub(super) fn key(field: Option<&[u8]>) -> Option<KeyRef<'_>>
+pub fn key(field: Option<&[u8]>) -> Option<KeyRef<'_>>
     ensures { option_map text_of result ≡ key_field (option_copied field.entry) }
 {
     match field {
@@ -84,7 +84,7 @@ pub(super) fn key(field: Option<&[u8]>) -> Option<KeyRef<'_>>
 }
 
 /// `GLOBAL`, which is true, or `LOCAL`.
-pub(super) fn scope(field: Option<&[u8]>) -> Option<bool>
+pub fn scope(field: Option<&[u8]>) -> Option<bool>
     ensures { result ≡ scope_field (option_copied field.entry) }
 {
     let field = field?;
@@ -111,7 +111,7 @@ fn direction(word: &[u8]) -> Option<bool>
 }
 
 /// A word, and the rest.
-pub(super) fn word_rest(field: Option<&[u8]>) -> Option<(&[u8], &[u8])>
+pub fn word_rest(field: Option<&[u8]>) -> Option<(&[u8], &[u8])>
     ensures { option_map (λ t. (t.0.now, t.1.now)) result ≡ word_rest_field (option_copied field.entry) }
 {
     match field {
@@ -121,7 +121,7 @@ pub(super) fn word_rest(field: Option<&[u8]>) -> Option<(&[u8], &[u8])>
 }
 
 /// Two words, and the rest.
-pub(super) fn words_rest(field: Option<&[u8]>) -> Option<(&[u8], &[u8], &[u8])>
+pub fn words_rest(field: Option<&[u8]>) -> Option<(&[u8], &[u8], &[u8])>
     ensures { option_map (λ t. (t.0.now, (t.1.now, t.2.now))) result ≡ words_rest_field (option_copied field.entry) }
 {
     let field = field?;
@@ -132,7 +132,7 @@ pub(super) fn words_rest(field: Option<&[u8]>) -> Option<(&[u8], &[u8], &[u8])>
 }
 
 /// A key, and the rest.
-pub(super) fn key_rest(field: Option<&[u8]>) -> Option<(KeyRef<'_>, &[u8])>
+pub fn key_rest(field: Option<&[u8]>) -> Option<(KeyRef<'_>, &[u8])>
     ensures { option_map (λ t. (text_of t.0, t.1.now)) result ≡ key_rest_field (option_copied field.entry) }
 {
     let field = field?;
@@ -143,7 +143,7 @@ pub(super) fn key_rest(field: Option<&[u8]>) -> Option<(KeyRef<'_>, &[u8])>
 }
 
 /// A direction, and a key.
-pub(super) fn transfer(field: Option<&[u8]>) -> Option<(bool, KeyRef<'_>)>
+pub fn transfer(field: Option<&[u8]>) -> Option<(bool, KeyRef<'_>)>
     ensures { option_map (λ t. (t.0, text_of t.1)) result ≡ transfer_field (option_copied field.entry) }
 {
     let field = field?;
@@ -155,7 +155,7 @@ pub(super) fn transfer(field: Option<&[u8]>) -> Option<(bool, KeyRef<'_>)>
 }
 
 /// A direction, a key, and the rest.
-pub(super) fn transfer_rest(field: Option<&[u8]>) -> Option<(bool, KeyRef<'_>, &[u8])>
+pub fn transfer_rest(field: Option<&[u8]>) -> Option<(bool, KeyRef<'_>, &[u8])>
     ensures { option_map (λ t. (t.0, (text_of t.1, t.2.now))) result ≡ transfer_rest_field (option_copied field.entry) }
 {
     let field = field?;
