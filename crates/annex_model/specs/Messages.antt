@@ -3,7 +3,7 @@
 use Rattle.std.specs.Prelude.{ℕ, ◌≡◌, ◌⊎◌, ◌<◌, ◌^◌, ◌==◌, ◌&&◌, not, nat_lt, Bool, true, false, if◌then◌else◌, List, [], ◌∷◌, ◌++◌, Option, Some, None, codes, option_map, option_and_then, bytes_eq, IsTrue, decimal}
 use Rattle.std.specs.List.{list_any}
 use Rattle.std.specs.Option.{option_or}
-use Rattle.ann_key.specs.Numbers.{is_number, value_of}
+use Rattle.ann_key.specs.Numbers.{is_number, number_of, value_of}
 use Rattle.ann_key.specs.Keys.{is_key}
 
 -- a key that holds no space: only such a key can stand in a message
@@ -304,7 +304,7 @@ no_field m (Some field) = None
 
 abbrev pub number_field : Option (List ℕ) → Option ℕ
 number_field None = None
-number_field (Some field) = if is_number field then Some (value_of field) else None
+number_field (Some field) = number_of field
 
 abbrev pub key_field : Option (List ℕ) → Option (List ℕ)
 key_field None = None

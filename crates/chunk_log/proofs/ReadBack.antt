@@ -5,8 +5,8 @@ use Rattle.std.specs.List.{list_all, list_any, before_first, after_first, after_
 use Rattle.std.proofs.lemmas.Bool.{ne_eqb}
 use Rattle.std.proofs.lemmas.Bool.Decides.{nat_tests}
 use Rattle.uuid.specs.Text.{by_index, digit_place, hex_digit, hyphenated_text, is_hyphen_place, lower, nibble, parsed}
-use Rattle.ann_key.specs.Numbers.{is_digit}
-use Rattle.chunk_log.specs.ChunkLines.{counts_from, counts_in, is_colon, is_space, line_text, number_in, uuid_in}
+use Rattle.ann_key.specs.Numbers.{is_digit, number_of}
+use Rattle.chunk_log.specs.ChunkLines.{counts_from, counts_in, is_colon, is_space, line_text, uuid_in}
 use Rattle.chunk_log.specs.LogLaws.{ReadsBack}
 use Rattle.chunk_log.specs.Stamps.{digit, micros_text, stamp_in, stamp_text}
 use Rattle.chunk_log.specs.declared.stamp.Stamp.{Stamp}
@@ -52,7 +52,7 @@ stamp_no_space stamp h =
     list_all-append p ((decimal stamp.seconds ++ 46 ∷ []) ++ micros_text m) (115 ∷ [])
     (list_all-append p (decimal stamp.seconds ++ 46 ∷ []) (micros_text m) (list_all-append p (decimal stamp.seconds) (46 ∷ []) (decimal_no_space stamp.seconds h) refl) micros) refl
 
-pub number_back : (n : ℕ) → n < 2 ^ 64 → number_in (decimal n) ≡ Some n
+pub number_back : (n : ℕ) → n < 2 ^ 64 → number_of (decimal n) ≡ Some n
 number_back n h = let d : Decimal n = decimal_reads n h in rw (d.number, d.value) refl
 
 counts_back : (chunk count : ℕ) → 0 < chunk → counts_from (Some chunk) (Some count) ≡ Some (chunk, count)
@@ -74,9 +74,9 @@ reads_back line writable seconds chunk count =
     let rest : after_first is_space (after_first is_space (line_text line)) ≡ N = ap (after_first is_space) behind ∙ after_first-at is_space (U ++ 58 ∷ C) 32 N word_clear refl in
     let colon : list_any is_colon (U ++ 58 ∷ C) ≡ true = list_any-at is_colon U 58 C refl in
     let uuid : uuid_in (U ++ 58 ∷ C) ≡ Some writable.uuid.0 = rw colon (ap parsed (before_last-at is_colon U 58 C (decimal_no_colon line.chunk chunk) refl) ∙ writable.uuid.1) in
-    let size : number_in (after_last is_colon (U ++ 58 ∷ C)) ≡ Some line.chunk = ap number_in (after_last-at is_colon U 58 C (decimal_no_colon line.chunk chunk) refl) ∙ number_back line.chunk chunk in
+    let size : number_of (after_last is_colon (U ++ 58 ∷ C)) ≡ Some line.chunk = ap number_of (after_last-at is_colon U 58 C (decimal_no_colon line.chunk chunk) refl) ∙ number_back line.chunk chunk in
     let counts : counts_in (U ++ 58 ∷ C) N ≡ Some (line.chunk, line.count) =
-    ap (λ (o : Option ℕ). counts_from o (number_in N)) size ∙ ap (λ (o : Option ℕ). counts_from (Some line.chunk) o) (number_back line.count count) ∙ counts_back line.chunk line.count writable.chunk in
+    ap (λ (o : Option ℕ). counts_from o (number_of N)) size ∙ ap (λ (o : Option ℕ). counts_from (Some line.chunk) o) (number_back line.count count) ∙ counts_back line.chunk line.count writable.chunk in
     record {
       bytes = writable.uuid.0;
       stamp = ap stamp_in first ∙ stamp_back line.stamp seconds writable.nanos;

@@ -2,7 +2,7 @@
 use Rattle.std.specs.Prelude.{ℕ, ◌≡◌, ◌<◌, ◌==◌, Bool, if◌then◌else◌, List, ◌++◌, Option, Some, None, codes, decimal}
 use Rattle.std.specs.List.{list_any, before_first, after_first, before_last, after_last}
 use Rattle.uuid.specs.Text.{parsed, hyphenated_text, lower}
-use Rattle.ann_key.specs.Numbers.{is_number, value_of}
+use Rattle.ann_key.specs.Numbers.{number_of}
 use Rattle.chunk_log.specs.Stamps.{stamp_in, stamp_text}
 use Rattle.chunk_log.specs.declared.line.ChunkLine.{ChunkLine}
 use Rattle.chunk_log.specs.declared.error.ChunkError.{ChunkError}
@@ -25,9 +25,6 @@ word_part line = before_first is_space (after_first is_space line)
 abbrev pub count_part : List ℕ → List ℕ
 count_part line = after_first is_space (after_first is_space line)
 
-abbrev pub number_in : List ℕ → Option ℕ
-number_in field = if is_number field then Some (value_of field) else None
-
 -- the UUID before the last colon of a word
 abbrev pub uuid_in : List ℕ → Option (List ℕ)
 uuid_in word = if list_any is_colon word then parsed (before_last is_colon word) else None
@@ -38,7 +35,7 @@ counts_from chunk count = None
 
 -- the chunk size after the last colon, which isn't 0, and the number of chunks
 abbrev pub counts_in : List ℕ → List ℕ → Option (ℕ × ℕ)
-counts_in word count = counts_from (number_in (after_last is_colon word)) (number_in count)
+counts_in word count = counts_from (number_of (after_last is_colon word)) (number_of count)
 
 -- the line is a stamp, a UUID, a chunk size and a number of chunks; the UUID is kept in its written form
 pub record IsChunkLine (text : List ℕ) (line : ChunkLine) : Type 0 where

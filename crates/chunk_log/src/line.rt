@@ -6,7 +6,7 @@ ghost use Rattle.chunk_log.specs.ChunkLines.{counts_in, uuid_in, IsChunkLine, Is
 use crate::error::ChunkError;
 use crate::scan;
 use crate::stamp::Stamp;
-use ann_key::{NoMemory, Text};
+use ann_key::{NoMemory, Text, cut_at, has_byte, number_of};
 use std::alloc::Global;
 use uuid::Uuid;
 
@@ -28,15 +28,15 @@ pub fn read_line(alloc: Global, line: &[u8]) -> Result<ChunkLine, ChunkError>
     ensures read { MatchResult result (λ read. IsChunkLine line.now read) (λ error. IsRefused line.now error) }
     ensures writable { IfOk result (λ read. IsWritable read) }
 {
-    let Some(stamp) = Stamp::read(scan::before_first(line, b' ')) else {
+    let (stamp, rest) = cut_at(line, b' ');
+    let Some(stamp) = Stamp::read(stamp) else {
         return Err(ChunkError::BadStamp);
     };
-    let behind = scan::after_first(line, b' ');
-    let word = scan::before_first(behind, b' ');
+    let (word, count) = cut_at(rest, b' ');
     let Some(uuid) = uuid_in(word) else {
         return Err(ChunkError::BadUuid);
     };
-    let Some((chunk, count)) = counts_in(word, scan::after_first(behind, b' ')) else {
+    let Some((chunk, count)) = counts_in(word, count) else {
         return Err(ChunkError::BadCount);
     };
     let uuid = written(alloc, uuid)?;
@@ -51,7 +51,7 @@ pub fn read_line(alloc: Global, line: &[u8]) -> Result<ChunkLine, ChunkError>
 fn uuid_in(word: &[u8]) -> Option<Uuid>
     ensures { result ≡ uuid_in word.now }
 {
-    if scan::has(word, b':') {
+    if has_byte(word, b':') {
         parsed(scan::before_last(word, b':'))
     } else {
         None
@@ -71,8 +71,8 @@ fn counts_in(word: &[u8], count: &[u8]) -> Option<(u64, u64)>
     ensures value { result ≡ counts_in word.now count.now }
     ensures chunk { IfSome result (λ counts. 0 < counts.0) }
 {
-    match scan::number(scan::after_last(word, b':')) {
-        Some(chunk) if chunk != 0 => match scan::number(count) {
+    match number_of(scan::after_last(word, b':')) {
+        Some(chunk) if chunk != 0 => match number_of(count) {
             Some(count) => Some((chunk, count)),
             None => None,
         },

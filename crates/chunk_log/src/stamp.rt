@@ -2,7 +2,7 @@
 ghost use Rattle.std.specs.Prelude.{◌≡◌, ◌<◌, IfSome};
 
 use crate::parts::{nanos, seconds};
-use crate::scan;
+use ann_key::len_before;
 
 /// A time since the Unix epoch: whole seconds, and billionths of a second below 1,000,000,000.
 #[derive(Clone, Copy, Debug, PartialEq, Eq, PartialOrd, Ord)]
@@ -29,7 +29,7 @@ impl Stamp {
         ensures value { result ≡ stamp_in_body body.now }
         ensures small { IfSome result (λ stamp. stamp.nanos < 1000000000) }
     {
-        let dot = scan::first(body, b'.');
+        let dot = len_before(body, b'.');
         match seconds(&body[..dot]) {
             Some(seconds) => match nanos(&body[dot..]) {
                 Some(nanos) => Some(Stamp { seconds, nanos }),

@@ -1,9 +1,9 @@
 -- The words of a command line, and what a word may be a value of.
-use Rattle.std.specs.Prelude.{ℕ, ◌≤◌, ◌==◌, ◌&&◌, ◌||◌, not, nat_le, nat_lt, Bool, if◌then◌else◌, List, length, map, Option, Some, None, option_map, codes, bytes_eq, slice_index, string_bytes, String}
-use Rattle.std.specs.List.{list_all, list_any}
+use Rattle.std.specs.Prelude.{ℕ, ◌≤◌, ◌==◌, ◌&&◌, ◌||◌, not, nat_le, nat_lt, Bool, if◌then◌else◌, List, length, map, Option, Some, None, option_map, codes, bytes_eq, string_bytes, String}
+use Rattle.std.specs.List.{list_any}
 use Rattle.std.specs.declared.alloc.Global.{Global}
 use Rattle.uuid.specs.Text.{parsed, hyphenated_text, lower}
-use Rattle.ann_key.specs.Numbers.{is_digit, is_number, is_numeral, value_of, IsNumeral}
+use Rattle.ann_key.specs.Numbers.{is_number, is_numeral, value_of, IsNumeral}
 
 -- the bytes of each word
 abbrev pub texts_of : List (String Global) → List (List ℕ)
@@ -26,11 +26,6 @@ is_word_of_command word = is_text word && not (is_request word)
 
 -- ---- numbers, from one to another
 
--- 1 to 20 digits, of which the first of several isn't 0
-abbrev pub is_numeral_form : List ℕ → Bool
-is_numeral_form text =
-    nat_lt 0 (length text) && (nat_le (length text) 20 && (list_all is_digit text && (length text == 1 || not (slice_index text 0 == 48))))
-
 abbrev pub number_in : ℕ → ℕ → List ℕ → Option ℕ
 number_in least most text =
     if is_numeral text && (nat_le least (value_of text) && nat_le (value_of text) most) then Some (value_of text) else None
@@ -40,10 +35,6 @@ pub record IsNumberIn (least most : ℕ) (text : List ℕ) (n : ℕ) : Type 0 wh
   pub numeral : IsNumeral n text
   pub least_one : least ≤ n
   pub most_one : n ≤ most
-
--- 1 to 20 digits
-abbrev pub is_number_form : List ℕ → Bool
-is_number_form text = nat_lt 0 (length text) && (nat_le (length text) 20 && list_all is_digit text)
 
 -- leading zeros are read too
 abbrev pub padded_number_in : ℕ → ℕ → List ℕ → Option ℕ

@@ -1,19 +1,15 @@
 // What a word may be a value of.
 ghost use Rattle.std.specs.Prelude.{◌≡◌};
 ghost use Rattle.std.specs.List.{list_all};
-ghost use Rattle.cli_words.specs.Values.{has_end, is_request, is_text, is_word_of_command, texts_of};
+ghost use Rattle.cli_words.specs.Values.{is_request, is_text, is_word_of_command, texts_of};
 
-fn has_end(text: &str) -> bool
-    ensures { result ≡ has_end text.now }
-{
-    text.as_bytes().iter().any(|b| *b == b'\n')
-}
+use ann_key::has_byte;
 
 /// Whether it isn't empty and holds no line's end.
 pub(super) fn is_text(text: &str) -> bool
     ensures { result ≡ is_text text.now }
 {
-    !text.is_empty() && !has_end(text)
+    !text.is_empty() && !has_byte(text.as_bytes(), b'\n')
 }
 
 fn is_request(word: &str) -> bool

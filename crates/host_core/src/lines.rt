@@ -1,6 +1,5 @@
 // What lines say by themselves, and the next line that is to be written.
 ghost use Rattle.std.specs.Prelude.{◌≡◌, ◌++◌, ◌∷◌, [], false, IfOk, IsOk};
-ghost use Rattle.annex_model.specs.Lines.{has_newline};
 ghost use Rattle.annex_model.specs.Messages.{remote_reading};
 ghost use Rattle.journal_model.specs.Journal.{unsent};
 ghost use Rattle.journal_model.specs.Due.{is_error};
@@ -11,12 +10,6 @@ use ann_key::{Bytes, NoMemory};
 use journal_look::{Journal, first_unsent};
 use std::alloc::Global;
 use wire_msg::{RemoteMsg, read_remote};
-
-pub(super) fn has_newline(line: &[u8]) -> bool
-    ensures { result ≡ has_newline line.now }
-{
-    line.iter().any(|b| *b == 10)
-}
 
 /// Whether the line spells ERROR.
 pub(super) fn is_error(line: &[u8]) -> bool

@@ -25,7 +25,7 @@ use crate::event::{Event, Reply};
 use crate::runs::{self, Run};
 use crate::serving::Past;
 use crate::{lines, requests};
-use ann_key::{Bytes, NoMemory};
+use ann_key::{Bytes, NoMemory, has_byte};
 use journal_look::{
     Journal, are_all_claimed, has_busy_task, has_no_open_job, has_open_job, has_spoken,
     is_all_sent, is_asked, is_claimed_by, is_ended, is_full, is_live, is_mute, is_prepared,
@@ -391,7 +391,7 @@ fn got(alloc: Global, past: Past<'_>, by: u32, child: u32, line: Bytes) -> Resul
     ensures free { is_free (step_of past.entry.opening.now past.entry.journal.now.entries by (Event.Got child line)) ≡ true → IsOk result }
 {
     let journal = past.journal;
-    if !is_started(journal, child) || lines::has_newline(line.view()) {
+    if !is_started(journal, child) || has_byte(line.view(), b'\n') {
         return Ok(only(Reply::Odd));
     }
     if is_ended(journal, child) {

@@ -1,14 +1,12 @@
 // Which request may be asked next.
-ghost use Rattle.std.specs.Prelude.{◌≡◌, ◌==◌, bytes_eq};
-ghost use Rattle.std.specs.List.{list_any};
+ghost use Rattle.std.specs.Prelude.{◌≡◌, bytes_eq};
 ghost use Rattle.annex_model.specs.Extensions.{names_of};
 ghost use Rattle.annex_model.specs.Messages.{is_sent_key, is_askable};
 ghost use Rattle.journal_model.specs.Legality.{suits_child, is_in_turn, is_text};
 ghost use Rattle.talk_serial.specs.Requests.{message_of, name_of};
 ghost use Rattle.host_core.specs.Steps.{may_request, is_named_well};
 
-use crate::lines::has_newline;
-use ann_key::Key;
+use ann_key::{Key, has_byte};
 use journal_look::{Journal, is_offered, is_started, may_ask, next_job};
 use std::str;
 use talk_serial::Request;
@@ -30,7 +28,7 @@ fn is_text(file: &[u8]) -> bool
     ensures { result ≡ is_text file.now }
 {
     match str::from_utf8(file) {
-        Ok(_) => !has_newline(file),
+        Ok(_) => !has_byte(file, b'\n'),
         Err(_) => false,
     }
 }
@@ -66,17 +64,11 @@ fn is_in_turn(journal: &Journal, child: u32, job: u64, request: &Request) -> boo
     request.turn().is_at(job) && suits_child(journal, child, request)
 }
 
-fn has_space(bytes: &[u8]) -> bool
-    ensures { result ≡ list_any (λ b. b == 32) bytes.now }
-{
-    bytes.iter().any(|b| *b == 32)
-}
-
 /// Whether the key can stand in a message.
 fn is_sent_key(key: &Key) -> bool
     ensures { result ≡ is_sent_key key.now }
 {
-    !has_space(key.view().text())
+    !has_byte(key.view().text(), b' ')
 }
 
 /// Whether each field of the request is of its class.

@@ -1,7 +1,7 @@
 -- Fields of a line, with a space between each two.
 use Rattle.std.specs.Prelude.{ℕ, ◌==◌, ◌^◌, Bool, if◌then◌else◌, List, [], ◌∷◌, ◌++◌, Option, Some, None, option_map, option_and_then, nat_lt, bytes_eq}
 use Rattle.std.specs.List.{before_first, after_first}
-use Rattle.chunk_log.specs.ChunkLines.{number_in}
+use Rattle.ann_key.specs.Numbers.{number_of}
 
 -- each after a space
 abbrev pub followed : List (List ℕ) → List ℕ
@@ -26,7 +26,7 @@ rest_of text = after_first is_space text
 
 -- the number that a text begins with
 abbrev pub number_at : List ℕ → Option ℕ
-number_at text = number_in (first_of text)
+number_at text = number_of (first_of text)
 
 abbrev pub small : ℕ → Option ℕ
 small n = if nat_lt n (2 ^ 32) then Some n else None

@@ -1,88 +1,33 @@
 // The fields of a line: those that it begins with, read, and those that are put after it.
-ghost use Rattle.std.specs.Prelude.{◌≡◌, ◌≤◌, ◌∷◌, ◌++◌, [], length, true, OnOk, decimal};
-ghost use Rattle.std.specs.List.{list_all, position_or_len};
-ghost use Rattle.ann_key.specs.Numbers.{is_digit, value_of};
-ghost use Rattle.chunk_log.specs.ChunkLines.{number_in};
-ghost use Rattle.journal_entries.specs.Fields.{followed, is_space, first_of, rest_of, number_at, small_at, smalls_at, numbers_at};
+ghost use Rattle.std.specs.Prelude.{◌≡◌, ◌∷◌, ◌++◌, [], OnOk, decimal};
+ghost use Rattle.journal_entries.specs.Fields.{followed, first_of, rest_of, number_at, small_at, smalls_at, numbers_at};
 
-use ann_key::NoMemory;
+use ann_key::{NoMemory, cut_at, number_of};
 use std::alloc::Global;
 
 // ---- reading
-
-fn before_space(text: &[u8]) -> usize
-    ensures value { result ≡ position_or_len is_space text.now }
-    ensures bound { result ≤ length text.now }
-{
-    text.iter().take_while(|b| **b != b' ').count()
-}
 
 /// What stands before the first space, or all.
 pub(crate) fn first_of(text: &[u8]) -> &[u8]
     ensures { result.now ≡ first_of text.now }
 {
-    &text[..before_space(text)]
+    let (first, _) = cut_at(text, b' ');
+    first
 }
 
 /// What stands after the first space.
 pub(crate) fn rest_of(text: &[u8]) -> &[u8]
     ensures { result.now ≡ rest_of text.now }
 {
-    let at = before_space(text);
-    if at < text.len() {
-        &text[at + 1..]
-    } else {
-        &text[at..]
-    }
-}
-
-fn is_digit(b: u8) -> bool
-    ensures { result ≡ is_digit b }
-{
-    48 <= b && b < 58
-}
-
-fn all_digits(field: &[u8]) -> bool
-    ensures { result ≡ list_all is_digit field.now }
-{
-    field.iter().all(|b| is_digit(*b))
-}
-
-fn digits_value(field: &[u8]) -> u128
-    requires few { length field.now ≤ 20 }
-    requires digits { list_all is_digit field.now ≡ true }
-    ensures { result ≡ value_of field.now }
-{
-    let mut n: u128 = 0;
-    for b in field {
-        n = 10 * n + (*b - 48) as u128;
-    }
-    n
-}
-
-// The number that the field spells; it may have leading zeros.
-fn number(field: &[u8]) -> Option<u64>
-    ensures { result ≡ number_in field.now }
-{
-    if field.is_empty() || field.len() > 20 {
-        return None;
-    }
-    if !all_digits(field) {
-        return None;
-    }
-    let value = digits_value(field);
-    if value < 18_446_744_073_709_551_616 {
-        Some(value as u64)
-    } else {
-        None
-    }
+    let (_, rest) = cut_at(text, b' ');
+    rest
 }
 
 /// The number that the text begins with.
 pub(crate) fn number_at(text: &[u8]) -> Option<u64>
     ensures { result ≡ number_at text.now }
 {
-    number(first_of(text))
+    number_of(first_of(text))
 }
 
 /// The number of 32 bits that it begins with.

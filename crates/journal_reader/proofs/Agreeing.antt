@@ -14,7 +14,7 @@ use Rattle.journal_reader.specs.declared.place.Place.{Place}
 use Rattle.journal_reader.specs.declared.place.Place.TheVariants.{Head, Uuid, Name, Gitdir, Stamp, Again, Given, Entries, Over, Refused}
 use Rattle.journal_reader.proofs.Going.{task_begin, keep_begin, task_keep}
 use Rattle.journal_reader.proofs.LineFields.{worded_same}
-use Rattle.chunk_log.specs.ChunkLines.{number_in}
+use Rattle.ann_key.specs.Numbers.{number_of}
 use Rattle.chunk_log.proofs.ReadBack.{number_back as number_read}
 
 abbrev Same : Place → Place → Told → Told → Type 0
@@ -34,7 +34,7 @@ same_head true false e = let last : 49 ≡ 50 = ap (λ (l : List ℕ). get_or l 
 
 same_number : (word : List ℕ) (m n : ℕ) → m < 2 ^ 64 → n < 2 ^ 64 → worded word (decimal m) ≡ worded word (decimal n) → m ≡ n
 same_number word m n small less e =
-    let both : Some m ≡ Some n = sym (number_read m small) ∙ ap number_in (worded_same word _ _ e) ∙ number_read n less in
+    let both : Some m ≡ Some n = sym (number_read m small) ∙ ap number_of (worded_same word _ _ e) ∙ number_read n less in
     cc
 
 few_small : (n : ℕ) → n ≤ 8 → n < 2 ^ 64

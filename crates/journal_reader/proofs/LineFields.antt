@@ -2,7 +2,7 @@
 use Rattle.std.proofs.Common.{◌≡◌, ℕ, ◌<◌, ◌≤◌, ◌^◌, Bool, true, false, List, [], ◌∷◌, ◌++◌, Option, Some, None, Result, Ok, Err, IfOk, sym, ap, ◌∙◌, arith}
 use mathlib.Core.Bool.{true≢false}
 use Rattle.std.specs.Prelude.{MatchOption, IsTrue, codes, decimal, bytes_eq}
-use Rattle.chunk_log.specs.ChunkLines.{number_in}
+use Rattle.ann_key.specs.Numbers.{number_of}
 use Rattle.journal_lines.specs.JournalTexts.{worded, stamp_line, again_line}
 use Rattle.chunk_log.proofs.ReadBack.{number_back as number_read}
 use Rattle.ann_key.proofs.Lists.{same_name as itself}
@@ -48,14 +48,14 @@ few_numbered line text is (Ok None) h = λ n few e. h n few (worded_same (codes 
 few_numbered line text is (Ok (Some n)) h = (is ∙ ap (worded (codes "again")) h.0, h.1)
 
 -- the number that was read is written otherwise
-pub other_number : (m : ℕ) (text : List ℕ) → number_in text ≡ Some m → bytes_eq (decimal m) text ≡ false → (n : ℕ) → n < 2 ^ 64 → text ≡ decimal n → ⊥
+pub other_number : (m : ℕ) (text : List ℕ) → number_of text ≡ Some m → bytes_eq (decimal m) text ≡ false → (n : ℕ) → n < 2 ^ 64 → text ≡ decimal n → ⊥
 other_number m text read other n small is =
-    let both : Some n ≡ Some m = sym (number_read n small) ∙ ap number_in (sym is) ∙ read in
+    let both : Some n ≡ Some m = sym (number_read n small) ∙ ap number_of (sym is) ∙ read in
     let same : n ≡ m = cc in
     true≢false (sym (itself (decimal m)) ∙ ap (bytes_eq (decimal m)) (ap decimal (sym same) ∙ sym is) ∙ other)
 
-pub no_number : (text : List ℕ) → ((n : ℕ) → number_in text ≡ Some n → ⊥) → (n : ℕ) → n < 2 ^ 64 → text ≡ decimal n → ⊥
-no_number text none n small is = none n (ap number_in is ∙ number_read n small)
+pub no_number : (text : List ℕ) → ((n : ℕ) → number_of text ≡ Some n → ⊥) → (n : ℕ) → n < 2 ^ 64 → text ≡ decimal n → ⊥
+no_number text none n small is = none n (ap number_of is ∙ number_read n small)
 
 -- a number that is too large is another one
 pub not_few : (text : List ℕ) (found : Option ℕ) (m : ℕ) → MatchOption found ((n : ℕ) → n < 2 ^ 64 → text ≡ decimal n → ⊥) (λ n. text ≡ decimal n) → found ≡ Some m → m < 2 ^ 64 → 8 < m
@@ -64,7 +64,7 @@ not_few text None m h e small many n few is = absurd cc
 not_few text (Some k) m h e small many n few is =
     let found : k ≡ m = cc in
     let less : n < 2 ^ 64 = omega (arith, few) in
-    let both : Some m ≡ Some n = sym (number_read m small) ∙ ap number_in (ap decimal (sym found) ∙ sym h ∙ is) ∙ number_read n less in
+    let both : Some m ≡ Some n = sym (number_read m small) ∙ ap number_of (ap decimal (sym found) ∙ sym h ∙ is) ∙ number_read n less in
     let same : m ≡ n = cc in
     let no : ⊥ = omega (arith, many, few, same) in
     no

@@ -1,15 +1,15 @@
 -- Lines on how often a task may be run again.
 use Rattle.std.specs.Fmt.{digits}
-use Rattle.std.proofs.Common.{◌≡◌, ◌∙◌, ℕ, Bool, true, false, List, [], ◌∷◌, Some, get_or, length, refl, sym, ap, inr, arith}
+use Rattle.std.proofs.Common.{◌≡◌, ◌∙◌, ℕ, Bool, true, false, List, [], ◌∷◌, Some, get_or, refl, sym, ap, inr, arith}
 use mathlib.Core.Bool.{true≢false}
 use Rattle.std.specs.Prelude.{codes, decimal}
-use Rattle.chunk_log.specs.ChunkLines.{number_in}
+use Rattle.ann_key.specs.Numbers.{number_of}
 use Rattle.journal_model.specs.declared.answer.Answer.TheVariants.{Unsent}
 use Rattle.journal_model.specs.declared.entry.What.TheVariants.{Again as RunAgain}
 use Rattle.journal_model.specs.declared.entry.Entry.{Entry}
 use Rattle.journal_entries.specs.Entries.{entry_at, entry_line, IsEntry}
 use Rattle.journal_entries.proofs.EntryBack.{entry_back}
-use Rattle.journal_lines.specs.JournalTexts.{Told, head, again_line, end_line}
+use Rattle.journal_lines.specs.JournalTexts.{Told, head, again_line}
 use Rattle.journal_reader.specs.RunTexts.{may_stand}
 use Rattle.journal_reader.specs.Readings.{Goes, CannotGo, nothing_told}
 use Rattle.journal_reader.specs.declared.place.Place.TheVariants.{Head, Uuid, Again, Given, Entries}
@@ -45,13 +45,13 @@ eight = refl
 pub most_goes : Goes Again nothing_told (codes "again 8") Given (record nothing_told { again = 8 })
 most_goes = (eight, omega arith, refl, refl)
 
-nine : number_in (codes "9") ≡ Some 9
+nine : number_of (codes "9") ≡ Some 9
 nine = refl
 
 pub too_many : CannotGo Again nothing_told (codes "again 9")
 too_many place new g =
     let few = g.1 in
-    let both : Some 9 ≡ Some new.again = sym nine ∙ ap number_in (worded_same (codes "again") (codes "9") (decimal new.again) g.0) ∙ number_read new.again (omega (arith, few)) in
+    let both : Some 9 ≡ Some new.again = sym nine ∙ ap number_of (worded_same (codes "again") (codes "9") (decimal new.again) g.0) ∙ number_read new.again (omega (arith, few)) in
     let same : 9 ≡ new.again = cc in
     omega (arith, few, same)
 

@@ -1,14 +1,10 @@
 // The fields of the first lines.
-ghost use Rattle.std.specs.Prelude.{◌≡◌, ◌≤◌, ◌^◌, ◌<◌, ◌∷◌, ◌++◌, IfOk, MatchOption, ℕ, List, true, false, length, codes, decimal, IsTrue, bytes_eq};
-ghost use Rattle.std.specs.List.{list_all};
-ghost use Rattle.ann_key.specs.Numbers.{is_digit, value_of};
-ghost use Rattle.chunk_log.specs.ChunkLines.{number_in};
+ghost use Rattle.std.specs.Prelude.{◌≡◌, ◌≤◌, ◌^◌, ◌<◌, ◌∷◌, ◌++◌, IfOk, MatchOption, ℕ, List, true, false, decimal, bytes_eq};
 ghost use Rattle.uuid.specs.Text.{parsed, hyphenated_text, lower};
-ghost use Rattle.annex_model.specs.Lines.{has_newline};
 ghost use Rattle.journal_lines.specs.JournalTexts.{worded, stamp_line, again_line};
 ghost use Rattle.journal_reader.specs.RunTexts.{HasNoText, HasText, is_text, is_uuid};
 
-use ann_key::{NoMemory, Text};
+use ann_key::{NoMemory, Text, has_byte, number_of};
 use std::alloc::Global;
 use std::str;
 use uuid::Uuid;
@@ -38,13 +34,6 @@ fn behind_space(rest: &[u8]) -> Option<&[u8]>
     }
 }
 
-/// Whether the line holds byte 10.
-pub(crate) fn has_newline(line: &[u8]) -> bool
-    ensures { result ≡ has_newline line.now }
-{
-    line.iter().any(|b| *b == b'\n')
-}
-
 /// The text after the word, where it is UTF-8 on one line.
 pub(crate) fn text_behind<'a>(line: &'a [u8], word: &[u8]) -> Option<&'a str>
     ensures { MatchOption result (HasNoText is_text word.now line.entry.now) (λ text. HasText is_text word.now line.entry.now text.now) }
@@ -58,7 +47,7 @@ pub(crate) fn text_behind<'a>(line: &'a [u8], word: &[u8]) -> Option<&'a str>
 fn text_of(text: &[u8]) -> Option<&str>
     ensures { MatchOption result (is_text text.entry.now ≡ false) (λ found. (found.now ≡ text.entry.now) × (is_text text.entry.now ≡ true)) }
 {
-    if has_newline(text) {
+    if has_byte(text, b'\n') {
         return None;
     }
     match str::from_utf8(text) {
@@ -116,7 +105,7 @@ pub(crate) fn stamp_of(alloc: Global, line: &[u8]) -> Result<Option<u64>, NoMemo
     ensures { IfOk result (λ found. MatchOption found ((n : ℕ) → n < 2 ^ 64 → line.now ≡ stamp_line n → ⊥) (λ n. line.now ≡ stamp_line n)) }
 {
     match behind(line, b"stamp") {
-        Some(text) => number_of(alloc, text),
+        Some(text) => decimal_of(alloc, text),
         None => Ok(None),
     }
 }
@@ -135,16 +124,16 @@ pub(crate) fn again_of(alloc: Global, line: &[u8]) -> Result<Option<u32>, NoMemo
 fn few_of(alloc: Global, text: &[u8]) -> Result<Option<u32>, NoMemory>
     ensures { IfOk result (λ found. MatchOption found ((n : ℕ) → n ≤ 8 → text.now ≡ decimal n → ⊥) (λ n. (text.now ≡ decimal n) × (n ≤ 8))) }
 {
-    let Some(n) = number_of(alloc, text)? else {
+    let Some(n) = decimal_of(alloc, text)? else {
         return Ok(None);
     };
     if n <= 8 { Ok(Some(n as u32)) } else { Ok(None) }
 }
 
-fn number_of(alloc: Global, text: &[u8]) -> Result<Option<u64>, NoMemory>
+fn decimal_of(alloc: Global, text: &[u8]) -> Result<Option<u64>, NoMemory>
     ensures { IfOk result (λ found. MatchOption found ((n : ℕ) → n < 2 ^ 64 → text.now ≡ decimal n → ⊥) (λ n. text.now ≡ decimal n)) }
 {
-    let Some(n) = number_in(text) else {
+    let Some(n) = number_of(text) else {
         return Ok(None);
     };
     if is_decimal(alloc, n, text)? {
@@ -159,46 +148,4 @@ fn is_decimal(alloc: Global, n: u64, text: &[u8]) -> Result<bool, NoMemory>
 {
     let digits = format!(in alloc; "{n}")?;
     Ok(digits.as_bytes() == text)
-}
-
-fn is_digit(b: u8) -> bool
-    ensures { result ≡ is_digit b }
-{
-    48 <= b && b < 58
-}
-
-fn all_digits(text: &[u8]) -> bool
-    ensures { result ≡ list_all is_digit text.now }
-{
-    text.iter().all(|b| is_digit(*b))
-}
-
-fn digits_value(text: &[u8]) -> u128
-    requires few { length text.now ≤ 20 }
-    requires digits { list_all is_digit text.now ≡ true }
-    ensures { result ≡ value_of text.now }
-{
-    let mut n: u128 = 0;
-    for b in text {
-        n = 10 * n + (*b - 48) as u128;
-    }
-    n
-}
-
-// The number that the text spells; it may have leading zeros.
-fn number_in(text: &[u8]) -> Option<u64>
-    ensures { result ≡ number_in text.now }
-{
-    if text.is_empty() || text.len() > 20 {
-        return None;
-    }
-    if !all_digits(text) {
-        return None;
-    }
-    let value = digits_value(text);
-    if value < 18_446_744_073_709_551_616 {
-        Some(value as u64)
-    } else {
-        None
-    }
 }

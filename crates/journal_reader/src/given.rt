@@ -1,9 +1,8 @@
 // Taking the lines of tasks and of what is kept.
-use crate::fields::has_newline;
 use crate::kinds::{Kind, kind_of};
 use crate::place::Place;
 use crate::reader::Reader;
-use ann_key::{Bytes, NoMemory};
+use ann_key::{Bytes, NoMemory, has_byte};
 use keep_text::{comes_before, is_written_line};
 use task_text::{TaskError, read_task};
 
@@ -73,6 +72,6 @@ impl Reader {
         ensures { IfOk result (λ b. b ≡ is_kept text.now) }
     {
         let written = is_written_line(self.alloc, text)?;
-        Ok(written && !has_newline(text))
+        Ok(written && !has_byte(text, b'\n'))
     }
 }

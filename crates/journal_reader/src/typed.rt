@@ -8,9 +8,8 @@ ghost use Rattle.journal_entries.specs.Entries.{IsEntry, IsWhat};
 ghost use Rattle.journal_entries.specs.Verdicts.{IsVerdict};
 ghost use Rattle.journal_entries.specs.Whys.{IsWhy};
 
-use crate::fields::has_newline;
 use ann_digest::Digest;
-use ann_key::Bytes;
+use ann_key::{Bytes, has_byte};
 use journal_model::{Answer, Entry, Verdict, What, Why};
 
 /// Whether it is an entry.
@@ -104,7 +103,7 @@ fn is_what(what: &What) -> bool
 fn is_line(line: &Bytes) -> bool
     ensures { result ≡ not (has_newline line.now) }
 {
-    !has_newline(line.view())
+    !has_byte(line.view(), b'\n')
 }
 
 // The numbers of a cause are of their types.

@@ -4,8 +4,8 @@ ghost use Rattle.annex_model.specs.Messages.{by_rows};
 ghost use Rattle.keep_text.specs.KeptLines.{kept_reading, kept_rows};
 ghost use Rattle.keep_text.specs.Shown.{kept_shown};
 
-use crate::fields;
 use ann_key::KeyRef;
+use wire_msg::fields;
 
 /// What a line says.
 #[derive(Clone, Copy)]

@@ -2,10 +2,8 @@
 #![tactic(auto)]
 
 mod error;
-mod fields;
 mod kept;
 pub mod laws;
-mod lines;
 mod order;
 mod reading;
 mod writing;

@@ -11,8 +11,7 @@ ghost use Rattle.keep_text.specs.Shown.{kept_shown};
 
 use crate::error::KeepError;
 use crate::kept::{Kept, read_kept};
-use crate::lines::cut_line;
-use ann_key::{KeyRef, NoMemory};
+use ann_key::{KeyRef, NoMemory, cut_at};
 use chunk_log::{ChunkError, NoteBook, read_line};
 use reg_file::Registers;
 use std::alloc::Global;
@@ -29,7 +28,7 @@ pub fn read_keep(alloc: Global, text: &[u8]) -> Result<(Registers, NoteBook), Ke
     if text.is_empty() {
         return Ok((registers, notes));
     }
-    let (head, lines) = cut_line(text);
+    let (head, lines) = cut_at(text, b'\n');
     if !is_head(head) {
         return Err(KeepError::BadLine { line: 1 });
     }
@@ -58,7 +57,7 @@ fn take_lines(
     let mut rest = text;
     let mut number: u64 = 1;
     while !rest.is_empty() {
-        let (line, more) = cut_line(rest);
+        let (line, more) = cut_at(rest, b'\n');
         number += 1;
         take_line(alloc, registers, notes, line, number)?;
         rest = more;

@@ -1,6 +1,5 @@
 // What calls a remote for the requests that it takes up.
-ghost use Rattle.std.specs.Prelude.{◌≡◌, ◌==◌, ◌+◌, not, true, IfOk, IsTrue};
-ghost use Rattle.std.specs.List.{list_any};
+ghost use Rattle.std.specs.Prelude.{◌≡◌, ◌+◌, not, true, IfOk, IsTrue};
 ghost use Rattle.annex_model.specs.Lines.{has_newline};
 ghost use Rattle.annex_model.specs.Messages.{is_sent_key};
 ghost use Rattle.hall.specs.Passes.{seen_of};
@@ -14,35 +13,23 @@ ghost use Rattle.kit_async_roles.specs.Calling.{WorkerRan, can_be_asked, hand_of
 
 use crate::turn::{Turn, enter, stop_for};
 use crate::why::Why;
-use ann_key::{Bytes, Key, NoMemory};
+use ann_key::{Bytes, Key, NoMemory, has_byte};
 use hall::{Hall, Pass};
 use kit_async_core::KitCore;
 use kit_async_model::{Event, Reply};
 use kit_core::{Asked, Remote, Said};
 use std::sync::Wait;
 
-fn has_newline(text: &[u8]) -> bool
-    ensures { result ≡ has_newline text.now }
-{
-    text.iter().any(|b| *b == 10)
-}
-
-fn has_space(bytes: &[u8]) -> bool
-    ensures { result ≡ list_any (λ b. b == 32) bytes.now }
-{
-    bytes.iter().any(|b| *b == 32)
-}
-
 fn is_sent_key(key: &Key) -> bool
     ensures { result ≡ is_sent_key key.now }
 {
-    !has_space(key.view().text())
+    !has_byte(key.view().text(), b' ')
 }
 
 fn is_line(text: &Bytes) -> bool
     ensures { result ≡ not (has_newline text.now) }
 {
-    !has_newline(text.view())
+    !has_byte(text.view(), b'\n')
 }
 
 fn are_lines(texts: &[Bytes]) -> bool
@@ -57,8 +44,8 @@ fn can_be_asked(asked: &Asked) -> bool
 {
     match asked {
         Asked::Prepare(values) => are_lines(values.view()),
-        Asked::Store(key, file) => is_sent_key(key) && !has_newline(file.view().as_bytes()),
-        Asked::Retrieve(key, file) => is_sent_key(key) && !has_newline(file.view().as_bytes()),
+        Asked::Store(key, file) => is_sent_key(key) && !has_byte(file.view().as_bytes(), b'\n'),
+        Asked::Retrieve(key, file) => is_sent_key(key) && !has_byte(file.view().as_bytes(), b'\n'),
         Asked::Check(key) => is_sent_key(key),
         Asked::Remove(key) => is_sent_key(key),
     }

@@ -4,9 +4,10 @@ ghost use Rattle.task_input.specs.InputLines.{lines_of};
 ghost use Rattle.task_input.specs.Inputs.{IsInput};
 ghost use Rattle.task_input.specs.Steps.{error_for, AreTaken, IsTaken};
 
-use crate::cutting::{cut_line, has_line};
+use crate::cutting::has_line;
 use crate::error::InputError;
 use crate::limits::Limits;
+use ann_key::cut_at;
 use cli_words::Reason;
 use std::alloc::Global;
 use task_text::{Task, TaskError, Tasks, read_task};
@@ -44,7 +45,7 @@ fn take_lines(
     let mut number: u64 = 1;
     let mut rest = text;
     while has_line(last, rest) {
-        let (line, more) = cut_line(rest);
+        let (line, more) = cut_at(rest, b'\n');
         list.push(task_at(alloc, number, line, limits)?)?;
         number += 1;
         rest = more;

@@ -1,5 +1,5 @@
-ghost use Rattle.std.specs.Prelude.{◌≡◌, ◌≤◌, ◌==◌, ◌+◌, ◌++◌, ◌∷◌, ◌&&◌, [], false, true, not, if◌then◌else◌, length, take, drop, IfErr, IfOk, OnOk, IsTrue, MatchResult, None, ◌↔◌};
-ghost use Rattle.std.specs.List.{after_first, before_first, list_any, position_or_len};
+ghost use Rattle.std.specs.Prelude.{◌≡◌, ◌+◌, ◌++◌, ◌∷◌, ◌&&◌, [], false, true, not, if◌then◌else◌, IfErr, IfOk, OnOk, IsTrue, MatchResult, None, ◌↔◌};
+ghost use Rattle.std.specs.List.{after_first, before_first};
 ghost use Rattle.ann_key.specs.KeyRefs.{text_of};
 ghost use Rattle.task_text.specs.TaskLines.{behind_key, file_in, is_file, is_name, is_space, is_tab, is_task_key, key_in, name_in, onto_in};
 ghost use Rattle.task_text.specs.TaskLines.{fault_of, line_of, IsKeyFault, IsReading, IsTask, SpellsTask};
@@ -7,7 +7,7 @@ ghost use Rattle.task_text.specs.declared.task.Task.{Task};
 
 use crate::error::TaskError;
 use crate::task::{Task, Work};
-use ann_key::{Bytes, Key, KeyRef, NoMemory, Text};
+use ann_key::{Bytes, Key, KeyRef, NoMemory, Text, cut_at, has_byte};
 use std::alloc::Global;
 use std::str;
 
@@ -115,7 +115,7 @@ fn split_at_space(bytes: &[u8]) -> (&[u8], &[u8])
     ensures before { result.0.now ≡ before_first is_space bytes.now }
     ensures behind { result.1.now ≡ after_first is_space bytes.now }
 {
-    cut_at(bytes, before_space(bytes))
+    cut_at(bytes, b' ')
 }
 
 // The same at the first byte 9.
@@ -123,33 +123,7 @@ fn split_at_tab(bytes: &[u8]) -> (&[u8], &[u8])
     ensures before { result.0.now ≡ before_first is_tab bytes.now }
     ensures behind { result.1.now ≡ after_first is_tab bytes.now }
 {
-    cut_at(bytes, before_tab(bytes))
-}
-
-// What stands before this place, and what follows it.
-fn cut_at(bytes: &[u8], at: usize) -> (&[u8], &[u8])
-    requires within { at ≤ length bytes.now }
-    ensures before { result.0.now ≡ take at bytes.now }
-    ensures behind { result.1.now ≡ drop (at + 1) bytes.now }
-{
-    if at == bytes.len() {
-        return (bytes, &[]);
-    }
-    (&bytes[..at], &bytes[at + 1..])
-}
-
-fn before_space(bytes: &[u8]) -> usize
-    ensures value { result ≡ position_or_len is_space bytes.now }
-    ensures bound { result ≤ length bytes.now }
-{
-    bytes.iter().take_while(|b| **b != b' ').count()
-}
-
-fn before_tab(bytes: &[u8]) -> usize
-    ensures value { result ≡ position_or_len is_tab bytes.now }
-    ensures bound { result ≤ length bytes.now }
-{
-    bytes.iter().take_while(|b| **b != b'\t').count()
+    cut_at(bytes, b'\t')
 }
 
 // The key, where a request can carry it and it is no chunk's.
@@ -195,7 +169,7 @@ fn text_of_file(bytes: &[u8]) -> Result<&str, TaskError>
     ensures ok { IfOk result (λ file. (file.now ≡ bytes.now) × IsTrue (is_file bytes.now)) }
     ensures err { IfErr result (λ fault. (fault ≡ TaskError.File) × (is_file bytes.now ≡ false)) }
 {
-    if bytes.is_empty() || has_newline(bytes) {
+    if bytes.is_empty() || has_byte(bytes, b'\n') {
         return Err(TaskError::File);
     }
     match str::from_utf8(bytes) {
@@ -208,25 +182,13 @@ fn text_of_name(bytes: &[u8]) -> Result<&str, TaskError>
     ensures ok { IfOk result (λ name. (name.now ≡ bytes.now) × IsTrue (is_name bytes.now)) }
     ensures err { IfErr result (λ fault. (fault ≡ TaskError.Name) × (is_name bytes.now ≡ false)) }
 {
-    if has_tab(bytes) {
+    if has_byte(bytes, b'\t') {
         return Err(TaskError::Name);
     }
     match text_of_file(bytes) {
         Ok(name) => Ok(name),
         Err(_) => Err(TaskError::Name),
     }
-}
-
-fn has_tab(bytes: &[u8]) -> bool
-    ensures { result ≡ list_any is_tab bytes.now }
-{
-    bytes.iter().any(|b| *b == b'\t')
-}
-
-fn has_newline(bytes: &[u8]) -> bool
-    ensures { result ≡ list_any (λ b. b == 10) bytes.now }
-{
-    bytes.iter().any(|b| *b == b'\n')
 }
 
 /// The line of the task, without its end.

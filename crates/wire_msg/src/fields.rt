@@ -1,12 +1,10 @@
 // The command word of a line, and the parameters after it, by their classes.
-ghost use Rattle.std.specs.Prelude.{◌≡◌, ◌≤◌, ◌==◌, length, Some, option_map, option_copied, position, bytes_eq, true};
-ghost use Rattle.std.specs.List.{list_all, list_any};
+ghost use Rattle.std.specs.Prelude.{◌≡◌, ◌==◌, Some, option_map, option_copied, position, bytes_eq, true};
 ghost use Rattle.ann_key.specs.KeyRefs.{text_of};
-ghost use Rattle.ann_key.specs.Numbers.{is_digit, value_of};
 ghost use Rattle.annex_model.specs.Messages.{word_of, field_of, is_space, direction_of, number_field, key_field, rest_field, scope_field};
 ghost use Rattle.annex_model.specs.Messages.{word_rest_field, words_rest_field, key_rest_field, transfer_field, transfer_rest_field};
 
-use ann_key::KeyRef;
+use ann_key::{KeyRef, has_byte, number_of};
 
 // Where the first space stands.
 fn space_at(line: &[u8]) -> Option<usize>
@@ -16,7 +14,7 @@ fn space_at(line: &[u8]) -> Option<usize>
 }
 
 /// The command word reaches to the first space or the end.
-pub(super) fn word_of(line: &[u8]) -> &[u8]
+pub fn word_of(line: &[u8]) -> &[u8]
     ensures { result.now ≡ word_of line.now }
 {
     match space_at(line) {
@@ -26,7 +24,7 @@ pub(super) fn word_of(line: &[u8]) -> &[u8]
 }
 
 /// What follows the first space, if there is one.
-pub(super) fn field_of(line: &[u8]) -> Option<&[u8]>
+pub fn field_of(line: &[u8]) -> Option<&[u8]>
     ensures { option_copied result ≡ field_of line.now }
 {
     match space_at(line) {
@@ -36,14 +34,14 @@ pub(super) fn field_of(line: &[u8]) -> Option<&[u8]>
 }
 
 /// Whether the word is this one.
-pub(super) fn is_word(word: &[u8], name: &[u8]) -> bool
+pub fn is_word(word: &[u8], name: &[u8]) -> bool
     ensures { result ≡ bytes_eq word.now name.now }
 {
     word == name
 }
 
 /// The rest of the line, which is empty where no space came.
-pub(super) fn rest(field: Option<&[u8]>) -> &[u8]
+pub fn rest(field: Option<&[u8]>) -> &[u8]
     ensures { result.now ≡ rest_field (option_copied field.entry) }
 {
     match field {
@@ -52,59 +50,11 @@ pub(super) fn rest(field: Option<&[u8]>) -> &[u8]
     }
 }
 
-fn is_digit(b: u8) -> bool
-    ensures { result ≡ is_digit b }
-{
-    48 <= b && b < 58
-}
-
-fn all_digits(field: &[u8]) -> bool
-    ensures { result ≡ list_all is_digit field.now }
-{
-    field.iter().all(|b| is_digit(*b))
-}
-
-fn digits_value(field: &[u8]) -> u128
-    requires few { length field.now ≤ 20 }
-    requires digits { list_all is_digit field.now ≡ true }
-    ensures { result ≡ value_of field.now }
-{
-    let mut n: u128 = 0;
-    for b in field {
-        n = 10 * n + (*b - 48) as u128;
-    }
-    n
-}
-
-/// The number that the field spells; it may have leading zeros.
-pub(super) fn read_number(field: &[u8]) -> Option<u64>
-    ensures { result ≡ number_field (Some field.now) }
-{
-    if field.is_empty() || field.len() > 20 {
-        return None;
-    }
-    if !all_digits(field) {
-        return None;
-    }
-    let value = digits_value(field);
-    if value < 18_446_744_073_709_551_616 {
-        Some(value as u64)
-    } else {
-        None
-    }
-}
-
-fn has_space(bytes: &[u8]) -> bool
-    ensures { result ≡ list_any (λ b. b == 32) bytes.now }
-{
-    bytes.iter().any(|b| *b == b' ')
-}
-
 /// The key that the field spells, which holds no space.
-pub(super) fn read_key(field: &[u8]) -> Option<KeyRef<'_>>
+pub fn read_key(field: &[u8]) -> Option<KeyRef<'_>>
     ensures { option_map text_of result ≡ key_field (Some field.now) }
 {
-    if has_space(field) {
+    if has_byte(field, b' ') {
         return None;
     }
     match KeyRef::read(field) {
@@ -114,17 +64,17 @@ pub(super) fn read_key(field: &[u8]) -> Option<KeyRef<'_>>
 }
 
 /// The one number.
-pub(super) fn number(field: Option<&[u8]>) -> Option<u64>
+pub fn number(field: Option<&[u8]>) -> Option<u64>
     ensures { result ≡ number_field (option_copied field.entry) }
 {
     match field {
-        Some(field) => read_number(field),
+        Some(field) => number_of(field),
         None => None,
     }
 }
 
 /// The one key.
-pub(super) fn key(field: Option<&[u8]>) -> Option<KeyRef<'_>>
+pub fn key(field: Option<&[u8]>) -> Option<KeyRef<'_>>
     ensures { option_map text_of result ≡ key_field (option_copied field.entry) }
 {
     match field {
@@ -134,7 +84,7 @@ pub(super) fn key(field: Option<&[u8]>) -> Option<KeyRef<'_>>
 }
 
 /// `GLOBAL`, which is true, or `LOCAL`.
-pub(super) fn scope(field: Option<&[u8]>) -> Option<bool>
+pub fn scope(field: Option<&[u8]>) -> Option<bool>
     ensures { result ≡ scope_field (option_copied field.entry) }
 {
     let field = field?;
@@ -161,7 +111,7 @@ fn direction(word: &[u8]) -> Option<bool>
 }
 
 /// A word, and the rest.
-pub(super) fn word_rest(field: Option<&[u8]>) -> Option<(&[u8], &[u8])>
+pub fn word_rest(field: Option<&[u8]>) -> Option<(&[u8], &[u8])>
     ensures { option_map (λ t. (t.0.now, t.1.now)) result ≡ word_rest_field (option_copied field.entry) }
 {
     match field {
@@ -171,7 +121,7 @@ pub(super) fn word_rest(field: Option<&[u8]>) -> Option<(&[u8], &[u8])>
 }
 
 /// Two words, and the rest.
-pub(super) fn words_rest(field: Option<&[u8]>) -> Option<(&[u8], &[u8], &[u8])>
+pub fn words_rest(field: Option<&[u8]>) -> Option<(&[u8], &[u8], &[u8])>
     ensures { option_map (λ t. (t.0.now, (t.1.now, t.2.now))) result ≡ words_rest_field (option_copied field.entry) }
 {
     let field = field?;
@@ -182,7 +132,7 @@ pub(super) fn words_rest(field: Option<&[u8]>) -> Option<(&[u8], &[u8], &[u8])>
 }
 
 /// A key, and the rest.
-pub(super) fn key_rest(field: Option<&[u8]>) -> Option<(KeyRef<'_>, &[u8])>
+pub fn key_rest(field: Option<&[u8]>) -> Option<(KeyRef<'_>, &[u8])>
     ensures { option_map (λ t. (text_of t.0, t.1.now)) result ≡ key_rest_field (option_copied field.entry) }
 {
     let field = field?;
@@ -193,7 +143,7 @@ pub(super) fn key_rest(field: Option<&[u8]>) -> Option<(KeyRef<'_>, &[u8])>
 }
 
 /// A direction, and a key.
-pub(super) fn transfer(field: Option<&[u8]>) -> Option<(bool, KeyRef<'_>)>
+pub fn transfer(field: Option<&[u8]>) -> Option<(bool, KeyRef<'_>)>
     ensures { option_map (λ t. (t.0, text_of t.1)) result ≡ transfer_field (option_copied field.entry) }
 {
     let field = field?;
@@ -205,7 +155,7 @@ pub(super) fn transfer(field: Option<&[u8]>) -> Option<(bool, KeyRef<'_>)>
 }
 
 /// A direction, a key, and the rest.
-pub(super) fn transfer_rest(field: Option<&[u8]>) -> Option<(bool, KeyRef<'_>, &[u8])>
+pub fn transfer_rest(field: Option<&[u8]>) -> Option<(bool, KeyRef<'_>, &[u8])>
     ensures { option_map (λ t. (t.0, (text_of t.1, t.2.now))) result ≡ transfer_rest_field (option_copied field.entry) }
 {
     let field = field?;

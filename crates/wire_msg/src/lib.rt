@@ -1,7 +1,7 @@
 // The protocol's messages, read from lines and written as lines, both ways.
 #![tactic(auto)]
 
-mod fields;
+pub mod fields;
 mod host;
 mod parameters;
 mod remote;

@@ -3,7 +3,7 @@ ghost use Rattle.annex_model.specs.Tags.{untag, tagged_line, Tagged, numbered};
 ghost use Rattle.annex_model.specs.Messages.{number_field};
 
 use crate::fields;
-use ann_key::{Bytes, NoMemory};
+use ann_key::{Bytes, NoMemory, number_of};
 use std::alloc::Global;
 
 /// The number and the message of a tagged line; None exactly where it isn't tagged. It takes no memory.
@@ -33,7 +33,7 @@ fn scan(line: &[u8]) -> Option<(u64, &[u8])>
 fn numbered<'a>(word: &'a [u8], rest: Option<&'a [u8]>) -> Option<(u64, &'a [u8])>
     ensures { option_map (λ t. (t.0, t.1.now)) result ≡ numbered (number_field (Some word.entry.now)) (option_copied rest.entry) }
 {
-    let Some(number) = fields::read_number(word) else {
+    let Some(number) = number_of(word) else {
         return None;
     };
     match rest {

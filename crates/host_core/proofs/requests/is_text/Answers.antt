@@ -17,7 +17,7 @@ without false n h = refl
 pub returns-in-Ok : goal.returns-in-Ok
 returns-in-Ok c =
     let file = c.args.file.now in
-    ap not c.has_newline.ensures ∙ with_utf8 (is_utf8 file) (has_newline file) (is_utf8-from_IsUtf8 file c.in-Ok.ensures.cases.1)
+    ap not c.has_byte.ensures ∙ with_utf8 (is_utf8 file) (has_newline file) (is_utf8-from_IsUtf8 file c.in-Ok.ensures.cases.1)
 
 pub returns-in-Err : goal.returns-in-Err
 returns-in-Err c =

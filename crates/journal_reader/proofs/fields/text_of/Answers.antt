@@ -14,7 +14,7 @@ pub returns-in-Ok : goal.returns-in-Ok
 returns-in-Ok c = (
   c.in-Ok.ensures.cases.0,
   and_from (is_utf8 c.args.text.now) (not (has_newline c.args.text.now)) (is_utf8-from_IsUtf8 c.args.text.now c.in-Ok.ensures.cases.1)
-      (ap not (sym c.has_newline.ensures ∙ c.if-has_newline.false)),
+      (ap not (sym c.has_byte.ensures ∙ c.if-has_byte.false)),
 )
 
 pub returns-in-Err : goal.returns-in-Err

@@ -5,7 +5,7 @@ use Rattle.task_text.proofs.line.text_of_file.Goals as goal
 pub returns-in-Ok-clause-ok : goal.returns-in-Ok-clause-ok
 returns-in-Ok-clause-ok c = (
   c.in-Ok.ensures.cases.0,
-  file_of c.args.bytes.now (sym c.is_empty.ensures ∙ c.if-is_empty.false) (sym c.has_newline.ensures ∙ c.if-has_newline.false)
+  file_of c.args.bytes.now (sym c.is_empty.ensures ∙ c.if-is_empty.false) (sym c.has_byte.ensures ∙ c.if-has_byte.false)
       c.in-Ok.ensures.cases.1,
 )
 
