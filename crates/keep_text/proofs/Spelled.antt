@@ -12,7 +12,7 @@ use Rattle.annex_model.proofs.Rows.{Fills, AllOwn, rest_own, word_rest_own, key_
 use Rattle.reg_file.specs.Registers.{is_word, is_line}
 use Rattle.keep_text.specs.KeptLines.{KeptLine, Setting, Expression, State, Url, Chunks, KeptSpells, KeptFits, kept_row, kept_rows, kept_reading}
 use Rattle.ann_key.proofs.Booleans.{neither_is as apart, one_of_two as neither}
-use Rattle.std.proofs.lemmas.Bool.{and_from as both_true}
+use Rattle.ann_key.proofs.Lists.{each_fails}
 
 -- ---- what is spelled is read
 line_read : (word : List ℕ) → annex.is_word word ≡ true → {line tail : List ℕ} {k : KeptLine} {P : Option (List ℕ) → Type 0} → line ≡ word ++ tail → Reads tail P
@@ -48,9 +48,6 @@ spelled_of_read k line h =
     (behind (field_of line), word_and_field line ∙ ap (λ (w : List ℕ). w ++ behind (field_of line)) (sym r.0), r.1)
 
 -- ---- classes
-line_fits : (bytes : List ℕ) → not (has_newline bytes) ≡ true → is_line bytes ≡ true
-line_fits [] h = refl
-line_fits (b ∷ bytes) h = let parts = apart (b == 10) (has_newline bytes) h in both_true (not (b == 10)) (is_line bytes) parts.0 (line_fits bytes parts.1)
 
 word_fits : (bytes : List ℕ) → annex.is_word bytes ≡ true → not (has_newline bytes) ≡ true → is_word bytes ≡ true
 word_fits [] h k = refl
@@ -64,7 +61,7 @@ pieces : (a b line : List ℕ) → line ≡ a ++ b → not (has_newline line) �
 pieces a b line e h = apart (has_newline a) (has_newline b) (ap not (sym (list_any-append (λ b. b == 10) a b)) ∙ ap (λ (t : List ℕ). not (has_newline t)) (sym e) ∙ h)
 
 rest_fits : (rest tail : List ℕ) → Followed (Rest rest ∷ []) tail → not (has_newline tail) ≡ true → is_line rest ≡ true
-rest_fits rest tail (inl e) h = line_fits rest (ap (λ (t : List ℕ). not (has_newline t)) (sym e) ∙ h)
+rest_fits rest tail (inl e) h = each_fails (λ b. b == 10) rest (ap (λ (t : List ℕ). not (has_newline t)) (sym e) ∙ h)
 rest_fits rest tail (inr e) h = ap is_line e.1
 
 -- a field, and the rest after it

@@ -20,6 +20,7 @@ use Rattle.keep_text.proofs.LogText.{log_fits}
 use Rattle.keep_text.proofs.Spelled.{read_of_spelled}
 use Rattle.ann_key.proofs.Booleans.{neither_is as byte_of_word, left_false_not_right as apart, not_either as neither}
 use Rattle.std.proofs.lemmas.Bool.{and_parts as both, and_from as both_true}
+use Rattle.ann_key.proofs.Lists.{none_passes}
 
 -- ---- the lines of a text of lines
 line_back : (x t : List ℕ) → not (has_newline x) ≡ true → lines_in (x ++ 10 ∷ t) ≡ x ∷ lines_in t
@@ -35,9 +36,6 @@ lines_back (l ∷ ls) h =
     line_back l (text ls) parts.0 ∙ ap (λ (rest : List (List ℕ)). l ∷ rest) (lines_back ls parts.1)
 
 -- ---- classes of fields
-no_end : (bytes : List ℕ) → is_line bytes ≡ true → not (has_newline bytes) ≡ true
-no_end [] h = refl
-no_end (b ∷ bytes) h = let parts = both (not (b == 10)) (is_line bytes) h in neither (b == 10) (has_newline bytes) parts.0 (no_end bytes parts.1)
 
 pub no_space : (bytes : List ℕ) → is_word bytes ≡ true → annex.is_word bytes ≡ true
 no_space [] h = refl
@@ -71,21 +69,21 @@ spelled k class = read_of_spelled k (line_of k) (fields_text (kept_row k).1, ref
 register_back : (line : Line) → is_fit line ≡ true → Back (kept_of line)
 register_back (ConfigLine name value) h =
     let parts = both (is_word name) (is_line value) h in
-    record { read = spelled (Setting name value) (no_space name parts.0, tt); line = two name value (word_no_end name parts.0) (no_end value parts.1) }
-register_back (WantedLine value) h = record { read = spelled (Expression value) tt; line = no_end value h }
+    record { read = spelled (Setting name value) (no_space name parts.0, tt); line = two name value (word_no_end name parts.0) (none_passes (λ b. b == 10) value parts.1) }
+register_back (WantedLine value) h = record { read = spelled (Expression value) tt; line = none_passes (λ b. b == 10) value h }
 register_back (StateLine key value) h =
     let parts = both (is_key_word key) (nat_lt 0 (length value) && is_line value) h in
     let k = key_parts key parts.0 in
-    record { read = spelled (State key value) (k.0, tt); line = two key value k.1 (no_end value (both (nat_lt 0 (length value)) (is_line value) parts.1).1) }
+    record { read = spelled (State key value) (k.0, tt); line = two key value k.1 (none_passes (λ b. b == 10) value (both (nat_lt 0 (length value)) (is_line value) parts.1).1) }
 register_back (UrlLine key url) h =
     let parts = both (is_key_word key) (is_line url) h in
     let k = key_parts key parts.0 in
-    record { read = spelled (Url key url) (k.0, tt); line = two key url k.1 (no_end url parts.1) }
+    record { read = spelled (Url key url) (k.0, tt); line = two key url k.1 (none_passes (λ b. b == 10) url parts.1) }
 
 note_back : (note : Note) → IsKeepable note → Back (Chunks note.key (line_text note.line))
 note_back note n =
     let k = key_parts note.key n.key in
-    record { read = spelled (Chunks note.key (line_text note.line)) (k.0, tt); line = two note.key (line_text note.line) k.1 (no_end (line_text note.line) (log_fits note.line n.line n.seconds n.chunk n.count)) }
+    record { read = spelled (Chunks note.key (line_text note.line)) (k.0, tt); line = two note.key (line_text note.line) k.1 (none_passes (λ b. b == 10) (line_text note.line) (log_fits note.line n.line n.seconds n.chunk n.count)) }
 
 -- ---- lists of them
 abbrev pub are_kept : List (List ℕ) → Bool
