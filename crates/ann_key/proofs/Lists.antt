@@ -8,7 +8,7 @@ use Rattle.std.specs.Io.KnownBytes.{Appends}
 use Rattle.std.proofs.lemmas.List.{take-append-le, take_all}
 use Rattle.std.proofs.Math.Seq.{take-append_seam, append_snoc}
 use Rattle.std.proofs.lemmas.Slice.Eq.{bytes_eq-Decides}
-use Rattle.ann_key.proofs.Booleans.{neither_is, not_either}
+use Rattle.ann_key.proofs.Booleans.{neither_is, not_either, one_of_two}
 
 pub all_still : {X : Type 0} (p q : X → Bool) → ((x : X) → p x ≡ true → q x ≡ true) → (xs : List X) → list_all p xs ≡ true → list_all q xs ≡ true
 all_still p q h [] k = refl
@@ -167,3 +167,22 @@ none_found p (x ∷ xs) h = go (p x) refl h (none_found p xs)
         → (position_or_len p xs ≡ length xs → list_any p xs ≡ false) → list_any p (x ∷ xs) ≡ false
     go true e h rest = absurd (let bad : 0 ≡ suc (length xs) = h in omega arith)
     go false e h rest = rw e (rest (let same : 1 + position_or_len p xs ≡ suc (length xs) = h in omega arith))
+
+pub neither_passes : {X : Type 0} (p q : X → Bool) (xs : List X) → not (list_any p xs) ≡ true → not (list_any q xs) ≡ true → list_all (λ x. not (p x || q x)) xs ≡ true
+neither_passes p q [] h k = refl
+neither_passes p q (x ∷ xs) h k =
+    let first = neither_is (p x) (list_any p xs) h in
+    let second = neither_is (q x) (list_any q xs) k in
+    one_of_two (p x) (q x) (list_all (λ x. not (p x || q x)) xs) first.0 second.0 (neither_passes p q xs first.1 second.1)
+
+pub first_fails : {X : Type 0} (p q : X → Bool) (xs : List X) → list_all (λ x. not (p x || q x)) xs ≡ true → not (list_any p xs) ≡ true
+first_fails p q [] h = refl
+first_fails p q (x ∷ xs) h =
+    let parts = and_parts (not (p x || q x)) (list_all (λ x. not (p x || q x)) xs) h in
+    not_either (p x) (list_any p xs) (neither_is (p x) (q x) parts.0).0 (first_fails p q xs parts.1)
+
+pub second_fails : {X : Type 0} (p q : X → Bool) (xs : List X) → list_all (λ x. not (p x || q x)) xs ≡ true → not (list_any q xs) ≡ true
+second_fails p q [] h = refl
+second_fails p q (x ∷ xs) h =
+    let parts = and_parts (not (p x || q x)) (list_all (λ x. not (p x || q x)) xs) h in
+    not_either (q x) (list_any q xs) (neither_is (p x) (q x) parts.0).1 (second_fails p q xs parts.1)
