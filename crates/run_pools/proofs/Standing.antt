@@ -16,7 +16,6 @@ use Rattle.journal_model.proofs.Holding.{holder_append}
 use Rattle.journal_model.proofs.Looks.{any-append, each_of-append}
 use Rattle.journal_model.proofs.Testing.{all-each, all-join}
 use Rattle.host_core.specs.Steps.{unclaimed}
-use Rattle.child_start.proofs.Jobs.{idle_on}
 use Rattle.child_end.specs.Programs.{AddsAll, HaveStarted, RoseBy, is_failed_start, told, told_in}
 use Rattle.child_end.specs.Wires.{came, came_in}
 use Rattle.crew_worker.specs.KnownLayouts.{IsBook}
@@ -40,7 +39,7 @@ use Rattle.ann_key.proofs.Booleans.{false_is_true as not_yet, and_false as false
 use Rattle.std.proofs.lemmas.Bool.{and_parts as both, ne_eqb as differ, le-leb as low}
 use Rattle.journal_model.proofs.Working.{count-append, count_none}
 use Rattle.child_end.proofs.Across.{adds_both}
-use Rattle.journal_model.proofs.Across.{none_so as any_none}
+use Rattle.journal_model.proofs.Across.{none_so as any_none, idle_on}
 
 -- ---- the start itself
 
