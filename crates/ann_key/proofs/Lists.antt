@@ -186,3 +186,6 @@ second_fails p q [] h = refl
 second_fails p q (x ∷ xs) h =
     let parts = and_parts (not (p x || q x)) (list_all (λ x. not (p x || q x)) xs) h in
     not_either (q x) (list_any q xs) (neither_is (p x) (q x) parts.0).1 (second_fails p q xs parts.1)
+
+pub not_nil : {X : Type 0} (x : X) (xs : List X) → x ∷ xs ≡ [] → ⊥
+not_nil x xs e = cc

@@ -40,6 +40,7 @@ use Rattle.std.proofs.lemmas.Bool.{and_parts as both, ne_eqb as differ, le-leb a
 use Rattle.journal_model.proofs.Working.{count-append, count_none}
 use Rattle.child_end.proofs.Across.{adds_both}
 use Rattle.journal_model.proofs.Across.{none_so as any_none, idle_on}
+use Rattle.ann_key.proofs.Lists.{last_or-push}
 
 -- ---- the start itself
 
@@ -63,11 +64,7 @@ pub record SaysSlot (slot : ℕ) (past : List Entry) (first : What) : Type 0 whe
   pub stands : (o : Opening) (jobs : ℕ) → IsInSlot o jobs past slot → StandsInTurn o jobs past first
 
 last_one : {X : Type 0} (f : What → Option X) (x : X) (past : List Entry) (w : What) → f w ≡ Some x → last_or None (each_of f (past ++ main_entry w ∷ [])) ≡ Some x
-last_one f x past w e = ap (last_or None) (each_of-append f past (main_entry w ∷ []) ∙ ap (λ (o : Option _). each_of f past ++ cons_option o []) e) ∙ last_or-behind None (each_of f past) x
-  where
-    last_or-behind : {Y : Type 0} (d : Option Y) (ys : List Y) (y : Y) → last_or d (ys ++ y ∷ []) ≡ Some y
-    last_or-behind d [] y = refl
-    last_or-behind d (z ∷ ys) y = last_or-behind (Some z) ys y
+last_one f x past w e = ap (last_or None) (each_of-append f past (main_entry w ∷ []) ∙ ap (λ (o : Option _). each_of f past ++ cons_option o []) e) ∙ last_or-push None (each_of f past) x
 
 pub says_slot : (slot : ℕ) (past : List Entry) (first : What) → IsSlotStart slot past first → SaysSlot slot past first
 says_slot slot past first (inl e) = subst (SaysSlot slot past) (sym e) record {
