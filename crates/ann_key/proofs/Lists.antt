@@ -1,5 +1,5 @@
 -- Lists.
-use Rattle.std.proofs.Common.{◌≡◌, List, [], ◌∷◌, refl, ◌+◌, ◌++◌, Bool, ℕ, true, false, Option, Some, None, sym, ◌∙◌, ap, append_assoc, append-nil, length, arith, subst, cond, ◌<◌, ◌≤◌, take, ⊎_elim, suc, map, bytes_eq, zero, ◌==◌, rules, not}
+use Rattle.std.proofs.Common.{◌≡◌, List, [], ◌∷◌, refl, ◌+◌, ◌++◌, Bool, ℕ, true, false, Option, Some, None, sym, ◌∙◌, ap, append_assoc, append-nil, length, arith, subst, cond, ◌<◌, ◌≤◌, take, ⊎_elim, suc, map, bytes_eq, zero, ◌==◌, rules, not, ◌⊎◌, inl, inr}
 use Rattle.std.specs.Prelude.{◌||◌, filter, find, slice_get, option_map, nat_lt}
 use Rattle.std.specs.List.{list_all, list_any, concat, cons_option, last_or, range_with_len, position_or_len}
 use Rattle.std.proofs.lemmas.Bool.{and_parts, cases_lt, false≢true, and_from}
@@ -8,7 +8,7 @@ use Rattle.std.specs.Io.KnownBytes.{Appends}
 use Rattle.std.proofs.lemmas.List.{take-append-le, take_all}
 use Rattle.std.proofs.Math.Seq.{take-append_seam, append_snoc}
 use Rattle.std.proofs.lemmas.Slice.Eq.{bytes_eq-Decides}
-use Rattle.ann_key.proofs.Booleans.{neither_is, not_either, one_of_two}
+use Rattle.ann_key.proofs.Booleans.{neither_is, not_either, one_of_two, or_left, or_right}
 
 pub all_still : {X : Type 0} (p q : X → Bool) → ((x : X) → p x ≡ true → q x ≡ true) → (xs : List X) → list_all p xs ≡ true → list_all q xs ≡ true
 all_still p q h [] k = refl
@@ -189,3 +189,20 @@ second_fails p q (x ∷ xs) h =
 
 pub not_nil : {X : Type 0} (x : X) (xs : List X) → x ∷ xs ≡ [] → ⊥
 not_nil x xs e = cc
+
+pub slice_get-left : {X : Type 0} (xs ys : List X) (at : ℕ) → at < length xs → slice_get (xs ++ ys) at ≡ slice_get xs at
+slice_get-left [] ys at h = absurd (let bad : ⊥ = omega (arith, h) in bad)
+slice_get-left (x ∷ xs) ys zero h = refl
+slice_get-left (x ∷ xs) ys (suc at) h = slice_get-left xs ys at (omega (arith, h))
+
+-- a number of the range passes
+pub any_within : (p : ℕ → Bool) (a n u : ℕ) → a ≤ u → u < a + n → p u ≡ true → list_any p (range_with_len a n) ≡ true
+any_within p a zero u low high h = absurd (omega arith)
+any_within p a (suc n) u low high h = go (either a u low) (λ (more : a + 1 ≤ u). any_within p (a + 1) n u more (omega arith) h)
+  where
+    either : (a u : ℕ) → a ≤ u → (a ≡ u) ⊎ (a + 1 ≤ u)
+    either a u low = grind arith
+
+    go : (a ≡ u) ⊎ (a + 1 ≤ u) → (a + 1 ≤ u → list_any p (range_with_len (a + 1) n) ≡ true) → (p a || list_any p (range_with_len (a + 1) n)) ≡ true
+    go (inl same) rest = or_left (p a) (list_any p (range_with_len (a + 1) n)) (ap p same ∙ h)
+    go (inr more) rest = or_right (p a) (list_any p (range_with_len (a + 1) n)) (rest more)

@@ -6,7 +6,8 @@ ghost use Rattle.chunk_log.specs.ChunkLines.{number_in};
 ghost use Rattle.uuid.specs.Text.{parsed, hyphenated_text, lower};
 ghost use Rattle.annex_model.specs.Lines.{has_newline};
 ghost use Rattle.journal_lines.specs.JournalTexts.{worded, stamp_line, again_line};
-ghost use Rattle.journal_reader.specs.RunTexts.{HasNoText, HasText, is_text, is_uuid};
+ghost use Rattle.journal_model.specs.Legality.{is_text};
+ghost use Rattle.journal_reader.specs.RunTexts.{HasNoText, HasText, is_uuid};
 
 use ann_key::{NoMemory, Text};
 use std::alloc::Global;

@@ -3,9 +3,9 @@ use Rattle.std.specs.Str.{is_utf8}
 use Rattle.std.proofs.lemmas.Bool.{and_from, and_parts}
 use Rattle.std.proofs.lemmas.Str.{IsUtf8-from_is_utf8, is_utf8-from_IsUtf8}
 use Rattle.annex_model.specs.Lines.{has_newline}
-use Rattle.journal_reader.specs.RunTexts.{is_text}
 use Rattle.journal_reader.proofs.fields.text_of.Goals as goal
 use Rattle.ann_key.proofs.Booleans.{never_true}
+use Rattle.journal_model.specs.Legality.{is_text}
 
 pub returns-in-Ok : goal.returns-in-Ok
 returns-in-Ok c = (
