@@ -1,4 +1,5 @@
 pub mod Fitting
 pub mod HexText
 pub mod Namings
+pub mod WormKeys
 pub mod Zeros

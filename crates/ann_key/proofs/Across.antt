@@ -13,3 +13,6 @@ no_space (b ∷ key) e = grind (arith, common_steps, no_space key)
 
 pub digit_fits : (b : ℕ) → is_digit b ≡ true → not (b == 10) ≡ true
 digit_fits b h = grind (arith, nat_tests)
+
+pub digit_no_space : (b : ℕ) → is_digit b ≡ true → not (b == 32) ≡ true
+digit_no_space b h = grind (arith, nat_tests)

@@ -1,13 +1,14 @@
 -- Lists.
-use Rattle.std.proofs.Common.{◌≡◌, List, [], ◌∷◌, refl, ◌+◌, ◌++◌, Bool, ℕ, true, false, Option, Some, None, sym, ◌∙◌, ap, append_assoc, append-nil, length, arith, subst, cond, ◌<◌, ◌≤◌, take, ⊎_elim, suc, map, bytes_eq, zero, ◌==◌, rules}
+use Rattle.std.proofs.Common.{◌≡◌, List, [], ◌∷◌, refl, ◌+◌, ◌++◌, Bool, ℕ, true, false, Option, Some, None, sym, ◌∙◌, ap, append_assoc, append-nil, length, arith, subst, cond, ◌<◌, ◌≤◌, take, ⊎_elim, suc, map, bytes_eq, zero, ◌==◌, rules, not, ◌⊎◌, inl, inr}
 use Rattle.std.specs.Prelude.{◌||◌, filter, find, slice_get, option_map, nat_lt}
-use Rattle.std.specs.List.{list_all, list_any, concat, cons_option, last_or, range_with_len}
-use Rattle.std.proofs.lemmas.Bool.{and_parts, cases_lt, false≢true}
+use Rattle.std.specs.List.{list_all, list_any, concat, cons_option, last_or, range_with_len, position_or_len}
+use Rattle.std.proofs.lemmas.Bool.{and_parts, cases_lt, false≢true, and_from}
 use Rattle.std.proofs.lemmas.List.Folds.{list_all-append}
 use Rattle.std.specs.Io.KnownBytes.{Appends}
 use Rattle.std.proofs.lemmas.List.{take-append-le, take_all}
-use Rattle.std.proofs.Math.Seq.{take-append_seam}
+use Rattle.std.proofs.Math.Seq.{take-append_seam, append_snoc}
 use Rattle.std.proofs.lemmas.Slice.Eq.{bytes_eq-Decides}
+use Rattle.ann_key.proofs.Booleans.{neither_is, not_either, one_of_two, or_left, or_right}
 
 pub all_still : {X : Type 0} (p q : X → Bool) → ((x : X) → p x ≡ true → q x ≡ true) → (xs : List X) → list_all p xs ≡ true → list_all q xs ≡ true
 all_still p q h [] k = refl
@@ -135,3 +136,73 @@ weaken p q (x ∷ xs) f h =
     let one : q x ≡ true = f x parts.0 in
     let rest : list_all q xs ≡ true = weaken p q xs f parts.1 in
     rw (one, rest) refl
+
+-- the next element moves from the rest to what was passed
+pub next_passed : {X : Type 0} (passed : List X) (x : X) (all rest next : List X) → all ≡ passed ++ rest → rest ≡ x ∷ next → all ≡ (passed ++ x ∷ []) ++ next
+next_passed passed x all rest next whole step = whole ∙ ap (λ r. passed ++ r) step ∙ sym (append_snoc passed x next)
+
+-- nothing is left, so all was passed
+pub all_passed : {X : Type 0} (passed all rest : List X) → all ≡ passed ++ rest → length rest ≡ 0 → passed ≡ all
+all_passed passed all [] whole none = sym (whole ∙ append-nil passed)
+all_passed passed all (x ∷ rest) whole none = absurd (omega arith)
+
+pub each_fails : {X : Type 0} (p : X → Bool) (xs : List X) → not (list_any p xs) ≡ true → list_all (λ x. not (p x)) xs ≡ true
+each_fails p [] h = refl
+each_fails p (x ∷ xs) h =
+    let parts = neither_is (p x) (list_any p xs) h in
+    and_from (not (p x)) (list_all (λ x. not (p x)) xs) parts.0 (each_fails p xs parts.1)
+
+pub none_passes : {X : Type 0} (p : X → Bool) (xs : List X) → list_all (λ x. not (p x)) xs ≡ true → not (list_any p xs) ≡ true
+none_passes p [] h = refl
+none_passes p (x ∷ xs) h =
+    let parts = and_parts (not (p x)) (list_all (λ x. not (p x)) xs) h in
+    not_either (p x) (list_any p xs) parts.0 (none_passes p xs parts.1)
+
+-- no place passes
+pub none_found : {X : Type 0} (p : X → Bool) (xs : List X) → position_or_len p xs ≡ length xs → list_any p xs ≡ false
+none_found p [] h = refl
+none_found p (x ∷ xs) h = go (p x) refl h (none_found p xs)
+  where
+    go : (b : Bool) → p x ≡ b → cond (not b) (1 + position_or_len p xs) 0 ≡ suc (length xs)
+        → (position_or_len p xs ≡ length xs → list_any p xs ≡ false) → list_any p (x ∷ xs) ≡ false
+    go true e h rest = absurd (let bad : 0 ≡ suc (length xs) = h in omega arith)
+    go false e h rest = rw e (rest (let same : 1 + position_or_len p xs ≡ suc (length xs) = h in omega arith))
+
+pub neither_passes : {X : Type 0} (p q : X → Bool) (xs : List X) → not (list_any p xs) ≡ true → not (list_any q xs) ≡ true → list_all (λ x. not (p x || q x)) xs ≡ true
+neither_passes p q [] h k = refl
+neither_passes p q (x ∷ xs) h k =
+    let first = neither_is (p x) (list_any p xs) h in
+    let second = neither_is (q x) (list_any q xs) k in
+    one_of_two (p x) (q x) (list_all (λ x. not (p x || q x)) xs) first.0 second.0 (neither_passes p q xs first.1 second.1)
+
+pub first_fails : {X : Type 0} (p q : X → Bool) (xs : List X) → list_all (λ x. not (p x || q x)) xs ≡ true → not (list_any p xs) ≡ true
+first_fails p q [] h = refl
+first_fails p q (x ∷ xs) h =
+    let parts = and_parts (not (p x || q x)) (list_all (λ x. not (p x || q x)) xs) h in
+    not_either (p x) (list_any p xs) (neither_is (p x) (q x) parts.0).0 (first_fails p q xs parts.1)
+
+pub second_fails : {X : Type 0} (p q : X → Bool) (xs : List X) → list_all (λ x. not (p x || q x)) xs ≡ true → not (list_any q xs) ≡ true
+second_fails p q [] h = refl
+second_fails p q (x ∷ xs) h =
+    let parts = and_parts (not (p x || q x)) (list_all (λ x. not (p x || q x)) xs) h in
+    not_either (q x) (list_any q xs) (neither_is (p x) (q x) parts.0).1 (second_fails p q xs parts.1)
+
+pub not_nil : {X : Type 0} (x : X) (xs : List X) → x ∷ xs ≡ [] → ⊥
+not_nil x xs e = cc
+
+pub slice_get-left : {X : Type 0} (xs ys : List X) (at : ℕ) → at < length xs → slice_get (xs ++ ys) at ≡ slice_get xs at
+slice_get-left [] ys at h = absurd (let bad : ⊥ = omega (arith, h) in bad)
+slice_get-left (x ∷ xs) ys zero h = refl
+slice_get-left (x ∷ xs) ys (suc at) h = slice_get-left xs ys at (omega (arith, h))
+
+-- a number of the range passes
+pub any_within : (p : ℕ → Bool) (a n u : ℕ) → a ≤ u → u < a + n → p u ≡ true → list_any p (range_with_len a n) ≡ true
+any_within p a zero u low high h = absurd (omega arith)
+any_within p a (suc n) u low high h = go (either a u low) (λ (more : a + 1 ≤ u). any_within p (a + 1) n u more (omega arith) h)
+  where
+    either : (a u : ℕ) → a ≤ u → (a ≡ u) ⊎ (a + 1 ≤ u)
+    either a u low = grind arith
+
+    go : (a ≡ u) ⊎ (a + 1 ≤ u) → (a + 1 ≤ u → list_any p (range_with_len (a + 1) n) ≡ true) → (p a || list_any p (range_with_len (a + 1) n)) ≡ true
+    go (inl same) rest = or_left (p a) (list_any p (range_with_len (a + 1) n)) (ap p same ∙ h)
+    go (inr more) rest = or_right (p a) (list_any p (range_with_len (a + 1) n)) (rest more)

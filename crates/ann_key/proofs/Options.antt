@@ -20,3 +20,7 @@ none_some e = cc
 pub some_is : {X : Type 0} (o : Option X) (x : X) → o ≡ Some x → IsSome o
 some_is (Some y) x h = refl
 some_is None x h = absurd cc
+
+pub never_some : {X : Type 0} (o : Option X) → ((x : X) × (o ≡ Some x) → ⊥) → None ≡ o
+never_some None h = refl
+never_some (Some x) h = absurd (h (x, refl))

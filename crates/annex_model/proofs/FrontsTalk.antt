@@ -9,6 +9,7 @@ use Rattle.annex_model.proofs.Awaiting.{before_awaits}
 use Rattle.annex_model.proofs.Cutting.{Shown, hosts_of, blocks, cut, begins}
 use Rattle.annex_model.proofs.TalksGrow.{flat_map-append}
 use Rattle.std.proofs.lemmas.List.{map-append}
+use Rattle.ann_key.proofs.Lists.{last_or-append, nil_back, not_nil}
 
 remote_items-append : (xs ys : List Item) → remote_items (xs ++ ys) ≡ remote_items xs ++ remote_items ys
 remote_items-append xs ys = filter-append (λ (x : Item). is_remote x.side) xs ys
@@ -21,7 +22,7 @@ said-append xs ys =
 
 -- what ends with a final item says something
 final_said : (o : Option Item) (x : Item) (xs : List Item) → is_final_item (last_or o (x ∷ xs)) ≡ true → said (x ∷ xs) ≡ [] → ⊥
-final_said o x [] h none = not_empty (remote_reading x.text) (sym (one (parts (is_remote x.side) (item_is_aside x) h)) ∙ none)
+final_said o x [] h none = not_nil (remote_reading x.text) [] (sym (one (parts (is_remote x.side) (item_is_aside x) h)) ∙ none)
   where
     parts : (r a : Bool) → (r && not a) ≡ true → (r ≡ true) × (a ≡ false)
     parts true false h = (refl, refl)
@@ -30,28 +31,17 @@ final_said o x [] h none = not_empty (remote_reading x.text) (sym (one (parts (i
 
     one : (is_remote x.side ≡ true) × (item_is_aside x ≡ false) → said (x ∷ []) ≡ remote_reading x.text ∷ []
     one e = rw (e.0) (rw (e.1) refl)
-
-    not_empty : {X : Type 0} (v : X) → v ∷ [] ≡ [] → ⊥
-    not_empty v e = cc
 final_said o x (y ∷ ys) h none = final_said (Some x) y ys h (later (said-append (x ∷ []) (y ∷ ys)) none)
   where
-    no_tail : {X : Type 0} (xs bs : List X) → xs ++ bs ≡ [] → bs ≡ []
-    no_tail [] bs e = e
-    no_tail (a ∷ more) bs e = absurd cc
-
     later : said (x ∷ y ∷ ys) ≡ said (x ∷ []) ++ said (y ∷ ys) → said (x ∷ y ∷ ys) ≡ [] → said (y ∷ ys) ≡ []
-    later e none = no_tail (said (x ∷ [])) (said (y ∷ ys)) (sym e ∙ none)
-
-last_or-append : (o : Option Item) (xs : List Item) (y : Item) (ys : List Item) → last_or o (xs ++ y ∷ ys) ≡ last_or None (y ∷ ys)
-last_or-append o [] y ys = refl
-last_or-append o (x ∷ xs) y ys = last_or-append (Some x) xs y ys
+    later e none = nil_back (said (x ∷ [])) (said (y ∷ ys)) (sym e ∙ none)
 
 module _ (replies : ℕ → List (List ℕ)) (q : HostMessage) where
   waits_before : (part : List Item) (i : Item) (rest : List Item) → Conv replies q (part ++ i ∷ rest) → awaits q (said part) ≡ true
   waits_before part i rest c = go (said (i ∷ rest)) refl
     where
       last : is_final_item (last_or None (i ∷ rest)) ≡ true
-      last = ap is_final_item (sym (last_or-append None part i rest)) ∙ c.last
+      last = ap is_final_item (sym (last_or-append None part (i ∷ rest))) ∙ c.last
 
       go : (ms : List (Option RemoteMessage)) → said (i ∷ rest) ≡ ms → awaits q (said part) ≡ true
       go [] none = absurd (final_said None i rest last none)

@@ -13,8 +13,8 @@ use Rattle.annex_model.specs.Lines.{has_newline}
 use Rattle.reg_file.specs.Registers.{is_line}
 use Rattle.journal_model.specs.Replies.{base_text, mixed_at, lower_at}
 use Rattle.journal_model.proofs.BaseText.{base_is_the_base}
-use Rattle.ask_serve.proofs.Fields.{field_of_line}
 use Rattle.std.proofs.lemmas.Bool.{and_parts as both, and_from as both_true}
+use Rattle.ann_key.proofs.Lists.{none_passes}
 
 -- the base text of a key that was read spells the key without its chunk
 pub base_spelled : (key : KeyRef) → IsKey (base_text (text_of key)) (without_chunk (parts_of key))
@@ -67,8 +67,8 @@ mixed_is_line digest =
 
 pub mixed_line : (key : List ℕ) → not (has_newline (mixed_at key)) ≡ true
 unfolding mixed_at
-mixed_line key = field_of_line (mixed_under (md5 (base_text key))) (mixed_is_line (md5 (base_text key)))
+mixed_line key = none_passes (λ b. b == 10) (mixed_under (md5 (base_text key))) (mixed_is_line (md5 (base_text key)))
 
 pub lower_line : (key : List ℕ) → not (has_newline (lower_at key)) ≡ true
 unfolding lower_at
-lower_line key = field_of_line (lower_under (md5 (base_text key))) (lower_is_line (md5 (base_text key)))
+lower_line key = none_passes (λ b. b == 10) (lower_under (md5 (base_text key))) (lower_is_line (md5 (base_text key)))

@@ -1,4 +1,3 @@
-pub mod Fields
 pub mod KeyDirectories
 pub mod Owed
 pub mod Settable

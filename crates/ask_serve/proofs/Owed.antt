@@ -10,32 +10,32 @@ use Rattle.reg_file.specs.Registers.{RegisterFile, IsKept, is_line, is_word, is_
 use Rattle.reg_file.proofs.Readings.{read_passes, second_passes, urls_pass}
 use Rattle.journal_model.specs.Replies.{value_line, creds_line, url_lines}
 use Rattle.ask_serve.specs.Lines.{are_lines}
-use Rattle.ask_serve.proofs.Fields.{field_of_line, field_of_word, line_of_word}
 use Rattle.ann_key.proofs.Booleans.{not_either as neither}
 use Rattle.std.proofs.lemmas.Bool.{and_parts as both, and_from as both_true}
+use Rattle.ann_key.proofs.Lists.{first_fails, none_passes, second_fails}
 
 -- ---- what registers hold
 module _ (r : RegisterFile) (kept : IsKept r) where
   pub config_fits : (name : List ℕ) → not (has_newline (config_of r name)) ≡ true
-  config_fits name = field_of_line (config_of r name) (read_passes is_word is_line [] refl name r.config kept.config_texts)
+  config_fits name = none_passes (λ b. b == 10) (config_of r name) (read_passes is_word is_line [] refl name r.config kept.config_texts)
 
   login_fits : (setting : List ℕ) → (is_word (creds_of r setting).0 && is_line (creds_of r setting).1) ≡ true
   login_fits setting = read_passes is_word (λ (v : List ℕ × List ℕ). is_word v.0 && is_line v.1) ([], []) refl setting r.creds kept.creds_texts
 
   pub user_is_word : (setting : List ℕ) → not (list_any is_space (creds_of r setting).0) ≡ true
-  user_is_word setting = field_of_word (creds_of r setting).0 (both (is_word (creds_of r setting).0) (is_line (creds_of r setting).1) (login_fits setting)).0
+  user_is_word setting = second_fails (λ b. b == 10) is_space (creds_of r setting).0 (both (is_word (creds_of r setting).0) (is_line (creds_of r setting).1) (login_fits setting)).0
 
   pub user_fits : (setting : List ℕ) → not (has_newline (creds_of r setting).0) ≡ true
-  user_fits setting = field_of_line (creds_of r setting).0 (line_of_word (creds_of r setting).0 (both (is_word (creds_of r setting).0) (is_line (creds_of r setting).1) (login_fits setting)).0)
+  user_fits setting = first_fails (λ b. b == 10) is_space (creds_of r setting).0 (both (is_word (creds_of r setting).0) (is_line (creds_of r setting).1) (login_fits setting)).0
 
   pub password_fits : (setting : List ℕ) → not (has_newline (creds_of r setting).1) ≡ true
-  password_fits setting = field_of_line (creds_of r setting).1 (both (is_word (creds_of r setting).0) (is_line (creds_of r setting).1) (login_fits setting)).1
+  password_fits setting = none_passes (λ b. b == 10) (creds_of r setting).1 (both (is_word (creds_of r setting).0) (is_line (creds_of r setting).1) (login_fits setting)).1
 
   pub wanted_fits : not (has_newline r.wanted) ≡ true
-  wanted_fits = field_of_line r.wanted kept.wanted_text
+  wanted_fits = none_passes (λ b. b == 10) r.wanted kept.wanted_text
 
   pub state_fits : (key : List ℕ) → not (has_newline (state_of r key)) ≡ true
-  state_fits key = field_of_line (state_of r key) (read_passes is_key_word is_line [] refl key r.state (second_passes is_key_word (λ value. nat_lt 0 (length value)) is_line r.state kept.state_texts))
+  state_fits key = none_passes (λ b. b == 10) (state_of r key) (read_passes is_key_word is_line [] refl key r.state (second_passes is_key_word (λ value. nat_lt 0 (length value)) is_line r.state kept.state_texts))
 
   pub urls_fit : (key prefix : List ℕ) → list_all is_line (urls_of r key prefix) ≡ true
   urls_fit key prefix = urls_pass is_key_word is_line key prefix r.urls kept.urls_texts
@@ -55,7 +55,7 @@ url_lines_fit : (urls : List (List ℕ)) → list_all is_line urls ≡ true → 
 url_lines_fit [] h = refl
 url_lines_fit (url ∷ urls) h =
     let parts = both (is_line url) (list_all is_line urls) h in
-    both_true (not (has_newline url)) _ (field_of_line url parts.0) (url_lines_fit urls parts.1)
+    both_true (not (has_newline url)) _ (none_passes (λ b. b == 10) url parts.0) (url_lines_fit urls parts.1)
 
 pub urls_are_lines : (lines urls : List (List ℕ)) → lines ≡ url_lines urls → list_all is_line urls ≡ true → are_lines lines ≡ true
 urls_are_lines lines urls e h = ap are_lines e ∙ url_lines_fit urls h

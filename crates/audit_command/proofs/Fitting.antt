@@ -2,8 +2,6 @@
 use Rattle.std.proofs.Common.{◌≡◌, ℕ, ◌≤◌, Bool, true, false, not, List, Option, Some, None, length, get_or, refl, sym, ap, subst, ◌∙◌, arith}
 use mathlib.Core.Bool.{false≢true}
 use Rattle.std.specs.Prelude.{All}
-use Rattle.std.specs.Str.{is_utf8}
-use Rattle.std.proofs.lemmas.Bool.{and_parts}
 use Rattle.std.proofs.lemmas.Option.{slice_get-get_or}
 use Rattle.uuid.specs.Text.{hyphenated_text, lower, parsed}
 use Rattle.annex_model.specs.Lines.{has_newline}
@@ -15,10 +13,11 @@ use Rattle.task_text.specs.TaskLines.{IsTask}
 use Rattle.journal_model.specs.Beginnings.{MayBegin}
 use Rattle.journal_model.specs.Limits.{most_again}
 use Rattle.journal_model.specs.Replies.{IsLineIdentity}
-use Rattle.journal_reader.specs.RunTexts.{IsAgain, is_text, is_written_uuid}
+use Rattle.journal_reader.specs.RunTexts.{IsAgain, is_written_uuid}
 use Rattle.cli_words.proofs.Fits.{uuid_fits}
 use Rattle.audit_command.specs.Inputs.{IsTextOf}
 use Rattle.ann_key.proofs.Lists.{equal_bytes as same_bytes}
+use Rattle.journal_model.proofs.FieldLines.{text_fits}
 
 -- ---- a UUID as it is written
 
@@ -33,9 +32,6 @@ written_uuid text None e h = absurd (false≢true h)
 written_uuid text (Some u) e h = (u, e, sym (same_bytes (hyphenated_text lower u) text h))
 
 -- ---- the opening
-
-text_fits : (text : List ℕ) → is_text text ≡ true → not (has_newline text) ≡ true
-text_fits text h = (and_parts (is_utf8 text) (not (has_newline text)) h).1
 
 along : (a b : List ℕ) → a ≡ b → not (has_newline b) ≡ true → not (has_newline a) ≡ true
 along a b e h = ap (λ (t : List ℕ). not (has_newline t)) e ∙ h

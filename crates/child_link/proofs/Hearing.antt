@@ -34,13 +34,13 @@ use Rattle.child_link.specs.declared.ear.Heard.{Heard}
 use Rattle.child_link.specs.declared.ear.Heard.TheVariants.{Fed as HeardLine, Read as HeardMore, Over as HeardOver}
 use Rattle.child_link.specs.Hearings.{IsLong, by_long, Shorter, IsFeeding, IsHearing, IsNextFed, IsAllFed}
 use Rattle.child_link.specs.Asks.{Grows}
-use Rattle.child_link.proofs.Firsts.{line_short}
 use Rattle.child_link.proofs.Roles.{moved_by, moved_on, moved_from, others_append}
 use Rattle.child_link.proofs.Ears.{ear_ends, ear_takes, ending_by_ear, got_by_ear}
 use Rattle.journal_model.proofs.Ears.{ear_read}
 use Rattle.child_link.proofs.Turns.{InTurn, turn_on, turn_makes, turn_takes}
 use Rattle.ann_key.proofs.Numbers.{same_number as same}
 use Rattle.ann_key.proofs.Booleans.{or_true}
+use Rattle.wire_line.proofs.Limits.{short_line}
 
 -- a reason that is neither the end of the output nor a fault of reading
 abbrev is_other : Why → Bool
@@ -97,7 +97,7 @@ module _ {n : ℕ} {a : Bool} (o : Opening) {old new : List Entry} (v : EarValue
       → length w.held < length v.held
       → Takes o n a old new c line b → Moved n a (by_ear v.child) (is_heard v.child) old new (EarWired old v) (EarWired new w)
   ear_fed w line b t same e cut fewer s =
-      ear_takes line v w same (omega (arith, ap (λ (l : List ℕ). length l) e.1, line_short longest_line v.held e.0)) (omega (arith, fewer))
+      ear_takes line v w same (omega (arith, ap (λ (l : List ℕ). length l) e.1, short_line longest_line v.held e.0)) (omega (arith, fewer))
       (subst (λ (l : List ℕ). TakesLine v.held l w.held) (sym e.1) cut) (taken line b t s)
 
   pub turn_fed : (line : List ℕ) (b : Bool) → b ≡ true → Takes o n a old new c line b

@@ -19,8 +19,7 @@ use Rattle.child_link.specs.Alone.{GoesOn, AskedAlone, IsSettled, IsLost}
 use Rattle.ann_key.proofs.Booleans.{or_false}
 use Rattle.std.proofs.lemmas.Bool.{and_parts as both}
 use Rattle.ann_key.proofs.Numbers.{same_number as same}
-use Rattle.host_core.proofs.Across.{settled_on, verdict_settles as verdict_settled}
-use Rattle.journal_model.proofs.Across.{none_left}
+use Rattle.journal_model.proofs.Across.{none_left, idle_on, settled_on, verdict_settles as verdict_settled}
 
 -- ---- a link's own entries
 
@@ -62,13 +61,6 @@ goes_names old new c g =
     )
 
 -- ---- an idle child
-
--- a child without an open job has none after entries that ask it nothing
-pub idle_on : (old more : List Entry) (c : ℕ) → asked_jobs more c ≡ [] → open_jobs old c ≡ [] → open_jobs (old ++ more) c ≡ []
-idle_on old more c none idle =
-    ap (filter (λ (k : ℕ). not (is_settled (old ++ more) c k)))
-    (each_of-append (asks c) old more ∙ ap (λ (ks : List ℕ). asked_jobs old c ++ ks) none ∙ append-nil (asked_jobs old c))
-    ∙ none_left old (old ++ more) c (asked_jobs old c) (λ k. settled_on old more c k) idle
 
 pub goes_idle : {n : ℕ} (old new : List Entry) (c : ℕ) → GoesOn n c old new → open_jobs old c ≡ [] → open_jobs new c ≡ []
 goes_idle old new c g idle = ap (λ (x : List Entry). open_jobs x c) g.is ∙ idle_on old g.more c (link_asks_none c g.more g.quiet) idle

@@ -28,7 +28,7 @@ use Rattle.child_start.proofs.Losing.{links_unlost, unlost_more, unlost_on}
 use Rattle.child_start.proofs.Requests.{none_later, greets_goes, greets_both}
 use Rattle.std.proofs.lemmas.Bool.{and_from as two_true, and_parts as both, eqb-true as same_number}
 use Rattle.ann_key.proofs.Booleans.{or_true}
-use Rattle.host_core.proofs.Across.{verdict_settles as verdict_settled}
+use Rattle.journal_model.proofs.Across.{verdict_settles as verdict_settled}
 
 all_three : (a b c : Bool) → a ≡ true → b ≡ true → c ≡ true → (a && b && c) ≡ true
 all_three a b c h k l = rw (h, k, l) refl

@@ -12,9 +12,7 @@ use Rattle.chunk_log.specs.Stamps.{digit, micros_text, stamp_in, stamp_text}
 use Rattle.chunk_log.specs.declared.stamp.Stamp.{Stamp}
 use Rattle.chunk_log.proofs.Cuts.{after_first-at, after_last-at, before_first-at, before_last-at, list_all-append, list_all-weaken, list_any-at}
 use Rattle.chunk_log.proofs.StampBack.{decimal_reads, stamp_back, Decimal}
-
-digit_no_space : (x : ℕ) → is_digit x ≡ true → not (is_space x) ≡ true
-digit_no_space x h = grind (arith, nat_tests)
+use Rattle.ann_key.proofs.Across.{digit_no_space}
 
 digit_no_colon : (x : ℕ) → is_digit x ≡ true → not (is_colon x) ≡ true
 digit_no_colon x h = grind (arith, nat_tests)

@@ -1,25 +1,17 @@
 -- Words that spell settings, and words that spell none.
-use Rattle.std.proofs.Common.{◌≡◌, ◌∙◌, ℕ, suc, ◌+◌, ◌<◌, Bool, true, false, not, cond, List, [], ◌∷◌, ◌++◌, length, take, slice_index_or, Some, None, refl, sym, ap, arith}
+use Rattle.std.proofs.Common.{◌≡◌, ◌∙◌, ℕ, ◌+◌, ◌<◌, Bool, true, false, cond, List, [], ◌∷◌, ◌++◌, length, take, slice_index_or, Some, None, refl, sym, ap}
 use Rattle.std.specs.Prelude.{map, string_bytes, String}
-use Rattle.std.specs.List.{list_all, list_any, position_or_len}
+use Rattle.std.specs.List.{list_all, position_or_len}
 use Rattle.std.specs.declared.alloc.Global.{Global}
 use Rattle.std.proofs.lemmas.List.{get_or-map, length-map, map_more}
 use Rattle.std.proofs.lemmas.List.Folds.{list_all_at, list_all_more}
 use Rattle.cli_words.specs.Values.{texts_of}
 use Rattle.cli_words.specs.Settings.{is_equals, setting_at, setting_in, settings_in, spells_setting}
 use Rattle.cli_words.specs.declared.settings.Setting.{Setting}
-
-pub no_equals : (word : List ℕ) → position_or_len is_equals word ≡ length word → list_any is_equals word ≡ false
-no_equals [] h = refl
-no_equals (b ∷ bs) h = go (is_equals b) refl h (no_equals bs)
-  where
-    go : (s : Bool) → is_equals b ≡ s → cond (not s) (1 + position_or_len is_equals bs) 0 ≡ suc (length bs)
-        → (position_or_len is_equals bs ≡ length bs → list_any is_equals bs ≡ false) → list_any is_equals (b ∷ bs) ≡ false
-    go true e h rest = absurd (let bad : 0 ≡ suc (length bs) = h in omega arith)
-    go false e h rest = rw e (rest (let same : 1 + position_or_len is_equals bs ≡ suc (length bs) = h in omega arith))
+use Rattle.ann_key.proofs.Lists.{none_found}
 
 pub no_setting : (word : List ℕ) → position_or_len is_equals word ≡ length word → None ≡ setting_in word
-no_setting word h = rw (no_equals word h) refl
+no_setting word h = rw (none_found is_equals word h) refl
 
 -- the bytes of a word, by its place
 pub word_at : (words : List (String Global)) (i : ℕ) (w : String Global) → i < length words → w ≡ slice_index_or words i w

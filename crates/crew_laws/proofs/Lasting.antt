@@ -1,72 +1,30 @@
 -- A run of a task stays in a journal as it was.
-use Rattle.std.proofs.Common.{◌≡◌, ℕ, ◌+◌, List, [], ◌∷◌, ◌++◌, refl, sym, ap, subst, ◌∙◌, Bool, true, false, not, ◌==◌, cond, Some, None, Option, length, append_assoc}
-use Rattle.std.specs.Prelude.{◌||◌, option_map}
+use Rattle.std.proofs.Common.{◌≡◌, ℕ, ◌+◌, List, [], ◌∷◌, ◌++◌, refl, sym, ap, subst, ◌∙◌, true, false, not, Option, length, append_assoc}
+use Rattle.std.specs.Prelude.{◌||◌}
 use Rattle.std.specs.List.{list_any, cons_option}
 use Rattle.std.proofs.lemmas.List.Folds.{list_any-append}
-use Rattle.journal_model.specs.declared.verdict.Verdict.{Verdict}
-use Rattle.journal_model.specs.declared.entry.What.{What}
-use Rattle.journal_model.specs.declared.entry.What.TheVariants.{Claim, Ask, Lost}
+use Rattle.journal_model.specs.declared.entry.What.TheVariants.{Claim}
 use Rattle.journal_model.specs.declared.entry.Entry.{Entry}
 use Rattle.journal_model.specs.declared.opening.Opening.{Opening}
-use Rattle.journal_model.specs.Journal.{each_of, is_open, verdict_of}
+use Rattle.journal_model.specs.Journal.{each_of, is_open}
 use Rattle.journal_model.specs.Legality.{job_for, has_open_job}
 use Rattle.journal_model.proofs.Looks.{entry, each_of-append}
 use Rattle.ann_outside.specs.declared.file_desk.Call.{Call}
-use Rattle.annex_model.specs.Messages.{host_reading}
-use Rattle.journal_model.specs.Journal.{addressed}
 use Rattle.task_model.specs.Askers.{Asking, Noting}
 use Rattle.task_model.specs.declared.setup.Setup.{Setup}
-use Rattle.task_model.specs.Askings.{TaskStretch, closing, past_claim, run_turn, run_askings, run_notings, asking_of, askings_from, noting_of, notings_from, name_before}
+use Rattle.task_model.specs.Askings.{TaskStretch, closing, past_claim, run_turn, run_askings, run_notings, asking_of, noting_of, notings_from}
 use Rattle.task_model.specs.Runs.{TaskRun}
-use Rattle.journal_model.proofs.Working.{AllAsked, all_asked, closed_all, kept_verdict}
+use Rattle.journal_model.proofs.Working.{AllAsked, all_asked, closed_all, SameVerdicts, same_verdicts}
 use Rattle.crew_laws.specs.JournalRuns.{JournalRun, is_shut}
 use Rattle.std.proofs.lemmas.Bool.{not-true as not_true}
 use Rattle.ann_key.proofs.Booleans.{left_false as either_left, right_false as either_right}
-
--- ---- the same verdicts
-
--- the jobs are settled alike in both
-abbrev pub SameVerdicts : List Entry → List Entry → List (ℕ × ℕ) → Type 0
-SameVerdicts j k [] = Unit {0}
-SameVerdicts j k (q ∷ qs) = (verdict_of j q.0 q.1 ≡ verdict_of k q.0 q.1) × SameVerdicts j k qs
-
-pub same_verdicts : (past more : List Entry) (qs : List (ℕ × ℕ)) → AllAsked past qs → list_any (λ q. is_open past q.0 q.1) qs ≡ false → SameVerdicts (past ++ more) past qs
-same_verdicts past more [] a h = tt
-same_verdicts past more (q ∷ qs) a h = (
-  kept_verdict past more q.0 q.1 a.0 (either_left (is_open past q.0 q.1) (list_any (λ q. is_open past q.0 q.1) qs) h),
-  same_verdicts past more qs a.1 (either_right (is_open past q.0 q.1) (list_any (λ q. is_open past q.0 q.1) qs) h),
-)
+use Rattle.task_model.proofs.Askings.{alike, askings_alike}
 
 asked_split : (past : List Entry) (xs ys : List (ℕ × ℕ)) → AllAsked past (xs ++ ys) → AllAsked past xs × AllAsked past ys
 asked_split past [] ys h = (tt, h)
 asked_split past (x ∷ xs) ys h = (let r = asked_split past xs ys h.1 in ((h.0, r.0), r.1))
 
 -- ---- along a stretch
-
-abbrev pub Alike : List Entry → List Entry → ℕ → List Entry → What → Type 0
-Alike j k t past w = asking_of j t past w ≡ asking_of k t past w
-
--- an entry asks alike in both, where its job is settled alike
-pub alike : (j k : List Entry) (t : ℕ) (past xs : List Entry) (w : What) → SameVerdicts j k (cons_option (job_for t w) (each_of (job_for t) xs))
-    → Alike j k t past w × SameVerdicts j k (each_of (job_for t) xs)
-alike j k t past xs (Ask child job task line) h = go (task == t) h
-  where
-    asked : Verdict → Asking
-    asked v = record { request = host_reading (addressed past child line).1; name = name_before past child job; verdict = v }
-
-    go : (b : Bool) → SameVerdicts j k (cons_option (cond b (Some (child, job)) None) (each_of (job_for t) xs))
-        → (cond b (option_map asked (verdict_of j child job)) None ≡ cond b (option_map asked (verdict_of k child job)) None) × SameVerdicts j k (each_of (job_for t) xs)
-    go true h = (ap (option_map asked) h.0, h.1)
-    go false h = (refl, h)
-alike j k t past xs (Lost child task) h = (refl, h)
-alike j k t past xs w h = (refl, h)
-
-pub askings_alike : (j k : List Entry) (t : ℕ) (past xs : List Entry) → SameVerdicts j k (each_of (job_for t) xs) → askings_from j t past xs ≡ askings_from k t past xs
-askings_alike j k t past [] h = refl
-askings_alike j k t past (e ∷ xs) h =
-    let a = alike j k t past xs e.what h in
-    ap (λ (o : Option Asking). cons_option o (askings_from j t (past ++ e ∷ []) xs)) a.0
-    ∙ ap (cons_option (asking_of k t past e.what)) (askings_alike j k t (past ++ e ∷ []) xs a.1)
 
 pub notings_alike : (j k : List Entry) (t : ℕ) (past : List Entry) (behind : ℕ) (xs : List Entry) → SameVerdicts j k (each_of (job_for t) xs)
     → notings_from j t past behind xs ≡ notings_from k t past behind xs

@@ -1,7 +1,5 @@
 -- Lists that are related place by place.
-use Rattle.std.proofs.Common.{◌≡◌, List, [], ◌∷◌, ◌++◌, refl, ap, sym, ◌∙◌, length, arith}
-use Rattle.std.proofs.Math.Seq.{append_snoc}
-use Rattle.std.proofs.lemmas.List.{append-nil}
+use Rattle.std.proofs.Common.{◌≡◌, List, [], ◌∷◌, ◌++◌, refl, ap}
 use Rattle.crew_laws.specs.Pairs.{Pairwise}
 
 pub pairwise-snoc : {A B : Type 0} (R : A → B → Type 0) (xs : List A) (ys : List B) (x : A) (y : B)
@@ -21,13 +19,3 @@ pairwise-last R [] x (z ∷ w ∷ zs) all = absurd all.1
 pairwise-last R (a ∷ xs) x [] all = absurd all
 pairwise-last R (a ∷ xs) x (z ∷ zs) all =
     let (ys, y, is, front, back) = pairwise-last R xs x zs all.1 in (z ∷ ys, y, ap (λ l. z ∷ l) is, (all.0, front), back)
-
--- the next element moves from the rest to what was passed
-pub shifted : {A : Type 0} (passed : List A) (x : A) (all rest next : List A)
-    → all ≡ passed ++ rest → rest ≡ x ∷ next → all ≡ (passed ++ x ∷ []) ++ next
-shifted passed x all rest next whole step = whole ∙ ap (λ r. passed ++ r) step ∙ sym (append_snoc passed x next)
-
--- nothing is left, so all was passed
-pub all_passed : {A : Type 0} (passed all rest : List A) → all ≡ passed ++ rest → length rest ≡ 0 → passed ≡ all
-all_passed passed all [] whole none = sym (whole ∙ append-nil passed)
-all_passed passed all (x ∷ rest) whole none = absurd (omega arith)

@@ -29,12 +29,12 @@ use Rattle.crew_worker.specs.AtTasks.{AtTask, SameTask}
 use Rattle.crew_worker.specs.Servings.{HasTurn}
 use Rattle.crew_worker.specs.Works.{CanServe, Given, HasClaimed, NoneAtWork, TurnBegun, claimed_of}
 use Rattle.crew_worker.proofs.Pairs.{passed}
-use Rattle.crew_worker.proofs.Serving.{idle_on}
 use Rattle.std.proofs.lemmas.Bool.{not-true as not_true, and_parts as both, ne_eqb as differ}
 use Rattle.ann_key.proofs.Numbers.{same_number as same}
 use Rattle.ann_key.proofs.Booleans.{or_true}
 use Rattle.ann_key.proofs.Lists.{found_so as find_holds}
 use Rattle.task_model.proofs.Across.{prepared_on}
+use Rattle.journal_model.proofs.Across.{idle_on}
 
 -- ---- tasks that are free
 

@@ -7,14 +7,15 @@ use Rattle.journal_model.specs.declared.entry.Entry.{Entry}
 use Rattle.journal_model.specs.Journal.{any, each_of}
 use Rattle.journal_model.specs.Legality.{job_for, has_open_job}
 use Rattle.journal_model.proofs.Looks.{entry}
-use Rattle.journal_model.proofs.Working.{all_asked}
+use Rattle.journal_model.proofs.Working.{all_asked, same_verdicts}
 use Rattle.task_model.specs.Askers.{Asking, Noting}
 use Rattle.task_model.specs.Askings.{asking_of, askings_from, askings, noting_of, notings_from}
-use Rattle.crew_laws.proofs.Lasting.{askings_alike, notings_alike, same_verdicts}
+use Rattle.crew_laws.proofs.Lasting.{notings_alike}
 use Rattle.crew_worker.specs.AtTasks.{notings}
 use Rattle.ann_key.proofs.Lists.{cons_option-append}
 use Rattle.ann_key.proofs.Numbers.{same_number as same}
 use Rattle.ann_key.proofs.Booleans.{left_false as either_left, right_false as either_right}
+use Rattle.task_model.proofs.Askings.{askings_alike}
 
 -- the entry notes something for task t
 abbrev pub notes_for : ℕ → What → Bool

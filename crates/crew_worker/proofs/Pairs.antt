@@ -44,8 +44,8 @@ use Rattle.crew_worker.specs.Noting.{is_done, by_noting}
 use Rattle.crew_worker.proofs.Noted.{notes_for, notings-unnoted, notings-note}
 use Rattle.ann_key.proofs.Numbers.{same_number as same}
 use Rattle.ann_key.proofs.Booleans.{and_last as and_right, or_neither as neither}
-use Rattle.host_core.proofs.Across.{verdict_settles}
 use Rattle.task_model.proofs.Across.{said_kept as said_before}
+use Rattle.journal_model.proofs.Across.{verdict_settles}
 
 -- ---- entries of a task
 

@@ -31,11 +31,12 @@ use Rattle.task_model.proofs.Askings.{asks_for, askings-append, askings_from-app
 use Rattle.crew_worker.specs.AtTasks.{notings}
 use Rattle.crew_worker.specs.Servings.{HasTurn, by_server}
 use Rattle.crew_worker.proofs.Noted.{notes_for, notings-append, notings_from-append, notings_from-none, notings-unnoted}
-use Rattle.crew_worker.proofs.Serving.{gives_none, held_on, idle_on, server_claims, server_closes}
+use Rattle.crew_worker.proofs.Serving.{gives_none, held_on, server_claims, server_closes}
 use Rattle.crew_laws.specs.JournalRuns.{JournalRun}
 use Rattle.crew_laws.proofs.Lasting.{run_shut}
 use Rattle.crew_worker.specs.Works.{NoneAtWork, RanFor}
 use Rattle.ann_key.proofs.Booleans.{or_neither as neither, left_false as either_left, right_false as either_right}
+use Rattle.journal_model.proofs.Across.{idle_on}
 
 -- ---- entries of a task
 

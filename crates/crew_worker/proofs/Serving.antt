@@ -38,8 +38,7 @@ use Rattle.crew_worker.specs.Servings.{HasTurn, Serves, ServesOn, by_server, is_
 use Rattle.child_link.proofs.Solo.{still_alone as none_passed, link_asks_none as link_asks}
 use Rattle.std.proofs.lemmas.Bool.{and_parts as both, ne_eqb as differ}
 use Rattle.ann_key.proofs.Numbers.{same_number as same}
-use Rattle.host_core.proofs.Across.{settled_on, verdict_settles as verdict_settled}
-use Rattle.journal_model.proofs.Across.{none_left}
+use Rattle.journal_model.proofs.Across.{none_left, idle_on, settled_on, verdict_settles as verdict_settled}
 use Rattle.task_model.proofs.Across.{prepared_on}
 
 -- ---- the kinds
@@ -129,13 +128,6 @@ module _ {n : ℕ} {a : Bool} {old new : List Entry} where
 -- who holds the task stays, where it is neither claimed nor closed
 pub held_on : (past more : List Entry) (t : ℕ) → each_of claimed more ≡ [] → each_of closed more ≡ [] → holder (past ++ more) t ≡ holder past t
 held_on past more t c a = holder_append past more t ∙ unturned t (holder past t) more c a
-
--- a child without an open job has none after entries that ask it nothing
-pub idle_on : (old more : List Entry) (c : ℕ) → asked_jobs more c ≡ [] → open_jobs old c ≡ [] → open_jobs (old ++ more) c ≡ []
-idle_on old more c none idle =
-    ap (filter (λ (k : ℕ). not (is_settled (old ++ more) c k)))
-    (each_of-append (asks c) old more ∙ ap (λ (ks : List ℕ). asked_jobs old c ++ ks) none ∙ append-nil (asked_jobs old c))
-    ∙ none_left old (old ++ more) c (asked_jobs old c) (λ k. settled_on old more c k) idle
 
 -- and after one request that was settled
 idle_settled : (old one more new : List Entry) (c job : ℕ) (v : Verdict) → new ≡ (old ++ one) ++ more → asked_jobs one c ≡ job ∷ []

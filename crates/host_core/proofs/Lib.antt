@@ -11,4 +11,3 @@ pub mod Answered
 pub mod Noting
 pub mod Running
 pub mod Queueing
-pub mod Across

@@ -23,7 +23,6 @@ use Rattle.child_start.specs.declared.greeting.Mode.TheVariants.{Serve}
 use Rattle.child_start.specs.declared.greeting.Came.{Came}
 use Rattle.child_start.specs.declared.greeting.Came.TheVariants.{Ready, Refused, Ended, Unsent}
 use Rattle.child_start.specs.Greetings.{CameTo, Greeted, IsReady, IsRefused, HasEnded, IsUnsent, is_greeting_line, is_of_greeting, loses}
-use Rattle.child_start.proofs.Jobs.{idle_on}
 use Rattle.child_start.proofs.Losing.{count_behind, count_before}
 use Rattle.info_command.specs.Infos.{questions}
 use Rattle.info_command.specs.Askings.{line_to, asked_lines, is_of_asking, AsksFront, IsAnswered, HasFailed}
@@ -39,7 +38,7 @@ use Rattle.ann_key.proofs.Booleans.{or_neither as either, and_false as off, or_t
 use Rattle.info_command.proofs.Asked.{greeting_offers as plain_greeting}
 use Rattle.std.proofs.lemmas.Bool.{and_parts as both}
 use Rattle.child_link.proofs.Roles.{by_append as main_both}
-use Rattle.journal_model.proofs.Across.{none_so as any_none, all_in as all_weaken}
+use Rattle.journal_model.proofs.Across.{none_so as any_none, all_in as all_weaken, idle_on}
 
 -- ---- after the greeting
 

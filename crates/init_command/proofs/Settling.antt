@@ -23,7 +23,6 @@ use Rattle.child_start.specs.declared.greeting.Mode.TheVariants.{Init}
 use Rattle.child_start.specs.declared.greeting.Came.{Came}
 use Rattle.child_start.specs.declared.greeting.Came.TheVariants.{Ready, Refused, Ended, Unsent}
 use Rattle.child_start.specs.Greetings.{CameTo, GreetedFor, IsSetUp, IsRefused, HasEnded, IsUnsent, is_of_greeting_for, is_refusal}
-use Rattle.child_start.proofs.Jobs.{idle_on}
 use Rattle.init_command.specs.declared.setup.Setup.{Setup}
 use Rattle.init_command.specs.declared.setup.Setup.TheVariants.{Initialized, Stopped}
 use Rattle.init_command.specs.Setups.{setup_for, mute_outcome, gone_outcome, verdict_outcome, outcome_of}
@@ -35,7 +34,7 @@ use Rattle.ann_key.proofs.Booleans.{or_false as or_none, and_false as off}
 use Rattle.std.proofs.lemmas.Bool.{and_parts as both}
 use Rattle.ann_key.proofs.Numbers.{same_number as same}
 use Rattle.child_link.proofs.Roles.{by_append as main_both}
-use Rattle.journal_model.proofs.Across.{no_why as none_why, all_in as all_weaken, none_so as any_none}
+use Rattle.journal_model.proofs.Across.{no_why as none_why, all_in as all_weaken, none_so as any_none, idle_on}
 
 -- ---- the entries
 

@@ -9,6 +9,7 @@ use Rattle.ann_key.specs.Numbers.{is_digit}
 use Rattle.chunk_log.proofs.Cuts.{before_first-at, after_first-at, list_all-weaken}
 use Rattle.chunk_log.proofs.StampBack.{decimal_reads, Decimal}
 use Rattle.journal_entries.specs.Fields.{followed, spaced, is_space, first_of, rest_of, number_at, small_at, smalls_at, numbers_at}
+use Rattle.ann_key.proofs.Across.{digit_no_space}
 
 abbrev pub is_field : List ℕ → Bool
 is_field bytes = list_all (λ b. not (is_space b)) bytes
@@ -29,11 +30,8 @@ pub rest_back : (field : List ℕ) (fields : List (List ℕ)) → is_field field
 rest_back field [] h = ap rest_of (append-nil field) ∙ ap (λ (n : ℕ). drop (n + 1) field) (whole_len field h) ∙ drop_all (length field + 1) field (omega arith)
 rest_back field (next ∷ fields) h = after_first-at is_space field 32 (next ++ followed fields) h refl
 
-no_space : (x : ℕ) → is_digit x ≡ true → not (is_space x) ≡ true
-no_space x h = grind (arith, nat_tests)
-
 pub decimal_field : (n : ℕ) → n < 2 ^ 64 → is_field (decimal n) ≡ true
-decimal_field n h = let d : Decimal n = decimal_reads n h in list_all-weaken is_digit (λ x. not (is_space x)) no_space (decimal n) d.all
+decimal_field n h = let d : Decimal n = decimal_reads n h in list_all-weaken is_digit (λ x. not (is_space x)) digit_no_space (decimal n) d.all
 
 pub number_back : (n : ℕ) (fields : List (List ℕ)) → n < 2 ^ 64 → number_at (spaced (decimal n ∷ fields)) ≡ Some n
 number_back n fields h = let d : Decimal n = decimal_reads n h in rw (first_back (decimal n) fields (decimal_field n h), d.number, d.value) refl

@@ -1,7 +1,7 @@
 -- Only tasks that are held are in a task's way.
 use Rattle.std.proofs.Common.{◌≡◌, ◌∙◌, ℕ, ◌+◌, ◌-◌, ◌<◌, ◌≤◌, List, [], ◌∷◌, refl, sym, ap, subst, Bool, true, false, cond, Option, Some, None, length, arith, zero, suc, inl, inr}
 use Rattle.std.specs.Prelude.{◌==◌, ◌&&◌, ◌||◌, find, option_map, is_some, slice_get, fold, ◌⊎◌}
-use Rattle.std.specs.List.{list_any, cons_option, range_with_len}
+use Rattle.std.specs.List.{list_any, cons_option}
 use Rattle.task_text.specs.declared.task.Task.{Task}
 use Rattle.journal_model.specs.declared.holder.Holder.{Holder}
 use Rattle.journal_model.specs.declared.entry.What.{What}
@@ -14,7 +14,7 @@ use Rattle.journal_model.proofs.Named.{any_there, claimed_in}
 use Rattle.journal_look.specs.declared.held.Held.{Held}
 use Rattle.journal_look.specs.Holds.{AreHeld, held_of}
 use Rattle.ann_key.proofs.Booleans.{or_right, same_test as same_bool}
-use Rattle.ann_key.proofs.Lists.{any_some as any_of}
+use Rattle.ann_key.proofs.Lists.{any_some as any_of, any_within}
 use Rattle.std.proofs.lemmas.Bool.{ne_eqb as differ, eqb-true as same_number, and_parts as both_true}
 use Rattle.ann_key.proofs.Numbers.{same_number as same}
 
@@ -43,17 +43,6 @@ found_any p u (x ∷ held) f h = go (x.task == u) refl f (λ k. found_any p u he
         → (is_some (find (λ (y : Held). y.task == u) held) ≡ true → list_any (λ (y : Held). p y.task) held ≡ true) → (p x.task || list_any (λ (y : Held). p y.task) held) ≡ true
     go true e f r = let here : p x.task ≡ true = subst (λ (k : ℕ). p k ≡ true) (sym (same_number x.task u e)) h in rw here refl
     go false e f r = or_right (p x.task) (list_any (λ (y : Held). p y.task) held) (r f)
-
-any_within : (q : ℕ → Bool) (a n u : ℕ) → a ≤ u → u < a + n → q u ≡ true → list_any q (range_with_len a n) ≡ true
-any_within q a zero u low high h = absurd (omega arith)
-any_within q a (suc n) u low high h = go (either a u low) (λ (more : a + 1 ≤ u). any_within q (a + 1) n u more (omega arith) h)
-  where
-    either : (a u : ℕ) → a ≤ u → (a ≡ u) ⊎ (a + 1 ≤ u)
-    either a u low = grind arith
-
-    go : (a ≡ u) ⊎ (a + 1 ≤ u) → (a + 1 ≤ u → list_any q (range_with_len (a + 1) n) ≡ true) → (q a || list_any q (range_with_len (a + 1) n)) ≡ true
-    go (inl at) r = let here : q a ≡ true = subst (λ (k : ℕ). q k ≡ true) (sym at) h in rw here refl
-    go (inr more) r = or_right (q a) (list_any q (range_with_len (a + 1) n)) (r more)
 
 -- a task that is in the way of one is among the opening's
 among : (o : Opening) (u : ℕ) (other : Option Task) → both_conflict (task_of o u) other ≡ true → (1 ≤ u) × (u < 1 + length o.tasks)

@@ -1,16 +1,20 @@
 -- What several crates above this one use.
-use Rattle.std.proofs.Common.{◌≡◌, ◌+◌, List, ◌++◌, ap, ◌∙◌, length, length-append, ℕ, [], ◌∷◌, refl, Bool, true, false, not, cond, ◌-◌, ◌<◌, get_or, arith, Some, None, sym, subst, Option}
-use Rattle.std.specs.Prelude.{filter, slice_get, is_some}
+use Rattle.std.proofs.Common.{◌≡◌, ◌+◌, List, ◌++◌, ap, ◌∙◌, length, length-append, ℕ, [], ◌∷◌, refl, Bool, true, false, not, cond, ◌-◌, ◌<◌, get_or, arith, Some, None, sym, subst, Option, append-nil}
+use Rattle.std.specs.Prelude.{filter, slice_get, is_some, ◌||◌}
 use Rattle.std.proofs.lemmas.List.Elements.{filter-append}
 use Rattle.journal_model.specs.declared.entry.Entry.{Entry}
 use Rattle.journal_model.specs.Legality.{count, is_start, Legal}
-use Rattle.journal_model.specs.Journal.{is_settled, any}
+use Rattle.journal_model.specs.Journal.{is_settled, any, settles, verdict_of, asks, asked_jobs, open_jobs}
 use Rattle.std.specs.List.{list_all}
 use Rattle.journal_model.specs.declared.entry.What.{What}
 use Rattle.std.proofs.lemmas.Bool.{and_parts as both}
 use Rattle.std.proofs.lemmas.Option.{slice_get-get_or}
 use Rattle.journal_model.specs.declared.opening.Opening.{Opening}
 use Rattle.journal_model.specs.declared.verdict.Why.{Why}
+use Rattle.journal_model.proofs.Looks.{any-append, each_of-append, settled_none}
+use Rattle.journal_model.specs.declared.verdict.Verdict.{Verdict}
+use Rattle.journal_model.proofs.Testing.{by_either}
+use Rattle.ann_key.proofs.Options.{none_some}
 
 pub count-append : (past more : List Entry) → count is_start (past ++ more) ≡ count is_start past + count is_start more
 count-append past more =
@@ -50,3 +54,16 @@ nothing_legal o journal e = subst (Legal o) (sym e) (record { stands = tt; nothi
 pub no_why : (w : Option Why) → is_some w ≡ false → w ≡ None
 no_why None h = refl
 no_why (Some x) h = absurd cc
+
+pub settled_on : (old more : List Entry) (c k : ℕ) → is_settled old c k ≡ true → is_settled (old ++ more) c k ≡ true
+settled_on old more c k h = any-append (settles c k) old more ∙ ap (λ (b : Bool). b || is_settled more c k) h
+
+pub verdict_settles : (past : List Entry) (c j : ℕ) (v : Verdict) → verdict_of past c j ≡ Some v → is_settled past c j ≡ true
+verdict_settles past c j v h = by_either (is_settled past c j) (λ x. x) (λ f. absurd (none_some (sym (settled_none past c j f) ∙ h)))
+
+-- a child without an open job has none after entries that ask it nothing
+pub idle_on : (old more : List Entry) (c : ℕ) → asked_jobs more c ≡ [] → open_jobs old c ≡ [] → open_jobs (old ++ more) c ≡ []
+idle_on old more c none idle =
+    ap (filter (λ (k : ℕ). not (is_settled (old ++ more) c k)))
+    (each_of-append (asks c) old more ∙ ap (λ (ks : List ℕ). asked_jobs old c ++ ks) none ∙ append-nil (asked_jobs old c))
+    ∙ none_left old (old ++ more) c (asked_jobs old c) (λ k. settled_on old more c k) idle

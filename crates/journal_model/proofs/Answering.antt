@@ -19,9 +19,8 @@ use Rattle.journal_model.specs.Legality.{Legal, may_come}
 use Rattle.journal_model.specs.Projection.{IsReply, PutsReply}
 use Rattle.journal_model.proofs.Growing.{Legal-induction}
 use Rattle.journal_model.proofs.Looks.{entry, settled_all}
-use Rattle.journal_model.proofs.Replying.{slice_get-left}
 use Rattle.journal_model.proofs.Soft.{got_cases}
-use Rattle.ann_key.proofs.Lists.{get_after as slice_get-here}
+use Rattle.ann_key.proofs.Lists.{get_after as slice_get-here, slice_get-left}
 
 slice_get-right : {X : Type 0} (xs ys : List X) (n : ℕ) → slice_get (xs ++ ys) (length xs + n) ≡ slice_get ys n
 slice_get-right [] ys n = ap (slice_get ys) (let e : 0 + n ≡ n = omega arith in e)

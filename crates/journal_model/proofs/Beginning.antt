@@ -1,6 +1,6 @@
 -- What a run may begin with.
-use Rattle.std.proofs.Common.{◌≡◌, ◌∙◌, ℕ, ◌-◌, Bool, true, false, not, cond, List, [], ◌∷◌, Option, Some, None, refl, sym, ap, subst, All, lit≤, ◌≤◌, arith}
-use Rattle.std.specs.Prelude.{◌==◌, ◌&&◌, ◌||◌, nat_lt, codes, slice_get}
+use Rattle.std.proofs.Common.{◌≡◌, ◌∙◌, ℕ, ◌-◌, Bool, true, false, not, cond, List, [], ◌∷◌, Option, Some, None, refl, sym, subst, All, lit≤, ◌≤◌, arith}
+use Rattle.std.specs.Prelude.{◌==◌, ◌&&◌, ◌||◌, codes, slice_get}
 use Rattle.std.specs.List.{list_any}
 use Rattle.std.specs.Char.{encode_utf8}
 use Rattle.std.specs.Str.{is_utf8, chars}
@@ -19,7 +19,8 @@ use Rattle.journal_model.specs.Legality.{task_of}
 use Rattle.journal_model.specs.NoteRows.{known_since, remote}
 use Rattle.journal_model.specs.OpeningRows.{begun_as, begun_with}
 use Rattle.journal_model.specs.Rows.{one_check, sample_key}
-use Rattle.std.proofs.lemmas.Bool.{and_parts as both, eqb-true as same_number}
+use Rattle.std.proofs.lemmas.Bool.{and_parts as both}
+use Rattle.ann_key.proofs.Across.{no_space}
 
 -- the task of a number is one that a line spells
 pub task_fits : (o : Opening) (t : ℕ) (task : Task) → MayBegin o → task_of o t ≡ Some task → IsTask task
@@ -30,26 +31,11 @@ task_fits o t task begins there = go (t == 0) there
     go false h =
         subst IsTask (get_or_from_slice_get o.tasks (t - 1) task task h) (begins.tasks (t - 1) task (slice_get_within o.tasks (t - 1) task h))
 
-pub above : (b : ℕ) → (nat_lt 32 b && not (b == 127)) ≡ true → (b == 32) ≡ false
-above b h = go (b == 32) refl
-  where
-    go : (s : Bool) → (b == 32) ≡ s → s ≡ false
-    go false e = refl
-    go true e =
-        let over : nat_lt 32 b ≡ true = (both (nat_lt 32 b) (not (b == 127)) h).0 in
-        absurd (let bad : nat_lt 32 32 ≡ true = ap (nat_lt 32) (sym (same_number b 32 e)) ∙ over in cc)
-
-spaceless : (bytes : List ℕ) → is_sendable bytes ≡ true → list_any is_space bytes ≡ false
-spaceless [] h = refl
-spaceless (b ∷ bs) h =
-    let t = both (nat_lt 32 b && not (b == 127)) (is_sendable bs) h in
-    rw (above b t.0, spaceless bs t.1) refl
-
 pub key_spaceless : (o : Opening) (t : ℕ) (task : Task) → MayBegin o → task_of o t ≡ Some task → list_any is_space task.key ≡ true → ⊥
 key_spaceless o t task begins there has =
     let key = (task_fits o t task begins there).key_class in
     let sent = both (is_sendable task.key) (not (has_chunk task.key)) (both (is_key task.key) (is_sendable task.key && not (has_chunk task.key)) key).1 in
-    absurd (let bad : true ≡ false = sym has ∙ spaceless task.key sent.0 in cc)
+    absurd (let bad : true ≡ false = sym has ∙ no_space task.key sent.0 in cc)
 
 -- ---- worked openings
 

@@ -12,6 +12,8 @@ use Rattle.journal_model.specs.Replies.{are_line_fields}
 use Rattle.ann_key.proofs.Booleans.{neither_is as apart, not_either as neither}
 use Rattle.std.proofs.lemmas.Bool.{and_parts as both, and_from as both_true}
 use Rattle.ann_key.proofs.Across.{digit_fits}
+use Rattle.journal_model.specs.Legality.{is_text}
+use Rattle.std.specs.Str.{is_utf8}
 
 -- ---- digits
 digits_fit : (bytes : List ℕ) → list_all is_digit bytes ≡ true → not (has_newline bytes) ≡ true
@@ -64,3 +66,6 @@ spelled_fields m line s h =
     let word = (remote_row m).0 in
     let parts = apart (has_newline word) (has_newline s.0) (ap not (sym (list_any-append (λ b. b == 10) word s.0)) ∙ ap (λ (t : List ℕ). not (has_newline t)) (sym s.1) ∙ h) in
     fields_fit (remote_row m).1 s.0 s.2 parts.1
+
+pub text_fits : (text : List ℕ) → is_text text ≡ true → not (has_newline text) ≡ true
+text_fits text h = (both (is_utf8 text) (not (has_newline text)) h).1

@@ -1,5 +1,5 @@
 -- Replies stand after their line under its job's tag, and read back as they were.
-use Rattle.std.proofs.Common.{◌≡◌, ℕ, zero, suc, ◌<◌, List, [], ◌∷◌, ◌++◌, refl, sym, ap, subst, ◌∙◌, append_assoc, Bool, true, false, length, ◌==◌, cond, Some, None, Option, arith, length-append}
+use Rattle.std.proofs.Common.{◌≡◌, ℕ, ◌<◌, List, [], ◌∷◌, ◌++◌, refl, sym, ap, subst, ◌∙◌, append_assoc, Bool, true, false, length, ◌==◌, cond, Some, None, Option, arith, length-append}
 use Rattle.std.specs.Prelude.{◌^◌, ◌&&◌, ◌||◌, map, slice_get}
 use Rattle.std.specs.List.{cons_option}
 use Rattle.std.proofs.Math.Seq.{take-append_seam}
@@ -19,7 +19,7 @@ use Rattle.journal_model.specs.Due.{made_by, replying, replies_at, replies_to, r
 use Rattle.journal_model.proofs.Looks.{entry, any-append, verdict_of-append, or_none}
 use Rattle.journal_model.proofs.Asking.{number_below}
 use Rattle.ann_key.proofs.Booleans.{or_false}
-use Rattle.ann_key.proofs.Lists.{get_after as slice_get-here}
+use Rattle.ann_key.proofs.Lists.{get_after as slice_get-here, slice_get-left}
 use Rattle.std.proofs.lemmas.Bool.{eqb-true as same_number}
 
 -- ---- places
@@ -30,11 +30,6 @@ IsPlaced past c = (j at : ℕ) → verdict_of past c j ≡ Some (DoneAt at) → 
 
 pub longer : (at : ℕ) (past more : List Entry) → at < length past → at < length (past ++ more)
 longer at past more h = let n = length-append past more in omega (arith, n, h)
-
-pub slice_get-left : {X : Type 0} (xs ys : List X) (at : ℕ) → at < length xs → slice_get (xs ++ ys) at ≡ slice_get xs at
-slice_get-left [] ys at h = absurd (let bad : ⊥ = omega (arith, h) in bad)
-slice_get-left (x ∷ xs) ys zero h = refl
-slice_get-left (x ∷ xs) ys (suc at) h = slice_get-left xs ys at (omega (arith, h))
 
 -- ---- what is added gives no tags
 

@@ -462,13 +462,13 @@ abbrev pub AllAsked : List Entry → List (ℕ × ℕ) → Type 0
 AllAsked past [] = Unit {0}
 AllAsked past (q ∷ qs) = (is_asked past q.0 q.1 ≡ true) × AllAsked past qs
 
-pub asked_behind : (o : Option ℕ) (ks : List ℕ) (j : ℕ) → list_any (λ k. k == j) ks ≡ true → list_any (λ k. k == j) (cons_option o ks) ≡ true
-asked_behind None ks j h = h
-asked_behind (Some k) ks j h = or_right (k == j) (list_any (λ k. k == j) ks) h
+pub asked_after : (o : Option ℕ) (ks : List ℕ) (j : ℕ) → list_any (λ k. k == j) ks ≡ true → list_any (λ k. k == j) (cons_option o ks) ≡ true
+asked_after None ks j h = h
+asked_after (Some k) ks j h = or_right (k == j) (list_any (λ k. k == j) ks) h
 
-all_behind : (by : ℕ) (w : What) (xs : List Entry) (qs : List (ℕ × ℕ)) → AllAsked xs qs → AllAsked (entry by w ∷ xs) qs
-all_behind by w xs [] h = tt
-all_behind by w xs (q ∷ qs) h = (asked_behind (asks q.0 w) (asked_jobs xs q.0) q.1 h.0, all_behind by w xs qs h.1)
+all_asked_after : (by : ℕ) (w : What) (xs : List Entry) (qs : List (ℕ × ℕ)) → AllAsked xs qs → AllAsked (entry by w ∷ xs) qs
+all_asked_after by w xs [] h = tt
+all_asked_after by w xs (q ∷ qs) h = (asked_after (asks q.0 w) (asked_jobs xs q.0) q.1 h.0, all_asked_after by w xs qs h.1)
 
 pub asked_first : (by child job task : ℕ) (line : List ℕ) (xs : List Entry) → is_asked (entry by (Ask child job task line) ∷ xs) child job ≡ true
 asked_first by child job task line xs =
@@ -480,13 +480,18 @@ all_asked t [] = tt
 all_asked t (e ∷ xs) = step e.what (all_asked t xs)
   where
     step : (w : What) → AllAsked xs (each_of (job_for t) xs) → AllAsked (entry e.by w ∷ xs) (cons_option (job_for t w) (each_of (job_for t) xs))
-    step (Ask child job task line) r = go (task == t) (all_behind e.by (Ask child job task line) xs (each_of (job_for t) xs) r)
+    step (Ask child job task line) r = go (task == t) (all_asked_after e.by (Ask child job task line) xs (each_of (job_for t) xs) r)
       where
         go : (b : Bool) → AllAsked (entry e.by (Ask child job task line) ∷ xs) (each_of (job_for t) xs)
             → AllAsked (entry e.by (Ask child job task line) ∷ xs) (cons_option (cond b (Some (child, job)) None) (each_of (job_for t) xs))
         go true more = (asked_first e.by child job task line xs, more)
         go false more = more
-    step w r = all_behind e.by w xs (each_of (job_for t) xs) r
+    step w r = all_asked_after e.by w xs (each_of (job_for t) xs) r
+
+-- the jobs are settled alike in both
+abbrev pub SameVerdicts : List Entry → List Entry → List (ℕ × ℕ) → Type 0
+SameVerdicts j k [] = Unit {0}
+SameVerdicts j k (q ∷ qs) = (verdict_of j q.0 q.1 ≡ verdict_of k q.0 q.1) × SameVerdicts j k qs
 
 pub closed_all : (past more : List Entry) (qs : List (ℕ × ℕ)) → AllAsked past qs → list_any (λ q. is_open past q.0 q.1) qs ≡ false
     → list_any (λ q. is_open (past ++ more) q.0 q.1) qs ≡ false
@@ -566,6 +571,13 @@ kept_verdict past more c j a h = verdict_of-append c j past more ∙ by_verdict 
     by_verdict : (v : Option Verdict) → verdict_of past c j ≡ v → option_or v (verdict_of more c j) ≡ v
     by_verdict (Some v) e = refl
     by_verdict None e = true_not_false (is_settled past c j) (asked_settled past c j a h) (unsettled past c j e)
+
+pub same_verdicts : (past more : List Entry) (qs : List (ℕ × ℕ)) → AllAsked past qs → list_any (λ q. is_open past q.0 q.1) qs ≡ false → SameVerdicts (past ++ more) past qs
+same_verdicts past more [] a h = tt
+same_verdicts past more (q ∷ qs) a h = (
+  kept_verdict past more q.0 q.1 a.0 (either_left (is_open past q.0 q.1) (list_any (λ q. is_open past q.0 q.1) qs) h),
+  same_verdicts past more qs a.1 (either_right (is_open past q.0 q.1) (list_any (λ q. is_open past q.0 q.1) qs) h),
+)
 
 kept_verdicts : (past more : List Entry) (qs : List (ℕ × ℕ)) → AllAsked past qs → list_any (λ q. is_open past q.0 q.1) qs ≡ false
     → map (λ q. verdict_of (past ++ more) q.0 q.1) qs ≡ map (λ q. verdict_of past q.0 q.1) qs

@@ -224,9 +224,9 @@ is_greeted past c job =
 abbrev pub offered_names : List Entry → ℕ → List ℕ
 offered_names past c = names_of (any (offers c) past)
 
--- the name of a file is text on one line
+-- UTF-8 on one line
 abbrev pub is_text : List ℕ → Bool
-is_text file = is_utf8 file && not (has_newline file)
+is_text bytes = is_utf8 bytes && not (has_newline bytes)
 
 -- the request suits the child: its names are those that c is told, and its files are named by text on one line
 abbrev pub suits_child : List Entry → ℕ → HostMessage → Bool

@@ -8,7 +8,7 @@ use Rattle.uuid.specs.Text.{by_index}
 use Rattle.journal_model.specs.declared.entry.Entry.{Entry}
 use Rattle.journal_entries.specs.Entries.{entry_line}
 use Rattle.journal_lines.specs.JournalTexts.{Told, worded, head, begin, stamp_line, again_line, again_lines, task_line, keep_line, end_line, first_lines, last_lines, told_lines}
-use Rattle.journal_reader.specs.RunTexts.{is_uuid, is_text, IsTold, IsAgain, Begins, NoneKept}
+use Rattle.journal_reader.specs.RunTexts.{is_uuid, IsTold, IsAgain, Begins, NoneKept}
 use Rattle.journal_reader.specs.Readings.{Reading, CannotGo, Follows, start, nothing_told}
 use Rattle.journal_reader.specs.Runs.{Reads, lines_told, IsSoFar}
 use Rattle.journal_reader.specs.declared.place.Place.{Place}
@@ -16,6 +16,7 @@ use Rattle.journal_reader.specs.declared.place.Place.TheVariants.{Head, Uuid, Na
 use Rattle.journal_reader.proofs.Agreeing.{reads_same, reads_apart}
 use Rattle.journal_reader.proofs.Complete.{whole_is_read}
 use Rattle.journal_reader.proofs.Sound.{all_told}
+use Rattle.journal_model.specs.Legality.{is_text}
 
 -- ---- what is taken begins a text
 

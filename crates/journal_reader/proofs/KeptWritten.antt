@@ -26,10 +26,10 @@ use Rattle.keep_text.specs.KeptLines.{KeptLine, Setting, Expression, State, Url,
 use Rattle.keep_text.specs.Orders.{is_log_of, is_written, is_written_as, is_written_line, come_in_order, comes_before}
 use Rattle.keep_text.proofs.Chunked.{chunk_read}
 use Rattle.keep_text.proofs.Spelled.{read_of_spelled}
-use Rattle.keep_text.proofs.WrittenLines.{Written, lines_written, notes_written, no_space}
+use Rattle.keep_text.proofs.WrittenLines.{Written, lines_written, notes_written}
 use Rattle.journal_reader.specs.RunTexts.{is_kept, is_behind, may_be_kept, AreInOrder, NoneKept, OneMore}
 use Rattle.journal_reader.proofs.KeptOrder.{follows, chain, kept_all, kept_chain}
-use Rattle.ann_key.proofs.Lists.{mapped, same_name as itself}
+use Rattle.ann_key.proofs.Lists.{mapped, same_name as itself, second_fails}
 
 -- the line of it is read as it, is one that is written, and holds no byte 10
 pub record IsSaid (k : KeptLine) : Type 0 where
@@ -77,7 +77,7 @@ register_said line h t =
 sent_key : (key : List ℕ) → is_key_word key ≡ true → annex.is_sent_key key ≡ true
 unfolding is_key_word
 sent_key key h =
-    let parts = and_parts (is_word key) (is_key key) h in both_true (is_key key) (not (list_any (λ b. b == 32) key)) parts.1 (no_space key parts.0)
+    let parts = and_parts (is_word key) (is_key key) h in both_true (is_key key) (not (list_any (λ b. b == 32) key)) parts.1 (second_fails (λ b. b == 10) (λ b. b == 32) key parts.0)
 
 micros_cut : (n : ℕ) → (n - n % 1000) / 1000 ≡ n / 1000
 micros_cut n = omega arith

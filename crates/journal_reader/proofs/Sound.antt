@@ -8,7 +8,7 @@ use Rattle.task_text.specs.declared.task.Task.{Task}
 use Rattle.journal_model.specs.declared.entry.Entry.{Entry}
 use Rattle.journal_entries.specs.Entries.{entry_line, IsEntry}
 use Rattle.journal_lines.specs.JournalTexts.{Told, worded, head, begin, stamp_line, task_line, keep_line, end_line, first_lines, told_lines}
-use Rattle.journal_reader.specs.RunTexts.{is_uuid, is_text, may_stand, IsTold, NoneKept, OneMore}
+use Rattle.journal_reader.specs.RunTexts.{is_uuid, may_stand, IsTold, NoneKept, OneMore}
 use Rattle.journal_reader.specs.Readings.{Reading, Goes, start, nothing_told, after_stamp, TakesTask, TakesKept}
 use Rattle.journal_reader.specs.Runs.{Reads, lines_told, IsSoFar}
 use Rattle.journal_reader.specs.declared.place.Place.{Place}

@@ -7,7 +7,8 @@ use Rattle.task_text.specs.TaskLines.{IsTask}
 use Rattle.task_text.specs.declared.task.Task.{Task}
 use Rattle.journal_model.specs.declared.entry.Entry.{Entry}
 use Rattle.journal_model.specs.declared.opening.Opening.{Opening}
-use Rattle.journal_reader.specs.RunTexts.{AreEntries, is_uuid, is_text}
+use Rattle.journal_reader.specs.RunTexts.{AreEntries, is_uuid}
+use Rattle.journal_model.specs.Legality.{is_text}
 
 -- its texts, numbers, tasks, registers and notes are of their classes
 pub record IsTellable (o : Opening) : Type 0 where

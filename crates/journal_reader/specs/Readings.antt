@@ -6,11 +6,12 @@ use Rattle.task_text.specs.declared.task.Task.{Task}
 use Rattle.journal_model.specs.declared.entry.Entry.{Entry}
 use Rattle.journal_entries.specs.Entries.{entry_line, IsEntry}
 use Rattle.journal_lines.specs.JournalTexts.{Told, worded, head, begin, stamp_line, again_line, task_line, keep_line, end_line}
-use Rattle.journal_reader.specs.RunTexts.{is_uuid, is_text, may_be_kept, may_stand}
+use Rattle.journal_reader.specs.RunTexts.{is_uuid, may_be_kept, may_stand}
 use Rattle.journal_reader.specs.declared.place.Place.{Place}
 use Rattle.journal_reader.specs.declared.place.Place.TheVariants.{Head, Uuid, Name, Gitdir, Stamp, Again, Given, Entries, Over, Refused}
 use Rattle.journal_reader.specs.declared.error.JournalError.{JournalError}
 use Rattle.journal_reader.specs.declared.error.JournalError.TheVariants.{BadLine, Cut, NoMemory}
+use Rattle.journal_model.specs.Legality.{is_text}
 
 -- what a reader awaits, how many lines it took, and what they tell
 pub record Reading : Type 0 where

@@ -1,6 +1,5 @@
 -- Which texts tell a run.
 use Rattle.std.specs.Prelude.{ℕ, ◌≡◌, ◌<◌, ◌≤◌, ◌-◌, ◌^◌, ◌&&◌, not, Bool, true, false, List, [], ◌∷◌, ◌++◌, Option, Some, None, length, slice_get, bytes_eq, IsTrue}
-use Rattle.std.specs.Str.{is_utf8}
 use Rattle.uuid.specs.Text.{parsed, hyphenated_text, lower}
 use Rattle.annex_model.specs.Lines.{has_newline}
 use Rattle.task_text.specs.TaskLines.{IsTask}
@@ -11,10 +10,7 @@ use Rattle.journal_model.specs.declared.entry.Entry.{Entry}
 use Rattle.journal_entries.specs.Entries.{entry_line, IsEntry}
 use Rattle.keep_text.specs.Orders.{is_written_line, comes_before}
 use Rattle.journal_lines.specs.JournalTexts.{Told, told_lines, worded}
-
--- UTF-8 on one line
-abbrev pub is_text : List ℕ → Bool
-is_text bytes = is_utf8 bytes && not (has_newline bytes)
+use Rattle.journal_model.specs.Legality.{is_text}
 
 abbrev pub is_written_uuid : List ℕ → Option (List ℕ) → Bool
 is_written_uuid text None = false

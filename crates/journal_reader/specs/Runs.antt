@@ -7,9 +7,10 @@ use Rattle.journal_model.specs.declared.opening.Opening.{Opening}
 use Rattle.journal_entries.specs.Entries.{entry_line}
 use Rattle.journal_lines.specs.JournalTexts.{Told, worded, head, begin, stamp_line, first_lines, task_line, keep_line, told_lines}
 use Rattle.journal_reader.specs.Readings.{Reading, Follows, nothing_told}
-use Rattle.journal_reader.specs.RunTexts.{is_uuid, is_text, IsTold}
+use Rattle.journal_reader.specs.RunTexts.{is_uuid, IsTold}
 use Rattle.journal_reader.specs.declared.place.Place.{Place}
 use Rattle.journal_reader.specs.declared.place.Place.TheVariants.{Head, Uuid, Name, Gitdir, Stamp, Again, Given, Entries, Over, Refused}
+use Rattle.journal_model.specs.Legality.{is_text}
 
 -- each line was taken, one after the other
 abbrev pub Reads : Reading → List (List ℕ) → Reading → Type 0

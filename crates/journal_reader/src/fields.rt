@@ -2,7 +2,8 @@
 ghost use Rattle.std.specs.Prelude.{◌≡◌, ◌≤◌, ◌^◌, ◌<◌, ◌∷◌, ◌++◌, IfOk, MatchOption, ℕ, List, true, false, decimal, bytes_eq};
 ghost use Rattle.uuid.specs.Text.{parsed, hyphenated_text, lower};
 ghost use Rattle.journal_lines.specs.JournalTexts.{worded, stamp_line, again_line};
-ghost use Rattle.journal_reader.specs.RunTexts.{HasNoText, HasText, is_text, is_uuid};
+ghost use Rattle.journal_model.specs.Legality.{is_text};
+ghost use Rattle.journal_reader.specs.RunTexts.{HasNoText, HasText, is_uuid};
 
 use ann_key::{NoMemory, Text, has_byte, number_of};
 use std::alloc::Global;

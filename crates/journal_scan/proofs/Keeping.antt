@@ -1,5 +1,5 @@
 -- One more entry is kept, and those before it say what they said.
-use Rattle.std.proofs.Common.{◌≡◌, ℕ, zero, suc, ◌+◌, ◌-◌, ◌<◌, ◌≤◌, List, [], ◌∷◌, ◌++◌, length, map, slice_get, append-nil, refl, sym, ap, ◌∙◌, arith}
+use Rattle.std.proofs.Common.{◌≡◌, ℕ, ◌+◌, ◌-◌, ◌<◌, ◌≤◌, List, [], ◌∷◌, ◌++◌, length, map, append-nil, refl, sym, ap, ◌∙◌, arith}
 use Rattle.std.specs.List.{AllByRecursion}
 use Rattle.std.proofs.lemmas.List.{get_or_append_left, length_push, length-map}
 use Rattle.std.proofs.lemmas.List.Sums.{sum_by_push}
@@ -17,16 +17,12 @@ use Rattle.journal_scan.specs.declared.record.Kept.{Kept}
 use Rattle.journal_scan.specs.declared.record.Kept.TheVariants.{Lead as KeptLead, Ask as KeptAsk, Put as KeptPut, Got as KeptGot, Answer as KeptAnswered, Again as KeptAgain}
 use Rattle.journal_scan.specs.declared.record.Record.{Record}
 use Rattle.journal_scan.specs.Kept.{line_kept, by_digest, answer_kept, what_kept, entry_kept, with_line, with_digest_of, with_digest, IsAnswerWithin, IsWithin, AreRecords}
+use Rattle.ann_key.proofs.Lists.{slice_get-left}
 
 -- ---- with more lines and digests a record says the same
 
-get_front : {X : Type 0} (xs more : List X) (n : ℕ) → n < length xs → slice_get (xs ++ more) n ≡ slice_get xs n
-get_front [] more n l = absurd (omega arith)
-get_front (x ∷ xs) more zero l = refl
-get_front (x ∷ xs) more (suc n) l = get_front xs more n (omega arith)
-
 answer_stays : (digests more : List Digest) (a : KeptAnswer) → IsAnswerWithin (length digests) a → answer_kept (digests ++ more) a ≡ answer_kept digests a
-answer_stays digests more (KeptHash n) l = ap by_digest (get_front digests more n l)
+answer_stays digests more (KeptHash n) l = ap by_digest (slice_get-left digests more n l)
 answer_stays digests more _ l = refl
 
 line_stays : (lines more : List (List ℕ)) (n : ℕ) → n < length lines → line_kept (lines ++ more) n ≡ line_kept lines n

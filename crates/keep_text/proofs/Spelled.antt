@@ -1,7 +1,6 @@
 -- A line is read as what it spells, and as nothing else; its fields are of the classes that are asked for.
 use Rattle.std.proofs.Common.{◌≡◌, ℕ, ◌==◌, true, not, inl, inr, List, [], ◌∷◌, ◌++◌, Option, Some, refl, sym, ap, ◌∙◌}
 use Rattle.std.specs.Prelude.{codes}
-use Rattle.std.specs.List.{list_any}
 use Rattle.std.proofs.lemmas.List.Folds.{list_any-append}
 use Rattle.annex_model.specs.Lines.{has_newline}
 use Rattle.annex_model.specs.Messages.{by_rows, SpelledBy, Followed, Param, Word, Key, Rest, is_space, is_sent_key, word_of, field_of}
@@ -11,8 +10,8 @@ use Rattle.annex_model.proofs.Shapes.{Reads, rest_reads, word_rest_reads, key_re
 use Rattle.annex_model.proofs.Rows.{Fills, AllOwn, rest_own, word_rest_own, key_rest_own, rows_fill}
 use Rattle.reg_file.specs.Registers.{is_word, is_line}
 use Rattle.keep_text.specs.KeptLines.{KeptLine, Setting, Expression, State, Url, Chunks, KeptSpells, KeptFits, kept_row, kept_rows, kept_reading}
-use Rattle.ann_key.proofs.Booleans.{neither_is as apart, one_of_two as neither}
-use Rattle.std.proofs.lemmas.Bool.{and_from as both_true}
+use Rattle.ann_key.proofs.Booleans.{neither_is as apart}
+use Rattle.ann_key.proofs.Lists.{each_fails, neither_passes}
 
 -- ---- what is spelled is read
 line_read : (word : List ℕ) → annex.is_word word ≡ true → {line tail : List ℕ} {k : KeptLine} {P : Option (List ℕ) → Type 0} → line ≡ word ++ tail → Reads tail P
@@ -48,23 +47,13 @@ spelled_of_read k line h =
     (behind (field_of line), word_and_field line ∙ ap (λ (w : List ℕ). w ++ behind (field_of line)) (sym r.0), r.1)
 
 -- ---- classes
-line_fits : (bytes : List ℕ) → not (has_newline bytes) ≡ true → is_line bytes ≡ true
-line_fits [] h = refl
-line_fits (b ∷ bytes) h = let parts = apart (b == 10) (has_newline bytes) h in both_true (not (b == 10)) (is_line bytes) parts.0 (line_fits bytes parts.1)
-
-word_fits : (bytes : List ℕ) → annex.is_word bytes ≡ true → not (has_newline bytes) ≡ true → is_word bytes ≡ true
-word_fits [] h k = refl
-word_fits (b ∷ bytes) h k =
-    let spaces = apart (b == 32) (list_any is_space bytes) h in
-    let ends = apart (b == 10) (has_newline bytes) k in
-    neither (b == 10) (b == 32) (is_word bytes) ends.0 spaces.0 (word_fits bytes spaces.1 ends.1)
 
 -- no byte 10 in two pieces of a line
 pieces : (a b line : List ℕ) → line ≡ a ++ b → not (has_newline line) ≡ true → (not (has_newline a) ≡ true) × (not (has_newline b) ≡ true)
 pieces a b line e h = apart (has_newline a) (has_newline b) (ap not (sym (list_any-append (λ b. b == 10) a b)) ∙ ap (λ (t : List ℕ). not (has_newline t)) (sym e) ∙ h)
 
 rest_fits : (rest tail : List ℕ) → Followed (Rest rest ∷ []) tail → not (has_newline tail) ≡ true → is_line rest ≡ true
-rest_fits rest tail (inl e) h = line_fits rest (ap (λ (t : List ℕ). not (has_newline t)) (sym e) ∙ h)
+rest_fits rest tail (inl e) h = each_fails (λ b. b == 10) rest (ap (λ (t : List ℕ). not (has_newline t)) (sym e) ∙ h)
 rest_fits rest tail (inr e) h = ap is_line e.1
 
 -- a field, and the rest after it
@@ -73,7 +62,7 @@ fields_fit : (first rest field more tail : List ℕ) → tail ≡ 32 ∷ field +
 fields_fit first rest field more tail e is word f h =
     let parts = pieces (32 ∷ field) more tail e h in
     let own : not (has_newline first) ≡ true = ap (λ (t : List ℕ). not (has_newline t)) (sym is) ∙ parts.0 in
-    (word_fits first word own, rest_fits rest more f parts.1)
+    (neither_passes (λ b. b == 10) is_space first own word, rest_fits rest more f parts.1)
 
 spelled_fits : (k : KeptLine) (line : List ℕ) → KeptSpells k line → not (has_newline line) ≡ true → KeptFits k
 spelled_fits (Setting name value) line s h = let f = s.2 in fields_fit name value f.0 f.1 s.0 f.2 f.3.0 f.3.1 f.4 (pieces (codes "config") s.0 line s.1 h).1

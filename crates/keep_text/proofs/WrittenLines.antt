@@ -1,5 +1,5 @@
 -- Lines that are written are read as what they were written of.
-use Rattle.std.proofs.Common.{◌≡◌, ℕ, suc, ◌+◌, ◌==◌, Bool, true, false, cond, not, ◌&&◌, ◌||◌, List, [], ◌∷◌, ◌++◌, map, length, nat_lt, Some, None, refl, ap, ◌∙◌, arith, append_assoc}
+use Rattle.std.proofs.Common.{◌≡◌, ℕ, suc, ◌+◌, ◌==◌, Bool, true, false, cond, not, ◌&&◌, List, [], ◌∷◌, ◌++◌, map, length, nat_lt, Some, None, refl, ap, ◌∙◌, arith, append_assoc}
 use Rattle.std.specs.Prelude.{All, is_some, option_map}
 use Rattle.std.specs.List.{cons_option, list_all, list_any}
 use Rattle.std.proofs.lemmas.List.Folds.{list_any-append}
@@ -18,8 +18,9 @@ use Rattle.keep_text.specs.KeptFiles.{lines_in, are_lines, is_unended, with_byte
 use Rattle.keep_text.proofs.Chunked.{chunk_read}
 use Rattle.keep_text.proofs.LogText.{log_fits}
 use Rattle.keep_text.proofs.Spelled.{read_of_spelled}
-use Rattle.ann_key.proofs.Booleans.{neither_is as byte_of_word, left_false_not_right as apart, not_either as neither}
+use Rattle.ann_key.proofs.Booleans.{left_false_not_right as apart, not_either as neither}
 use Rattle.std.proofs.lemmas.Bool.{and_parts as both, and_from as both_true}
+use Rattle.ann_key.proofs.Lists.{none_passes, first_fails, second_fails}
 
 -- ---- the lines of a text of lines
 line_back : (x t : List ℕ) → not (has_newline x) ≡ true → lines_in (x ++ 10 ∷ t) ≡ x ∷ lines_in t
@@ -35,27 +36,12 @@ lines_back (l ∷ ls) h =
     line_back l (text ls) parts.0 ∙ ap (λ (rest : List (List ℕ)). l ∷ rest) (lines_back ls parts.1)
 
 -- ---- classes of fields
-no_end : (bytes : List ℕ) → is_line bytes ≡ true → not (has_newline bytes) ≡ true
-no_end [] h = refl
-no_end (b ∷ bytes) h = let parts = both (not (b == 10)) (is_line bytes) h in neither (b == 10) (has_newline bytes) parts.0 (no_end bytes parts.1)
-
-pub no_space : (bytes : List ℕ) → is_word bytes ≡ true → annex.is_word bytes ≡ true
-no_space [] h = refl
-no_space (b ∷ bytes) h =
-    let parts = both (not (b == 10 || b == 32)) (is_word bytes) h in
-    neither (b == 32) (list_any annex.is_space bytes) (byte_of_word (b == 10) (b == 32) parts.0).1 (no_space bytes parts.1)
-
-word_no_end : (bytes : List ℕ) → is_word bytes ≡ true → not (has_newline bytes) ≡ true
-word_no_end [] h = refl
-word_no_end (b ∷ bytes) h =
-    let parts = both (not (b == 10 || b == 32)) (is_word bytes) h in
-    neither (b == 10) (has_newline bytes) (byte_of_word (b == 10) (b == 32) parts.0).0 (word_no_end bytes parts.1)
 
 key_parts : (key : List ℕ) → is_key_word key ≡ true → (annex.is_sent_key key ≡ true) × (not (has_newline key) ≡ true)
 unfolding is_key_word
 key_parts key h =
     let parts = both (is_word key) (is_key key) h in
-    (both_true (is_key key) (not (list_any (λ b. b == 32) key)) parts.1 (no_space key parts.0), word_no_end key parts.0)
+    (both_true (is_key key) (not (list_any (λ b. b == 32) key)) parts.1 (second_fails (λ b. b == 10) annex.is_space key parts.0), first_fails (λ b. b == 10) annex.is_space key parts.0)
 
 two : (a b : List ℕ) → not (has_newline a) ≡ true → not (has_newline b) ≡ true → not (has_newline (a ++ 32 ∷ b)) ≡ true
 two a b h k = ap not (list_any-append (λ b. b == 10) a (32 ∷ b)) ∙ neither (has_newline a) (has_newline b) h k
@@ -71,21 +57,21 @@ spelled k class = read_of_spelled k (line_of k) (fields_text (kept_row k).1, ref
 register_back : (line : Line) → is_fit line ≡ true → Back (kept_of line)
 register_back (ConfigLine name value) h =
     let parts = both (is_word name) (is_line value) h in
-    record { read = spelled (Setting name value) (no_space name parts.0, tt); line = two name value (word_no_end name parts.0) (no_end value parts.1) }
-register_back (WantedLine value) h = record { read = spelled (Expression value) tt; line = no_end value h }
+    record { read = spelled (Setting name value) (second_fails (λ b. b == 10) annex.is_space name parts.0, tt); line = two name value (first_fails (λ b. b == 10) annex.is_space name parts.0) (none_passes (λ b. b == 10) value parts.1) }
+register_back (WantedLine value) h = record { read = spelled (Expression value) tt; line = none_passes (λ b. b == 10) value h }
 register_back (StateLine key value) h =
     let parts = both (is_key_word key) (nat_lt 0 (length value) && is_line value) h in
     let k = key_parts key parts.0 in
-    record { read = spelled (State key value) (k.0, tt); line = two key value k.1 (no_end value (both (nat_lt 0 (length value)) (is_line value) parts.1).1) }
+    record { read = spelled (State key value) (k.0, tt); line = two key value k.1 (none_passes (λ b. b == 10) value (both (nat_lt 0 (length value)) (is_line value) parts.1).1) }
 register_back (UrlLine key url) h =
     let parts = both (is_key_word key) (is_line url) h in
     let k = key_parts key parts.0 in
-    record { read = spelled (Url key url) (k.0, tt); line = two key url k.1 (no_end url parts.1) }
+    record { read = spelled (Url key url) (k.0, tt); line = two key url k.1 (none_passes (λ b. b == 10) url parts.1) }
 
 note_back : (note : Note) → IsKeepable note → Back (Chunks note.key (line_text note.line))
 note_back note n =
     let k = key_parts note.key n.key in
-    record { read = spelled (Chunks note.key (line_text note.line)) (k.0, tt); line = two note.key (line_text note.line) k.1 (no_end (line_text note.line) (log_fits note.line n.line n.seconds n.chunk n.count)) }
+    record { read = spelled (Chunks note.key (line_text note.line)) (k.0, tt); line = two note.key (line_text note.line) k.1 (none_passes (λ b. b == 10) (line_text note.line) (log_fits note.line n.line n.seconds n.chunk n.count)) }
 
 -- ---- lists of them
 abbrev pub are_kept : List (List ℕ) → Bool

@@ -14,7 +14,7 @@ use Rattle.kit_serve.specs.Limits.{longest_line, is_short, next_line}
 use Rattle.kit_serve.specs.Turns.{Half, IsSpent, Leaves, ReadsOn, end_of, source_half}
 use Rattle.kit_serve.specs.declared.end.End.{End}
 use Rattle.kit_serve.specs.declared.end.End.TheVariants.{Eof as EndEof, ReadFault as EndReadFault, Bad as EndBad, WriteFault as EndWriteFault, Memory as EndMemory}
-use Rattle.kit_serve.proofs.Talks.{short_line, leaves_as, leaves_both}
+use Rattle.kit_serve.proofs.Talks.{leaves_as, leaves_both}
 use Rattle.kit_async_model.specs.declared.entry.Entry.{Entry}
 use Rattle.kit_async_model.specs.declared.event.Event.{Event}
 use Rattle.kit_async_model.specs.declared.event.Event.TheVariants.{Hear, Close as Deafen, Break}
@@ -30,6 +30,7 @@ use Rattle.kit_async_roles.specs.declared.turn.Turn.TheVariants.{Went, Over as T
 use Rattle.kit_async_roles.specs.Passes.{Stands, Enters, why_of}
 use Rattle.kit_async_roles.specs.Reading.{EarValue, Hears, IsQuiet, Reads, ReadingEnds, ReaderRan, ear_of, is_taken, why_ended}
 use Rattle.kit_async_roles.proofs.Groups.{stands_on, stands_still}
+use Rattle.wire_line.proofs.Limits.{short_line}
 
 -- ---- what was heard
 
@@ -91,7 +92,7 @@ told h p q reply line held held' true s t e has first is takes keeps = record {
   lines = line ∷ [];
   heard = reader_hears h p q (Hear line) reply s.number_is e ∙ ap (λ (ls : List (List ℕ)). heard_lines (seen_of p) ++ ls) (hears_taken line reply (sym is));
   cut = λ bytes before c. subst (λ (l : List ℕ). Cut bytes (before ++ l ∷ []) held') (sym first) (takes refl bytes before c);
-  short = (let few = subst (λ (l : List ℕ). length l ≤ longest_line) (sym first) (short_line held has) in
+  short = (let few = subst (λ (l : List ℕ). length l ≤ longest_line) (sym first) (short_line longest_line held has) in
       let this : is_short line ≡ true = grind (arith, nat_tests) in ap (λ (b : Bool). b && true) this);
 }
 told h p q reply line held held' false s t e has first is takes keeps =

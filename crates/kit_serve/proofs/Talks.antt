@@ -1,18 +1,13 @@
 -- One turn more of a host that is talked to, and the end.
-use Rattle.std.proofs.Common.{◌≡◌, ℕ, ◌+◌, ◌-◌, ◌^◌, ◌<◌, ◌≤◌, ◌==◌, Bool, true, false, not, ◌&&◌, List, [], ◌∷◌, ◌++◌, length, take, codes, Option, None, Result, Ok, Err, OnOk, IfErr, IsTrue, refl, sym, ap, ◌∙◌, subst, inl, inr, ⊎_elim, arith, length-append, length-take}
+use Rattle.std.proofs.Common.{◌≡◌, ℕ, ◌+◌, ◌-◌, ◌^◌, ◌<◌, ◌≤◌, ◌==◌, Bool, true, false, not, List, [], ◌∷◌, ◌++◌, length, take, codes, Option, None, Result, Ok, Err, OnOk, IfErr, IsTrue, refl, sym, ap, ◌∙◌, subst, inl, inr, ⊎_elim, arith, length-append}
 use Rattle.std.specs.Io.KnownBytes.{Appends}
-use Rattle.std.specs.List.{list_all}
-use Rattle.std.proofs.lemmas.Bool.{cases_lt, not-true as not_false}
-use Rattle.std.proofs.lemmas.Bool.Decides.{nat_tests}
-use Rattle.std.proofs.lemmas.List.{take_all}
 use Rattle.std.proofs.Math.Seq.{take-append-add}
-use Rattle.std.proofs.lemmas.List.Folds.{list_all-append, list_any-append}
+use Rattle.std.proofs.lemmas.List.Folds.{list_any-append}
 use Rattle.ann_outside.specs.Causes.{Rose}
 use Rattle.ann_outside.proofs.Telling.{appends_both}
 use Rattle.annex_model.specs.Lines.{text, has_newline}
 use Rattle.wire_line.specs.HeldBytes.{has_line, first_line, TakesLine}
-use Rattle.wire_line.proofs.Firsts.{end_of, end_of-le-length, ends_within, has_line_at}
-use Rattle.kit_serve.specs.Limits.{longest_line, is_short, next_line}
+use Rattle.kit_serve.specs.Limits.{longest_line, next_line}
 use Rattle.kit_serve.specs.declared.end.End.{End}
 use Rattle.kit_serve.specs.declared.end.End.TheVariants.{Eof, Bad, ReadFault, WriteFault, Memory}
 use Rattle.kit_serve.specs.Turns.{ReadsOn, ReadsOnce, Streams, Turned, Half, Leaves}
@@ -20,38 +15,14 @@ use Rattle.kit_serve.specs.Voices.{Spoken, Writes, Falters, Hears, opening_text,
 use Rattle.ann_key.proofs.Booleans.{or_true, not_and_so as true_not}
 use Rattle.ann_key.proofs.Lists.{appends_nothing}
 use Rattle.annex_model.proofs.Across.{text-append}
+use Rattle.wire_line.proofs.Limits.{short_line, short_push}
 
 -- ---- what is held
-
--- no line ends in what is held, where none stands first and it isn't long
-pub no_line : (held : List ℕ) → IsTrue (not (has_line longest_line held)) → length held ≤ longest_line → has_newline held ≡ false
-no_line held none few =
-    let long : length held ≤ longest_line + 1 = omega arith in
-    not_false (has_newline held) (ap (λ (x : List ℕ). not (has_newline x)) (sym (take_all (longest_line + 1) held long)) ∙ none)
-
--- where the first line is longer than the limit
-pub long_line : (held : List ℕ) → IsTrue (not (has_line longest_line held)) → longest_line < length held → longest_line < length (next_line held)
-long_line held none many =
-    let fits : end_of held ≤ length held = end_of-le-length held in
-    let long : length (next_line held) ≡ end_of held = length-take (end_of held) held ∙ omega arith in
-    ⊎_elim (λ (late : longest_line < end_of held). omega arith)
-    (λ (soon : end_of held ≤ longest_line). absurd (true_not (has_line longest_line held) (has_line_at longest_line held soon (omega arith)) none)) (cases_lt longest_line (end_of held))
-
-pub short_line : (held : List ℕ) → IsTrue (has_line longest_line held) → length (first_line held) ≤ longest_line
-short_line held has =
-    let within = ends_within longest_line held has in
-    let long : length (first_line held) ≡ end_of held = length-take (end_of held) held ∙ omega arith in
-    omega arith
 
 -- a line that was taken away ended in what was held
 ends_in : (held line after : List ℕ) → held ≡ line ++ 10 ∷ after → has_newline held ≡ true
 ends_in held line after whole =
     ap has_newline whole ∙ list_any-append (λ b. b == 10) line (10 ∷ after) ∙ or_true (has_newline line)
-
-short_push : (lines : List (List ℕ)) (line : List ℕ) → IsTrue (list_all is_short lines) → length line ≤ longest_line → IsTrue (list_all is_short (lines ++ line ∷ []))
-short_push lines line all fits =
-    let this : is_short line ≡ true = grind (arith, nat_tests) in
-    list_all-append is_short lines (line ∷ []) ∙ ap (λ b. b && (is_short line && true)) all ∙ ap (λ b. b && true) this
 
 -- ---- one turn
 
@@ -100,7 +71,7 @@ talking_writes spoke begun old given taken taken' voice voice' held held' line t
   passes = subst (λ (o : List ℕ). Passes old (record { given = given; taken = taken' }) t.bytes o) (opening_more t.said w.say)
       (passes_more old (record { given = given; taken = taken }) (record { given = given; taken = taken' }) t.bytes (opening_text t.said) (text w.say) t.passes refl w.took w.silent);
   cut = takes t.bytes t.lines t.cut;
-  short = short_push t.lines line t.short fits;
+  short = short_push longest_line t.lines line t.short fits;
   stands = w.utters begun t.lines t.said t.stands;
   many = let long : length (t.lines ++ line ∷ []) ≡ length t.lines + 1 = length-append t.lines (line ∷ []) in omega (arith, t.many);
 }
@@ -153,7 +124,7 @@ falters_end spoke over foul lacks begun old given taken taken' voice voice' held
   out = opening_text t.said ++ take f.n (text f.say);
   passes = passes_more old (record { given = given; taken = taken }) (record { given = given; taken = taken' }) t.bytes (opening_text t.said) (take f.n (text f.say)) t.passes refl f.took f.silent;
   cut = takes t.bytes t.lines t.cut;
-  short = short_push t.lines line t.short fits;
+  short = short_push longest_line t.lines line t.short fits;
   written = (length (opening_text t.said) + f.n, sym (take-append-add (opening_text t.said) (text f.say) f.n) ∙ ap (take (length (opening_text t.said) + f.n)) (opening_more t.said f.say));
   ends = f.utters begun t.lines t.said t.stands;
 }
@@ -198,7 +169,7 @@ pub heard_goes : {V T : Type 0} (spoke : Spoken V) (over : V → Bool) (foul : V
     → OnOk result ((begun : V) (old : Bytes) (turns : ℕ) → Talking spoke begun old (record { given = given; taken = taken }) voice held turns
     → Talking spoke begun old (record { given = given; taken = taken' }) voice' held' (turns + 1))
 heard_goes spoke over foul lacks given taken taken' voice voice' held held' (Ok x) heard takes has = λ begun old turns t.
-    talking_writes spoke begun old given taken taken' voice voice' held held' (first_line held) turns heard.0 takes (short_line held has) t
+    talking_writes spoke begun old given taken taken' voice voice' held held' (first_line held) turns heard.0 takes (short_line longest_line held has) t
 heard_goes spoke over foul lacks given taken taken' voice voice' held held' (Err e) heard takes has = tt
 
 pub heard_ends : {V T : Type 0} (spoke : Spoken V) (over : V → Bool) (foul : V → List ℕ → Type 0) (lacks : V → V → List ℕ → Type 0) (given taken taken' : Option (List ℕ)) (voice voice' : V) (held held' : List ℕ) (result : Result T End)
@@ -210,7 +181,7 @@ heard_ends spoke over foul lacks given taken taken' voice voice' held held' (Ok 
 heard_ends {V = V} spoke over foul lacks given taken taken' voice voice' held held' (Err Bad) heard takes whole has live = λ begun old turns t.
     ⊎_elim (λ (w : Writes spoke voice voice' taken taken' (first_line held) × (over voice' ≡ true)).
     talked_now spoke over foul lacks begun old (record { given = given; taken = taken' }) voice' voice' held' (turns + 1) Bad
-    (talking_writes spoke begun old given taken taken' voice voice' held held' (first_line held) turns w.0 takes (short_line held has) t)
+    (talking_writes spoke begun old given taken taken' voice voice' held held' (first_line held) turns w.0 takes (short_line longest_line held has) t)
     (λ out. refl) (λ lines said bytes s many. (s, inl w.1)))
     (λ (f : foul voice (first_line held) × (voice' ≡ voice) × (taken' ≡ taken)).
     let t' : Talking spoke begun old (record { given = given; taken = taken' }) voice held turns =
@@ -228,7 +199,7 @@ heard_ends {V = V} spoke over foul lacks given taken taken' voice voice' held he
     (talked_now spoke over foul lacks begun old (record { given = given; taken = taken' }) voice voice held turns Bad t' (λ out. refl)
     (λ lines said bytes s many. (s, inr (live, inr (ends_in held (first_line held) held' whole, f.0)))))) heard
 heard_ends spoke over foul lacks given taken taken' voice voice' held held' (Err WriteFault) heard takes whole has live = λ begun old turns t.
-    falters_end spoke over foul lacks begun old given taken taken' voice voice' held held' (first_line held) turns heard takes (short_line held has) t
+    falters_end spoke over foul lacks begun old given taken taken' voice voice' held held' (first_line held) turns heard takes (short_line longest_line held has) t
 heard_ends spoke over foul lacks given taken taken' voice voice' held held' (Err Memory) heard takes whole has live = λ begun old turns t.
     record {
       bytes = t.bytes;

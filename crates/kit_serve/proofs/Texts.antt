@@ -1,12 +1,12 @@
 -- Texts of lines, and how much of one was written.
 use Rattle.std.proofs.Common.{◌≡◌, ℕ, ◌+◌, ◌<◌, ◌≤◌, List, [], ◌∷◌, ◌++◌, length, take, drop, get_or, Option, sym, ap, ◌∙◌, subst, append_assoc}
 use Rattle.std.proofs.Math.Seq.{take-append-add, take-length}
-use Rattle.std.proofs.lemmas.List.{take_all, take_more, take-append-drop}
+use Rattle.std.proofs.lemmas.List.{take_all, take-append-drop}
 use Rattle.std.specs.Io.KnownBytes.{Appends}
 use Rattle.ann_outside.proofs.Telling.{appends_both}
 use Rattle.annex_model.specs.Lines.{text}
 use Rattle.ann_key.proofs.Lists.{front_of_longer}
-use Rattle.annex_model.proofs.Across.{text-append}
+use Rattle.annex_model.proofs.Across.{text-append, text_next}
 
 -- A whole text, and then the first bytes of what follows it
 pub prefix_more : (a b c : Option (List ℕ)) (xs ys zs : List ℕ) → Appends a b xs
@@ -23,11 +23,6 @@ pub prefix_whole : (a c : Option (List ℕ)) (xs : List ℕ) → Appends a c xs 
 prefix_whole a c xs p = (length xs, subst (λ (l : List ℕ). Appends a c l) (sym (take-length xs)) p)
 
 -- ---- a loop over lines
-
-pub text_next : (ls : List (List ℕ)) (i : ℕ) (line : List ℕ) → i < length ls → get_or ls i [] ≡ line → text (take i ls) ++ (line ++ 10 ∷ []) ≡ text (take (i + 1) ls)
-text_next ls i line within is =
-    ap (λ (l : List ℕ). text (take i ls) ++ (l ++ 10 ∷ [])) (sym is)
-    ∙ sym (ap text (take_more ls i [] within) ∙ text-append (take i ls) (get_or ls i [] ∷ []))
 
 -- the text of all lines, from one line on
 pub text_behind : (ls : List (List ℕ)) (i : ℕ) (line : List ℕ) → i < length ls → get_or ls i [] ≡ line

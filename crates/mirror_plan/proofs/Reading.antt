@@ -12,15 +12,6 @@ use Rattle.mirror_plan.specs.Settings.{are_plan, bad_from, is_bad, is_equals, is
 
 -- ---- one word
 
-pub no_equals : (word : List ℕ) → position_or_len is_equals word ≡ length word → list_any is_equals word ≡ false
-no_equals [] h = refl
-no_equals (b ∷ bs) h = go (is_equals b) refl h (no_equals bs)
-  where
-    go : (s : Bool) → is_equals b ≡ s → cond (not s) (1 + position_or_len is_equals bs) 0 ≡ suc (length bs)
-        → (position_or_len is_equals bs ≡ length bs → list_any is_equals bs ≡ false) → list_any is_equals (b ∷ bs) ≡ false
-    go true e h rest = absurd (let bad : 0 ≡ suc (length bs) = h in omega arith)
-    go false e h rest = rw e (rest (let same : 1 + position_or_len is_equals bs ≡ suc (length bs) = h in omega arith))
-
 pub has_equals : (word : List ℕ) → position_or_len is_equals word < length word → list_any is_equals word ≡ true
 has_equals [] h = absurd (let bad : 0 < 0 = h in omega arith)
 has_equals (b ∷ bs) h = go (is_equals b) refl h (has_equals bs)

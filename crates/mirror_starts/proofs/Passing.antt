@@ -1,19 +1,8 @@
 -- Loops that take a list's elements one after the other.
-use Rattle.std.proofs.Common.{◌≡◌, ◌∙◌, ◌+◌, ◌≤◌, ◌<◌, List, [], ◌∷◌, ◌++◌, ap, subst, sym, length, length-append, arith}
-use Rattle.std.proofs.Math.Seq.{append_snoc}
-use Rattle.std.proofs.lemmas.List.{append-nil}
+use Rattle.std.proofs.Common.{◌≡◌, ◌∙◌, ◌+◌, ◌≤◌, ◌<◌, List, [], ◌∷◌, ◌++◌, ap, subst, length, length-append, arith}
 use Rattle.mirror_children.specs.Children.{ChildValue, AreLinked, IsLinked}
 use Rattle.mirror_starts.specs.Stops.{StoppedValue, StopsAll}
 use Rattle.mirror_starts.proofs.Begun.{spare_left}
-
--- the next element moves from the rest to what was passed
-pub shifted : {A : Type 0} (passed : List A) (x : A) (all rest next : List A) → all ≡ passed ++ rest → rest ≡ x ∷ next → all ≡ (passed ++ x ∷ []) ++ next
-shifted passed x all rest next whole step = whole ∙ ap (λ r. passed ++ r) step ∙ sym (append_snoc passed x next)
-
--- nothing is left, so all was passed
-pub all_passed : {A : Type 0} (passed all rest : List A) → all ≡ passed ++ rest → length rest ≡ 0 → passed ≡ all
-all_passed passed all [] whole none = sym (whole ∙ append-nil passed)
-all_passed passed all (x ∷ rest) whole none = absurd (omega arith)
 
 linked_mid : (xs : List ChildValue) (c : ChildValue) (ys : List ChildValue) → AreLinked (xs ++ c ∷ ys) → IsLinked c
 linked_mid [] c ys h = h.0

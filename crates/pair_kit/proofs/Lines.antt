@@ -1,11 +1,11 @@
 -- The first line of bytes.
-use Rattle.std.proofs.Common.{ℕ, ◌≡◌, ◌+◌, ◌<◌, Bool, true, false, not, cond, List, [], ◌∷◌, ◌++◌, length, take, get_or, refl, sym, ap, ◌∙◌, arith, append_assoc}
+use Rattle.std.proofs.Common.{ℕ, ◌≡◌, ◌+◌, ◌<◌, Bool, true, false, not, cond, List, [], ◌∷◌, ◌++◌, length, take, get_or, refl, ap, ◌∙◌, arith, append_assoc}
 use Rattle.std.specs.Prelude.{◌||◌, ◌==◌}
-use Rattle.std.proofs.lemmas.List.{take_all, take_more}
+use Rattle.std.proofs.lemmas.List.{take_all}
 use Rattle.annex_model.specs.Lines.{has_newline, text}
 use Rattle.wire_line.specs.HeldBytes.{first_line, after_line}
 use Rattle.wire_line.proofs.Firsts.{end_of, split_line}
-use Rattle.annex_model.proofs.Across.{text-append}
+use Rattle.annex_model.proofs.Across.{text_next}
 
 -- where the first line ends within the bytes, there is a line end
 pub has_of : (bytes : List ℕ) → end_of bytes < length bytes → has_newline bytes ≡ true
@@ -49,11 +49,6 @@ pub first_split : (side : List ℕ) → has_newline side ≡ true → side ≡ f
 first_split side h = split_line side (has_end side h)
 
 -- ---- the text of lines that are gone through
-
-text_next : (ls : List (List ℕ)) (i : ℕ) (line : List ℕ) → i < length ls → get_or ls i [] ≡ line → text (take i ls) ++ (line ++ 10 ∷ []) ≡ text (take (i + 1) ls)
-text_next ls i line within is =
-    ap (λ (l : List ℕ). text (take i ls) ++ (l ++ 10 ∷ [])) (sym is)
-    ∙ sym (ap text (take_more ls i [] within) ∙ text-append (take i ls) (get_or ls i [] ∷ []))
 
 pub text_more : (old now new : List ℕ) (ls : List (List ℕ)) (i : ℕ) (line : List ℕ) → i < length ls → get_or ls i [] ≡ line
     → now ≡ old ++ text (take i ls) → new ≡ now ++ line ++ 10 ∷ [] → new ≡ old ++ text (take (i + 1) ls)

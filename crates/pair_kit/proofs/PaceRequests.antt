@@ -1,7 +1,6 @@
 -- What is asked is on one line, and is what a kit that waits expects.
 use Rattle.std.proofs.Common.{ℕ, ◌≡◌, Bool, true, false, not, List, [], ◌∷◌, ◌++◌, Option, Some, None, is_some, bytes_eq, refl, sym, ap, ◌∙◌}
 use Rattle.std.specs.Prelude.{◌&&◌}
-use Rattle.std.specs.Str.{is_utf8}
 use Rattle.std.proofs.lemmas.Bool.{not-true, and_parts as both}
 use Rattle.std.proofs.lemmas.Slice.Eq.{bytes_eq-Decides}
 use Rattle.ann_key.specs.Keys.{Parts, key_reading, is_key}
@@ -21,6 +20,7 @@ use Rattle.kit_core.proofs.KeyLines.{fields_free, read_free}
 use Rattle.pair_kit.specs.Cues.{settings}
 use Rattle.pair_kit.specs.Paces.{is_name}
 use Rattle.pair_kit.proofs.PaceKits.{Expects}
+use Rattle.journal_model.proofs.FieldLines.{text_fits}
 
 -- ---- the line of a request
 
@@ -32,7 +32,7 @@ key_free key h = go (key_reading key) refl (both (is_key key) (not (list_any is_
     go None e s = absurd cc
 
 text_free : (text : List ℕ) → is_text text ≡ true → has_newline text ≡ false
-text_free text h = not-true (has_newline text) (both (is_utf8 text) (not (has_newline text)) h).1
+text_free text h = not-true (has_newline text) (text_fits text h)
 
 names_free : (names : List ℕ) (offered : Bool) → bytes_eq names (names_of offered) ≡ true → has_newline names ≡ false
 names_free names offered h = ap has_newline ((bytes_eq-Decides names (names_of offered)).0 h) ∙ go offered

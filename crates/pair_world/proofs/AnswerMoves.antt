@@ -21,7 +21,6 @@ use Rattle.journal_model.specs.Journal.{each_of, first_of, open_jobs, is_open, i
 use Rattle.journal_model.specs.Due.{due_after}
 use Rattle.journal_model.specs.Legality.{is_empty}
 use Rattle.journal_model.proofs.Looks.{entry, each_of-append, first_of-append, verdict_of-append}
-use Rattle.journal_model.proofs.Replying.{slice_get-left}
 use Rattle.kit_core.specs.Kits.{is_over}
 use Rattle.host_core.specs.declared.event.Event.{Event}
 use Rattle.host_core.specs.declared.event.Event.TheVariants.{Got as GotEvent, Stop as StopEvent, Sent as SentEvent}
@@ -51,7 +50,7 @@ use Rattle.pair_kit.proofs.AnswerVerdicts.{Settling, step_settles, places_within
 use Rattle.ann_key.proofs.Numbers.{same_number as same}
 use Rattle.std.proofs.lemmas.Bool.{eqb-true as same_number}
 use Rattle.ann_key.proofs.Booleans.{true_and_false as true_not_false, left_false as first_false, right_false as second_false}
-use Rattle.ann_key.proofs.Lists.{get_after as slice_get-here}
+use Rattle.ann_key.proofs.Lists.{get_after as slice_get-here, slice_get-left}
 
 -- ---- what stays
 

@@ -1,22 +1,17 @@
 -- One turn more, and the end.
-use Rattle.std.proofs.Common.{◌≡◌, ℕ, ◌+◌, ◌<◌, ◌≤◌, ◌==◌, suc, cond, true, false, not, ◌&&◌, List, [], ◌∷◌, ◌++◌, length, take, Option, Some, None, Result, Ok, Err, OnOk, IfErr, IsTrue, refl, sym, ap, ◌∙◌, subst, ⊎_elim, arith, append_assoc, length-take}
+use Rattle.std.proofs.Common.{◌≡◌, ℕ, ◌+◌, ◌<◌, ◌≤◌, ◌==◌, suc, cond, false, List, [], ◌∷◌, ◌++◌, length, take, Option, Some, None, Result, Ok, Err, OnOk, IfErr, IsTrue, refl, sym, ap, ◌∙◌, subst, append_assoc}
 use Rattle.std.specs.Io.KnownBytes.{Appends}
-use Rattle.std.specs.List.{list_all}
-use Rattle.std.proofs.lemmas.Bool.{cases_lt, not-true as not_false}
-use Rattle.std.proofs.lemmas.Bool.Decides.{nat_tests}
-use Rattle.std.proofs.lemmas.List.{append-nil, take_all}
-use Rattle.std.proofs.lemmas.List.Folds.{list_all-append}
+use Rattle.std.proofs.lemmas.List.{append-nil}
 use Rattle.std.proofs.Math.Seq.{take-append-add}
 use Rattle.ann_outside.proofs.Telling.{appends_both}
 use Rattle.annex_model.specs.Lines.{has_newline}
 use Rattle.wire_line.specs.HeldBytes.{has_line, first_line, TakesLine}
-use Rattle.wire_line.proofs.Firsts.{end_of, end_of-le-length, ends_within, has_line_at}
 use Rattle.plain_carry.specs.declared.end.End.{End}
 use Rattle.plain_carry.specs.declared.end.End.TheVariants.{Eof, Long, ReadFault, WriteFault, Memory}
-use Rattle.plain_carry.specs.Carries.{longest_line, is_short, Passing, AllPass, passed_text, text_passed, IsEnd, IsWritten, Told, Carried, Gains, Going, Carries}
+use Rattle.plain_carry.specs.Carries.{longest_line, Passing, AllPass, passed_text, text_passed, IsEnd, IsWritten, Told, Carried, Gains, Going, Carries}
 use Rattle.plain_carry.specs.Turns.{ReadsOn, Writes, Falters, Passes}
-use Rattle.ann_key.proofs.Booleans.{not_and_so as true_not}
 use Rattle.ann_key.proofs.Lists.{appends_nothing}
+use Rattle.wire_line.proofs.Limits.{short_line, short_push}
 
 -- ---- a read
 
@@ -37,11 +32,6 @@ going_read P begun given given' taken held held' r g = record {
 
 -- ---- a line
 
-short_push : (lines : List (List ℕ)) (line : List ℕ) → IsTrue (list_all is_short lines) → length line ≤ longest_line → IsTrue (list_all is_short (lines ++ line ∷ []))
-short_push lines line all fits =
-    let this : is_short line ≡ true = grind (arith, nat_tests) in
-    list_all-append is_short lines (line ∷ []) ∙ ap (λ b. b && (is_short line && true)) all ∙ ap (λ b. b && true) this
-
 pass_push : (P : Passing) (lines : List (List ℕ)) (passed : List (Option (List ℕ))) (line : List ℕ) (p : Option (List ℕ))
     → AllPass P lines passed → P line p → AllPass P (lines ++ line ∷ []) (passed ++ p ∷ [])
 pass_push P [] [] line p all this = (this, tt)
@@ -58,7 +48,7 @@ carried_push : (P : Passing) (bytes : List ℕ) (lines : List (List ℕ)) (held 
     → Carried P bytes (lines ++ line ∷ []) held' (passed ++ p ∷ [])
 carried_push P bytes lines held held' passed line p c takes fits may = record {
   cut = takes bytes lines c.cut;
-  short = short_push lines line c.short fits;
+  short = short_push longest_line lines line c.short fits;
   pass = pass_push P lines passed line p c.pass may;
 }
 
@@ -125,33 +115,13 @@ falters_end P begun given taken taken' held held' line f takes fits g = record {
   ends = tt;
 }
 
--- no line ends in what is held, where none stands first and it isn't long
-pub no_line : (held : List ℕ) → IsTrue (not (has_line longest_line held)) → length held ≤ longest_line → has_newline held ≡ false
-no_line held none few =
-    let long : length held ≤ longest_line + 1 = omega arith in
-    not_false (has_newline held) (ap (λ (x : List ℕ). not (has_newline x)) (sym (take_all (longest_line + 1) held long)) ∙ none)
-
--- where the first line is longer than the limit
-pub long_line : (held : List ℕ) → IsTrue (not (has_line longest_line held)) → longest_line < length held → longest_line < length (first_line held)
-long_line held none many =
-    let fits : end_of held ≤ length held = end_of-le-length held in
-    let long : length (first_line held) ≡ end_of held = length-take (end_of held) held ∙ omega arith in
-    ⊎_elim (λ (late : longest_line < end_of held). omega arith)
-    (λ (soon : end_of held ≤ longest_line). absurd (true_not (has_line longest_line held) (has_line_at longest_line held soon (omega arith)) none)) (cases_lt longest_line (end_of held))
-
-short_line : (held : List ℕ) → IsTrue (has_line longest_line held) → length (first_line held) ≤ longest_line
-short_line held has =
-    let within = ends_within longest_line held has in
-    let long : length (first_line held) ≡ end_of held = length-take (end_of held) held ∙ omega arith in
-    omega arith
-
 -- ---- a turn
 
 pub line_goes : {T : Type 0} (P : Passing) (given taken taken' : Option (List ℕ)) (held held' : List ℕ) (result : Result T End)
     → Passes P taken taken' (first_line held) result → TakesLine held (first_line held) held' → IsTrue (has_line longest_line held)
     → OnOk result ((begun : Told) → Going P begun given taken held → Going P begun given taken' held')
 line_goes P given taken taken' held held' (Ok x) w takes has = λ begun g.
-    going_writes P begun given taken taken' held held' (first_line held) w takes (short_line held has) g
+    going_writes P begun given taken taken' held held' (first_line held) w takes (short_line longest_line held has) g
 line_goes P given taken taken' held held' (Err e) w takes has = tt
 
 pub line_ends : {T : Type 0} (P : Passing) (given taken taken' : Option (List ℕ)) (held held' : List ℕ) (result : Result T End)
@@ -159,7 +129,7 @@ pub line_ends : {T : Type 0} (P : Passing) (given taken taken' : Option (List �
     → IfErr result (λ end. (begun : Told) → Going P begun given taken held → Carries P begun (record { given = given; taken = taken' }) end)
 line_ends P given taken taken' held held' (Ok x) w takes has = tt
 line_ends P given taken taken' held held' (Err WriteFault) f takes has = λ begun g.
-    falters_end P begun given taken taken' held held' (first_line held) f takes (short_line held has) g
+    falters_end P begun given taken taken' held held' (first_line held) f takes (short_line longest_line held has) g
 line_ends P given taken taken' held held' (Err Memory) same takes has = λ begun g.
     ended_now P begun given taken taken' held Memory g same (λ out. refl) tt
 line_ends P given taken taken' held held' (Err Eof) w takes has = absurd w

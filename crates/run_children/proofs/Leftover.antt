@@ -13,7 +13,6 @@ use Rattle.journal_model.specs.Legality.{Legal, count, is_busy, is_start, turn_o
 use Rattle.journal_model.specs.Shares.{are_by, is_of_child}
 use Rattle.journal_model.proofs.Looks.{any-append, each_of-append}
 use Rattle.journal_model.proofs.Testing.{all-each, all-join}
-use Rattle.child_start.proofs.Jobs.{idle_on}
 use Rattle.child_link.specs.Wires.{WireValue}
 use Rattle.task_model.specs.declared.setup.Setup.{Setup}
 use Rattle.task_model.specs.TaskRuns.{failed_start}
@@ -46,6 +45,7 @@ use Rattle.run_children.proofs.Spent.{all_spent_both}
 use Rattle.ann_key.proofs.Booleans.{left_false as either_left}
 use Rattle.journal_model.proofs.Working.{count-append, count_none}
 use Rattle.run_pools.proofs.Own.{unasked}
+use Rattle.journal_model.proofs.Across.{idle_on}
 
 -- ---- what they are not
 

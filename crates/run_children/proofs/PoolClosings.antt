@@ -18,7 +18,6 @@ use Rattle.crew_laws.specs.Laws.{children_of}
 use Rattle.crew_laws.specs.Rounds.{IsAtRest, LinkValue}
 use Rattle.child_end.specs.Wires.{IsHeld}
 use Rattle.child_end.proofs.Held.{held_apart, held_closed}
-use Rattle.child_start.proofs.Jobs.{idle_on}
 use Rattle.run_starts.specs.Rounds.{is_of_run}
 use Rattle.run_starts.specs.Starting.{is_any_start}
 use Rattle.run_starts.proofs.Apart.{ended_on}
@@ -32,7 +31,7 @@ use Rattle.std.proofs.lemmas.Bool.{and_parts as both, ne_eqb as differ, eqb-true
 use Rattle.ann_key.proofs.Numbers.{same_number as same}
 use Rattle.ann_key.proofs.Booleans.{or_right}
 use Rattle.run_pools.proofs.Own.{rest_shut, shut_open}
-use Rattle.journal_model.proofs.Across.{none_so as any_none}
+use Rattle.journal_model.proofs.Across.{none_so as any_none, idle_on}
 
 -- ---- what closings append
 

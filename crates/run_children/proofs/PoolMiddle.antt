@@ -29,7 +29,6 @@ use Rattle.crew_laws.specs.Laws.{children_of}
 use Rattle.crew_laws.specs.Posts.{is_mains, pool_crew}
 use Rattle.crew_laws.specs.Rounds.{IsAmong, IsAtRest, IsLostChild, LinkValue, Rounded}
 use Rattle.crew_laws.specs.Tasks.{IsThrough}
-use Rattle.child_start.proofs.Jobs.{idle_on}
 use Rattle.task_model.specs.declared.setup.Setup.{Setup}
 use Rattle.crew_worker.specs.Works.{by_worker}
 use Rattle.crew_worker.proofs.Turning.{alone_only}
@@ -60,7 +59,7 @@ use Rattle.run_children.proofs.Shutting.{AreShut, shut_next}
 use Rattle.std.proofs.lemmas.Bool.{and_parts as both, ne_eqb as differ, eqb-true as same_number}
 use Rattle.ann_key.proofs.Booleans.{left_false as either_left, or_left, or_right}
 use Rattle.run_pools.proofs.Own.{rest_shut, shut_open}
-use Rattle.journal_model.proofs.Across.{none_so as any_none}
+use Rattle.journal_model.proofs.Across.{none_so as any_none, idle_on}
 use Rattle.task_model.proofs.Across.{prepared_on}
 
 -- ---- a child that is lost

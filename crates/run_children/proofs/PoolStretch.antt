@@ -57,15 +57,12 @@ use Rattle.run_children.proofs.PoolWhole.{tags_start as no_tags}
 use Rattle.child_end.proofs.Across.{adds_both, adds_one}
 use Rattle.journal_model.proofs.Across.{all_in, none_so as any_none}
 use Rattle.task_model.proofs.Across.{prepared_on}
+use Rattle.ann_key.proofs.Lists.{last_or-append}
 
 -- ---- what the last start came to
 
 abbrev Turn : Type 0
 Turn = Option (Option ℕ)
-
-last_from : (o : Option Turn) (ts : List Turn) (x : Turn) (ns : List Turn) → last_or o (ts ++ x ∷ ns) ≡ last_or (Some x) ns
-last_from o [] x ns = refl
-last_from o (t ∷ ts) x ns = last_from (Some t) ts x ns
 
 abbrev Comes : List Entry → Turn → Type 0
 Comes xs y = (last_or (Some y) (each_of turn_of xs) ≡ Some y) ⊎ (last_or (Some y) (each_of turn_of xs) ≡ Some None)
@@ -100,7 +97,7 @@ pool_untaken old later c n offer within ready = go (pool_turns n (Some (Some c))
     begun = old ++ main_entry (Start c 0 offer) ∷ later
 
     last_is : last_or None (each_of turn_of begun) ≡ last_or (Some (Some (Some c))) (each_of turn_of later)
-    last_is = ap (last_or None) (each_of-append turn_of old (main_entry (Start c 0 offer) ∷ later)) ∙ last_from None (each_of turn_of old) (Some (Some c)) (each_of turn_of later)
+    last_is = ap (last_or None) (each_of-append turn_of old (main_entry (Start c 0 offer) ∷ later)) ∙ last_or-append None (each_of turn_of old) (Some (Some c) ∷ each_of turn_of later)
 
     go : (last_or (Some (Some (Some c))) (each_of turn_of later) ≡ Some (Some (Some c))) ⊎ (last_or (Some (Some (Some c))) (each_of turn_of later) ≡ Some None) → failed_start begun (start_untaken begun) ≡ None
     go (inl e) = ap (λ (x : Option Turn). failed_start begun (option_and_then (λ turn. turn) x)) (last_is ∙ e) ∙ ready

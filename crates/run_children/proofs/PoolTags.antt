@@ -27,7 +27,7 @@ use Rattle.run_children.specs.PoolSteps.{serving}
 use Rattle.journal_model.proofs.Replying.{accepted}
 use Rattle.std.proofs.lemmas.Bool.{and_parts as both, eqb-true as same_number}
 use Rattle.ann_key.proofs.Booleans.{left_false as either_left, right_false as either_right, or_left, or_right, or_false}
-use Rattle.host_core.proofs.Across.{settled_on}
+use Rattle.journal_model.proofs.Across.{settled_on}
 
 -- ---- job 0 of a prepared child is settled
 

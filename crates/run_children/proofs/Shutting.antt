@@ -5,12 +5,11 @@ use Rattle.journal_model.specs.declared.entry.Entry.{Entry}
 use Rattle.journal_model.specs.Journal.{any, open_jobs}
 use Rattle.journal_model.specs.Shares.{is_of_child}
 use Rattle.journal_model.proofs.Testing.{by_either}
-use Rattle.child_start.proofs.Jobs.{idle_on}
 use Rattle.run_starts.specs.Stints.{in_stint}
 use Rattle.run_starts.proofs.Apart.{apart_in}
 use Rattle.run_pools.proofs.Own.{unasked}
 use Rattle.std.proofs.lemmas.Bool.{eqb-true as same_number}
-use Rattle.journal_model.proofs.Across.{none_so as any_none}
+use Rattle.journal_model.proofs.Across.{none_so as any_none, idle_on}
 
 -- each child has none
 abbrev pub AreShut : List Entry → Type 0

@@ -22,6 +22,7 @@ use Rattle.run_pools.specs.Slots.{AllInTurn, IsInSlot, IsManned, StandsInTurn, b
 use Rattle.run_pools.proofs.SlotLaws.{LeavesClaimed, filled_on, first_same, last_first, none_first, pool_of as pool_is, unfirst as no_first_in}
 use Rattle.std.proofs.lemmas.Bool.{leb-true as at_least, and_parts as both, ne_eqb as differ, eqb-true as same_number}
 use Rattle.ann_key.proofs.Booleans.{left_false as either_left, right_false as either_right, or_left, or_right}
+use Rattle.ann_key.proofs.Lists.{last_or-push}
 
 -- ---- what stands after a start of slot 0
 
@@ -109,10 +110,6 @@ manned_still o jobs past more legal none leaves apart m = λ pool. filled_on o j
 
 -- ---- whether a pool serves
 
-last_behind : {X : Type 0} (x : X) (init : Option X) (ts : List X) → last_or init (ts ++ x ∷ []) ≡ Some x
-last_behind x init [] = refl
-last_behind x init (t ∷ ts) = last_behind x (Some t) ts
-
 abbrev flat : Option (Option ℕ) → Option ℕ
 flat o = option_and_then (λ child. child) o
 
@@ -120,7 +117,7 @@ flat o = option_and_then (λ child. child) o
 last_of_start : {X : Type 0} (f : What → Option X) (w : What) (x : X) (old later : List Entry) → f w ≡ Some x → each_of f later ≡ [] → last_or None (each_of f (old ++ main_entry w ∷ later)) ≡ Some x
 last_of_start f w x old later is none =
     ap (last_or None) (each_of-append f old (main_entry w ∷ later) ∙ ap (λ (l : List _). each_of f old ++ l) (ap (λ (o : Option _). cons_option o (each_of f later)) is ∙ ap (λ (l : List _). x ∷ l) none))
-    ∙ last_behind x None (each_of f old)
+    ∙ last_or-push None (each_of f old) x
 
 -- after a child of slot 0 it is told by that child
 pub pool_of : (old later : List Entry) (c n : ℕ) (offer : Bool) → list_all (λ (e : Entry). in_pool n e.what) later ≡ true

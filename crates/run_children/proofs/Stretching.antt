@@ -28,7 +28,6 @@ use Rattle.child_link.proofs.Linked.{any_narrower}
 use Rattle.crew_laws.specs.Rounds.{IsAtRest}
 use Rattle.child_start.specs.Greetings.{Greeted, IsReady, is_of_greeting}
 use Rattle.child_start.proofs.Begun.{later_unstarted}
-use Rattle.child_start.proofs.Jobs.{idle_on}
 use Rattle.child_link.specs.Wires.{WireValue}
 use Rattle.crew_worker.specs.KnownLayouts.{IsBook}
 use Rattle.task_model.specs.declared.setup.Setup.{Setup}
@@ -58,7 +57,7 @@ use Rattle.run_children.proofs.Spent.{own_spends}
 use Rattle.run_children.proofs.PoolWhole.{tags_start as no_tags}
 use Rattle.std.proofs.lemmas.Bool.{and_parts as both}
 use Rattle.run_pools.proofs.Own.{rest_shut, shut_open}
-use Rattle.journal_model.proofs.Across.{all_in, none_so as any_none}
+use Rattle.journal_model.proofs.Across.{all_in, none_so as any_none, idle_on}
 use Rattle.task_model.proofs.Across.{prepared_on}
 
 -- ---- the start itself

@@ -20,7 +20,6 @@ use Rattle.journal_model.proofs.Testing.{all-each, all-join}
 use Rattle.child_link.specs.Alone.{Closes}
 use Rattle.child_link.specs.Writings.{LoneWired}
 use Rattle.child_start.specs.Greetings.{AreNumbered, Greeted, IsReady, is_of_greeting}
-use Rattle.child_start.proofs.Jobs.{idle_on}
 use Rattle.child_link.specs.Wires.{WireValue}
 use Rattle.child_end.proofs.Held.{lone_held}
 use Rattle.crew_worker.specs.KnownLayouts.{IsBook}
@@ -40,6 +39,7 @@ use Rattle.run_pools.proofs.Own.{greeting_own, own_rests, rest_shut, undone_unre
 use Rattle.ann_key.proofs.Numbers.{same_number as same}
 use Rattle.ann_key.proofs.Booleans.{or_left, or_right}
 use Rattle.child_end.proofs.Across.{adds_one}
+use Rattle.journal_model.proofs.Across.{idle_on}
 
 -- ---- a child that was greeted
 

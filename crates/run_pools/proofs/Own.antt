@@ -21,7 +21,6 @@ use Rattle.child_link.proofs.Linked.{any_narrower}
 use Rattle.child_link.proofs.Writings.{lone_apart}
 use Rattle.child_start.specs.Greetings.{is_greeting_line, is_of_greeting}
 use Rattle.child_start.proofs.Begun.{later_unstarted}
-use Rattle.child_start.proofs.Jobs.{idle_on}
 use Rattle.crew_laws.specs.Rounds.{IsAtRest, LinkValue}
 use Rattle.run_starts.specs.Starting.{is_any_start}
 use Rattle.run_starts.specs.Stints.{in_stint}
@@ -33,7 +32,7 @@ use Rattle.run_pools.specs.Slots.{in_pool, offers_tags}
 use Rattle.ann_key.proofs.Booleans.{or_off as or_no, true_and_false as true_not_false, or_left}
 use Rattle.std.proofs.lemmas.Bool.{le-leb as low, and_parts as both, eqb-true as same_number}
 use Rattle.ann_key.proofs.Numbers.{same_number as same}
-use Rattle.journal_model.proofs.Across.{no_why, none_so as any_none}
+use Rattle.journal_model.proofs.Across.{no_why, none_so as any_none, idle_on}
 use Rattle.task_model.proofs.Across.{prepared_on}
 
 -- ---- one entry of the child

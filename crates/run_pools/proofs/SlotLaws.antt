@@ -20,7 +20,6 @@ use Rattle.journal_model.proofs.Standing.{task_stands}
 use Rattle.journal_model.proofs.Working.{claimed_apart}
 use Rattle.journal_model.proofs.Looks.{any-append, each_of-append, verdict_of-append}
 use Rattle.journal_model.proofs.Projecting.{invariant}
-use Rattle.journal_model.proofs.Replying.{slice_get-left}
 use Rattle.host_core.specs.Steps.{unclaimed}
 use Rattle.run_starts.specs.Starting.{is_any_start, is_ready_untagged}
 use Rattle.run_starts.proofs.Tests.{each_without}
@@ -28,7 +27,7 @@ use Rattle.run_pools.specs.Pools.{changes_claim}
 use Rattle.run_pools.specs.Slots.{AllInTurn, IsManned, StandsInTurn, begins_by_start, first_in, has_pool, is_first_start, is_ready_pool, is_unclaimed_since, last_slot, slot_of, offers_tags}
 use Rattle.child_link.proofs.Linked.{any_narrower}
 use Rattle.child_start.proofs.Begun.{later_unstarted}
-use Rattle.ann_key.proofs.Lists.{last_or-append}
+use Rattle.ann_key.proofs.Lists.{last_or-append, slice_get-left}
 use Rattle.std.proofs.lemmas.Bool.{and_parts as both}
 use Rattle.ann_key.proofs.Booleans.{left_false as either_left, right_false as either_right, or_left}
 

@@ -16,7 +16,6 @@ use Rattle.journal_model.proofs.Holding.{holder_append}
 use Rattle.journal_model.proofs.Looks.{any-append, each_of-append}
 use Rattle.journal_model.proofs.Testing.{all-each, all-join}
 use Rattle.host_core.specs.Steps.{unclaimed}
-use Rattle.child_start.proofs.Jobs.{idle_on}
 use Rattle.child_end.specs.Programs.{AddsAll, HaveStarted, RoseBy, is_failed_start, told, told_in}
 use Rattle.child_end.specs.Wires.{came, came_in}
 use Rattle.crew_worker.specs.KnownLayouts.{IsBook}
@@ -40,7 +39,8 @@ use Rattle.ann_key.proofs.Booleans.{false_is_true as not_yet, and_false as false
 use Rattle.std.proofs.lemmas.Bool.{and_parts as both, ne_eqb as differ, le-leb as low}
 use Rattle.journal_model.proofs.Working.{count-append, count_none}
 use Rattle.child_end.proofs.Across.{adds_both}
-use Rattle.journal_model.proofs.Across.{none_so as any_none}
+use Rattle.journal_model.proofs.Across.{none_so as any_none, idle_on}
+use Rattle.ann_key.proofs.Lists.{last_or-push}
 
 -- ---- the start itself
 
@@ -64,11 +64,7 @@ pub record SaysSlot (slot : ℕ) (past : List Entry) (first : What) : Type 0 whe
   pub stands : (o : Opening) (jobs : ℕ) → IsInSlot o jobs past slot → StandsInTurn o jobs past first
 
 last_one : {X : Type 0} (f : What → Option X) (x : X) (past : List Entry) (w : What) → f w ≡ Some x → last_or None (each_of f (past ++ main_entry w ∷ [])) ≡ Some x
-last_one f x past w e = ap (last_or None) (each_of-append f past (main_entry w ∷ []) ∙ ap (λ (o : Option _). each_of f past ++ cons_option o []) e) ∙ last_or-behind None (each_of f past) x
-  where
-    last_or-behind : {Y : Type 0} (d : Option Y) (ys : List Y) (y : Y) → last_or d (ys ++ y ∷ []) ≡ Some y
-    last_or-behind d [] y = refl
-    last_or-behind d (z ∷ ys) y = last_or-behind (Some z) ys y
+last_one f x past w e = ap (last_or None) (each_of-append f past (main_entry w ∷ []) ∙ ap (λ (o : Option _). each_of f past ++ cons_option o []) e) ∙ last_or-push None (each_of f past) x
 
 pub says_slot : (slot : ℕ) (past : List Entry) (first : What) → IsSlotStart slot past first → SaysSlot slot past first
 says_slot slot past first (inl e) = subst (SaysSlot slot past) (sym e) record {

@@ -11,6 +11,7 @@ use Rattle.child_start.specs.Greetings.{is_greeting_line, is_of_greeting}
 use Rattle.run_starts.specs.Rounds.{AllLostWell, IsLostIn, greeted, opened_in}
 use Rattle.run_starts.specs.Stints.{main_entry}
 use Rattle.std.proofs.lemmas.Bool.{and_parts as both, eqb-true as same_number}
+use Rattle.ann_key.proofs.Lists.{last_or-push}
 
 pub lost_both : (past xs ys : List Entry) → AllLostWell past xs → AllLostWell (past ++ xs) ys → AllLostWell past (xs ++ ys)
 lost_both past [] ys h k = subst (λ (p : List Entry). AllLostWell p ys) (append-nil past) k
@@ -40,12 +41,8 @@ lost_others past (e ∷ xs) h =
 
 -- ---- a greeting
 
-last_behind : (o : Option (Option ℕ)) (ts : List (Option ℕ)) (x : Option ℕ) → last_or o (ts ++ x ∷ []) ≡ Some x
-last_behind o [] x = refl
-last_behind o (t ∷ ts) x = last_behind (Some t) ts x
-
 pub greeted_next : (old : List Entry) (c slot : ℕ) (offer : Bool) → greeted (old ++ main_entry (Start c slot offer) ∷ []) ≡ Some c
-greeted_next old c slot offer = ap (option_and_then (λ (child : Option ℕ). child)) (ap (last_or None) (each_of-append opened_in old (main_entry (Start c slot offer) ∷ [])) ∙ last_behind None (each_of opened_in old) (Some c))
+greeted_next old c slot offer = ap (option_and_then (λ (child : Option ℕ). child)) (ap (last_or None) (each_of-append opened_in old (main_entry (Start c slot offer) ∷ [])) ∙ last_or-push None (each_of opened_in old) (Some c))
 
 still_greeted : (past : List Entry) (e : Entry) → opened_in e.what ≡ None → greeted (past ++ e ∷ []) ≡ greeted past
 still_greeted past e none =

@@ -20,7 +20,6 @@ use Rattle.host_core.specs.Steps.{are_all_claimed}
 use Rattle.child_link.specs.Alone.{Closes}
 use Rattle.child_link.proofs.Writings.{lone_apart}
 use Rattle.child_link.proofs.Solo.{closed_over}
-use Rattle.child_start.proofs.Jobs.{idle_on}
 use Rattle.journal_model.specs.Halves.{EarValue, MouthValue}
 use Rattle.child_link.specs.Writings.{LoneWired}
 use Rattle.journal_model.specs.declared.answer.Answer.{Answer}
@@ -39,7 +38,7 @@ use Rattle.run_starts.proofs.Zeros.{rests_one}
 use Rattle.std.proofs.lemmas.Bool.{and_parts as both}
 use Rattle.ann_key.proofs.Numbers.{same_number as same}
 use Rattle.ann_key.proofs.Booleans.{or_left, or_right}
-use Rattle.journal_model.proofs.Across.{all_in}
+use Rattle.journal_model.proofs.Across.{all_in, idle_on}
 
 -- ---- a part
 

@@ -12,14 +12,11 @@ use Rattle.task_model.specs.TaskRuns.{failed_start, unready_answer}
 use Rattle.run_starts.specs.Rounds.{start_untaken, turn_of}
 use Rattle.run_starts.specs.Stints.{in_stint, main_entry}
 use Rattle.std.proofs.lemmas.Bool.{and_parts as both}
+use Rattle.ann_key.proofs.Lists.{last_or-append}
 
 -- what a turn came to
 abbrev Turn : Type 0
 Turn = Option (Option ℕ)
-
-last_behind : (o : Option Turn) (ts : List Turn) (x : Turn) (ns : List Turn) → last_or o (ts ++ x ∷ ns) ≡ last_or (Some x) ns
-last_behind o [] x ns = refl
-last_behind o (t ∷ ts) x ns = last_behind (Some t) ts x ns
 
 -- claims alone
 abbrev AreClaims : List Turn → Type 0
@@ -61,7 +58,7 @@ module _ (old later : List Entry) (c : ℕ) (offer : Bool) where
   turns_are = each_of-append turn_of old (main_entry (Start c 0 offer) ∷ later)
 
   last_is : last_or None (each_of turn_of begun) ≡ last_or (Some (Some (Some c))) (each_of turn_of later)
-  last_is = ap (last_or None) turns_are ∙ last_behind None (each_of turn_of old) (Some (Some c)) (each_of turn_of later)
+  last_is = ap (last_or None) turns_are ∙ last_or-append None (each_of turn_of old) (Some (Some c) ∷ each_of turn_of later)
 
   -- no task was claimed after it
   pub child_untaken : each_of turn_of later ≡ [] → start_untaken begun ≡ Some (Some c)
@@ -78,7 +75,7 @@ module _ (old later : List Entry) (c : ℕ) (offer : Bool) where
 -- ---- after a start that failed
 
 pub fault_untaken : (old : List Entry) → start_untaken (old ++ main_entry (NoStart 0) ∷ []) ≡ Some None
-fault_untaken old = ap flat (ap (last_or None) (each_of-append turn_of old (main_entry (NoStart 0) ∷ [])) ∙ last_behind None (each_of turn_of old) (Some None) [])
+fault_untaken old = ap flat (ap (last_or None) (each_of-append turn_of old (main_entry (NoStart 0) ∷ [])) ∙ last_or-append None (each_of turn_of old) (Some None ∷ []))
 
 -- ---- after a claim
 
@@ -86,7 +83,7 @@ pub claim_takes : (past tail : List Entry) (t : ℕ) (answer : Answer) → each_
 claim_takes past tail t answer none =
     ap flat (
     ap (last_or None) (each_of-append turn_of past (main_entry (Claim t 0) ∷ main_entry (Answered t answer) ∷ tail))
-    ∙ last_behind None (each_of turn_of past) None (each_of turn_of tail)
+    ∙ last_or-append None (each_of turn_of past) (None ∷ each_of turn_of tail)
     ∙ ap (last_or (Some None)) none
     )
 

@@ -50,7 +50,7 @@ use Rattle.task_model.proofs.Lists.{all_taken}
 use Rattle.task_get.proofs.GetTurns.{failed_tried, moving_sized, asked_end, unasked_end, asks_for_part}
 use Rattle.task_get.proofs.GetFetch.{Here, FetchingAt, file_in, part_in, fetch_in, EndedAt, apart_in, Others, others_size, Moving, moving_none, moving_step, fore_of, free_of, memory_at, stopped_at, Ready, copies_in, copy_early, copy_refused, tail_in, fetch_unremoved, moving_moved, part_known_moved}
 use Rattle.ann_key.proofs.Booleans.{false_is_true as apart}
-use Rattle.ann_key.proofs.Lists.{same_name}
+use Rattle.ann_key.proofs.Lists.{same_name, last_or-push}
 
 -- the whole content, as a part
 abbrev pub whole_part : Parts → Part
@@ -387,11 +387,7 @@ plain_fetched p past done tried x calls f (Moved n how) so = plain_move p past d
 failed_last : (past : List Asking) (a : Asking) (answer : Answer) → failed_at a.verdict ≡ Some answer → last_failed (past ++ a ∷ []) ≡ Some answer
 failed_last past a answer e =
     let one : filter_map (λ (b : Asking). failed_at b.verdict) (a ∷ []) ≡ answer ∷ [] = rw e refl in
-    ap (last_or None) (filter_map-append (λ (b : Asking). failed_at b.verdict) past (a ∷ []) ∙ ap (λ (l : List Answer). filter_map (λ (b : Asking). failed_at b.verdict) past ++ l) one) ∙ last_behind None (filter_map (λ (b : Asking). failed_at b.verdict) past)
-  where
-    last_behind : (o : Option Answer) (answers : List Answer) → last_or o (answers ++ answer ∷ []) ≡ Some answer
-    last_behind o [] = refl
-    last_behind o (x ∷ xs) = last_behind (Some x) xs
+    ap (last_or None) (filter_map-append (λ (b : Asking). failed_at b.verdict) past (a ∷ []) ∙ ap (λ (l : List Answer). filter_map (λ (b : Asking). failed_at b.verdict) past ++ l) one) ∙ last_or-push None (filter_map (λ (b : Asking). failed_at b.verdict) past) answer
 
 failed_of : (request : Option HostMessage) (w : Verdict) (at : ℕ) → w ≡ V.Failed at → is_failed (record { request = request; name = None; verdict = w }) ≡ true
 failed_of request w at e = rw e refl

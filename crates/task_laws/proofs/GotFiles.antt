@@ -18,10 +18,10 @@ use Rattle.task_model.specs.Names.{part_of}
 use Rattle.task_model.specs.Gets.{checked, is_got}
 use Rattle.task_model.specs.Runs.{RunOf, TaskRun, WorkAnswers}
 use Rattle.task_model.specs.RunLaws.{sizes_got}
-use Rattle.task_model.proofs.GotLaws.{get_fits}
+use Rattle.task_model.proofs.GotLaws.{get_fits, are_other, stops_other}
 use Rattle.task_laws.specs.FilesKept.{GotHolds, HoldsChecked}
 use Rattle.task_laws.proofs.FileHolds.{GoOn, found_so, renamed_holds}
-use Rattle.task_laws.proofs.GotEnds.{GotEnds, are_other, got_ends, stops_other}
+use Rattle.task_laws.proofs.GotEnds.{GotEnds, got_ends}
 use Rattle.task_laws.proofs.Keeping.{Decided, decided}
 use Rattle.ann_key.proofs.Lists.{nil_back as nil_behind}
 use Rattle.ann_key.proofs.Booleans.{false_is_true as apart}

@@ -16,5 +16,5 @@ pub mod GotFiles
 pub mod LeftFiles
 pub mod FilesStored
 pub mod NoPart
-pub mod WormKeys
 pub mod LastRuns
+pub mod StoredThenGot

@@ -1,22 +1,22 @@
 -- What a longer journal says of the requests of a task.
 use Rattle.std.proofs.Common.{◌≡◌, ℕ, List, [], ◌∷◌, ◌++◌, refl, sym, ap, ◌∙◌, append_assoc, Bool, true, false, ◌==◌, cond, Some, None, Option}
 use Rattle.std.specs.Prelude.{option_map}
-use Rattle.std.specs.List.{list_any, cons_option}
+use Rattle.std.specs.List.{cons_option}
 use Rattle.std.proofs.lemmas.List.{append-nil}
 use Rattle.journal_model.specs.declared.verdict.Verdict.{Verdict}
 use Rattle.annex_model.specs.Messages.{HostMessage, host_reading}
 use Rattle.journal_model.specs.declared.entry.What.{What}
 use Rattle.journal_model.specs.declared.entry.What.TheVariants.{Ask, Lost}
 use Rattle.journal_model.specs.declared.entry.Entry.{Entry}
-use Rattle.journal_model.specs.Journal.{any, each_of, asked_jobs, asks, is_open, verdict_of, why_of, addressed}
+use Rattle.journal_model.specs.Journal.{any, each_of, asks, verdict_of, why_of, addressed}
 use Rattle.journal_model.specs.Legality.{job_for, has_open_job}
-use Rattle.journal_model.proofs.Looks.{entry, is_asked}
+use Rattle.journal_model.proofs.Looks.{entry}
 use Rattle.task_model.specs.TaskRuns.{Asking, asking_of, askings_from, askings, lost_verdict}
 use Rattle.task_model.specs.Askings.{name_before}
 use Rattle.ann_key.proofs.Booleans.{left_false as either_left, right_false as either_right}
 use Rattle.ann_key.proofs.Lists.{cons_option-append}
-use Rattle.journal_model.proofs.Working.{asked_behind, asked_first, kept_verdict as kept}
 use Rattle.ann_key.proofs.Numbers.{same_number as same}
+use Rattle.journal_model.proofs.Working.{SameVerdicts, all_asked, same_verdicts}
 
 -- the entry is a request of task t, or stands for one
 abbrev pub asks_for : ℕ → What → Bool
@@ -51,63 +51,30 @@ askings_from-none journal t past (e ∷ xs) h =
 
 -- ---- the same verdicts
 
--- the jobs are settled alike in both
-abbrev SameVerdicts : List Entry → List Entry → List (ℕ × ℕ) → Type 0
-SameVerdicts j k [] = Unit {0}
-SameVerdicts j k (q ∷ qs) = (verdict_of j q.0 q.1 ≡ verdict_of k q.0 q.1) × SameVerdicts j k qs
+abbrev pub Alike : List Entry → List Entry → ℕ → List Entry → What → Type 0
+Alike j k t past w = asking_of j t past w ≡ asking_of k t past w
 
-abbrev asked_so : List Entry → ℕ → ℕ → List ℕ → Verdict → Asking
-asked_so past child job line v = record { request = host_reading (addressed past child line).1; name = name_before past child job; verdict = v }
-
-askings_from-alike : (j k : List Entry) (t : ℕ) (past xs : List Entry) → SameVerdicts j k (each_of (job_for t) xs)
-    → askings_from j t past xs ≡ askings_from k t past xs
-askings_from-alike j k t past [] h = refl
-askings_from-alike j k t past (e ∷ xs) h = step e.what h (askings_from-alike j k t (past ++ e ∷ []) xs)
+-- an entry asks alike in both, where its job is settled alike
+pub alike : (j k : List Entry) (t : ℕ) (past xs : List Entry) (w : What) → SameVerdicts j k (cons_option (job_for t w) (each_of (job_for t) xs))
+    → Alike j k t past w × SameVerdicts j k (each_of (job_for t) xs)
+alike j k t past xs (Ask child job task line) h = go (task == t) h
   where
-    step : (w : What) → SameVerdicts j k (cons_option (job_for t w) (each_of (job_for t) xs))
-        → (SameVerdicts j k (each_of (job_for t) xs) → askings_from j t (past ++ e ∷ []) xs ≡ askings_from k t (past ++ e ∷ []) xs)
-        → cons_option (asking_of j t past w) (askings_from j t (past ++ e ∷ []) xs)
-        ≡ cons_option (asking_of k t past w) (askings_from k t (past ++ e ∷ []) xs)
-    step (Ask child job task line) h r = go (task == t) h
-      where
-        go : (b : Bool) → SameVerdicts j k (cons_option (cond b (Some (child, job)) None) (each_of (job_for t) xs))
-            → cons_option (cond b (option_map (asked_so past child job line) (verdict_of j child job)) None) (askings_from j t (past ++ e ∷ []) xs)
-            ≡ cons_option (cond b (option_map (asked_so past child job line) (verdict_of k child job)) None) (askings_from k t (past ++ e ∷ []) xs)
-        go true h = rw h.0 (ap (cons_option (option_map (asked_so past child job line) (verdict_of k child job))) (r h.1))
-        go false h = r h
-    step (Lost child task) h r = ap (cons_option (asking_of j t past (Lost child task))) (r h)
-    step w h r = r h
+    asked : Verdict → Asking
+    asked v = record { request = host_reading (addressed past child line).1; name = name_before past child job; verdict = v }
 
--- ---- settled jobs keep their verdicts
+    go : (b : Bool) → SameVerdicts j k (cons_option (cond b (Some (child, job)) None) (each_of (job_for t) xs))
+        → (cond b (option_map asked (verdict_of j child job)) None ≡ cond b (option_map asked (verdict_of k child job)) None) × SameVerdicts j k (each_of (job_for t) xs)
+    go true h = (ap (option_map asked) h.0, h.1)
+    go false h = (refl, h)
+alike j k t past xs (Lost child task) h = (refl, h)
+alike j k t past xs w h = (refl, h)
 
-abbrev AllAsked : List Entry → List (ℕ × ℕ) → Type 0
-AllAsked past [] = Unit {0}
-AllAsked past (q ∷ qs) = (is_asked past q.0 q.1 ≡ true) × AllAsked past qs
-
-all_behind : (by : ℕ) (w : What) (xs : List Entry) (qs : List (ℕ × ℕ)) → AllAsked xs qs → AllAsked (entry by w ∷ xs) qs
-all_behind by w xs [] h = tt
-all_behind by w xs (q ∷ qs) h = (asked_behind (asks q.0 w) (asked_jobs xs q.0) q.1 h.0, all_behind by w xs qs h.1)
-
-all_asked : (t : ℕ) (xs : List Entry) → AllAsked xs (each_of (job_for t) xs)
-all_asked t [] = tt
-all_asked t (e ∷ xs) = step e.what (all_asked t xs)
-  where
-    step : (w : What) → AllAsked xs (each_of (job_for t) xs) → AllAsked (entry e.by w ∷ xs) (cons_option (job_for t w) (each_of (job_for t) xs))
-    step (Ask child job task line) r = go (task == t) (all_behind e.by (Ask child job task line) xs (each_of (job_for t) xs) r)
-      where
-        go : (b : Bool) → AllAsked (entry e.by (Ask child job task line) ∷ xs) (each_of (job_for t) xs)
-            → AllAsked (entry e.by (Ask child job task line) ∷ xs) (cons_option (cond b (Some (child, job)) None) (each_of (job_for t) xs))
-        go true more = (asked_first e.by child job task line xs, more)
-        go false more = more
-    step w r = all_behind e.by w xs (each_of (job_for t) xs) r
-
-all_kept : (past more : List Entry) (qs : List (ℕ × ℕ)) → AllAsked past qs → list_any (λ q. is_open past q.0 q.1) qs ≡ false
-    → SameVerdicts (past ++ more) past qs
-all_kept past more [] a h = tt
-all_kept past more (q ∷ qs) a h = (
-  kept past more q.0 q.1 a.0 (either_left (is_open past q.0 q.1) (list_any (λ q. is_open past q.0 q.1) qs) h),
-  all_kept past more qs a.1 (either_right (is_open past q.0 q.1) (list_any (λ q. is_open past q.0 q.1) qs) h),
-)
+pub askings_alike : (j k : List Entry) (t : ℕ) (past xs : List Entry) → SameVerdicts j k (each_of (job_for t) xs) → askings_from j t past xs ≡ askings_from k t past xs
+askings_alike j k t past [] h = refl
+askings_alike j k t past (e ∷ xs) h =
+    let a = alike j k t past xs e.what h in
+    ap (λ (o : Option Asking). cons_option o (askings_from j t (past ++ e ∷ []) xs)) a.0
+    ∙ ap (cons_option (asking_of k t past e.what)) (askings_alike j k t (past ++ e ∷ []) xs a.1)
 
 -- ---- the askings of a longer journal
 
@@ -117,7 +84,7 @@ pub askings-append : (past more : List Entry) (t : ℕ) → has_open_job past t 
 askings-append past more t h =
     askings_from-append (past ++ more) t [] past more
     ∙ ap (λ (xs : List Asking). xs ++ askings_from (past ++ more) t past more)
-    (askings_from-alike (past ++ more) past t [] past (all_kept past more (each_of (job_for t) past) (all_asked t past) h))
+    (askings_alike (past ++ more) past t [] past (same_verdicts past more (each_of (job_for t) past) (all_asked t past) h))
 
 -- entries that ask nothing for the task add nothing
 pub askings-unasked : (past more : List Entry) (t : ℕ) → has_open_job past t ≡ false → any (asks_for t) more ≡ false

@@ -41,7 +41,7 @@ abbrev other : Option Answer → Bool
 other None = true
 other (Some answer) = not (is_got answer)
 
-abbrev are_other : List Answer → Bool
+abbrev pub are_other : List Answer → Bool
 are_other answers = list_all (λ a. not (is_got a)) answers
 
 verdict_other : (asks : Bool) (v : Verdict) → other (verdict_stop asks v) ≡ true
@@ -86,7 +86,7 @@ both_other : (a b : List Answer) → are_other a ≡ true → are_other b ≡ tr
 both_other [] b h k = k
 both_other (x ∷ a) b h k = both_test (not (is_got x)) (are_other a) (are_other (a ++ b)) h (λ e. both_other a b e k)
 
-stops_other : (work : Work) (part : List ℕ) (asked : List Asking) (calls : List Call) → are_other (stops_of work part asked calls) ≡ true
+pub stops_other : (work : Work) (part : List ℕ) (asked : List Asking) (calls : List Call) → are_other (stops_of work part asked calls) ≡ true
 stops_other work part asked calls =
     both_other (filter_map (asking_stop work) asked) (filter_map (call_stop part) calls)
     (all_other (asking_stop work) (λ a. verdict_other _ a.verdict) asked)
@@ -103,7 +103,7 @@ first_other answer b h = by_test (not (is_got answer)) h
     by_test true e = refl
     by_test false e = apart e
 
-finished : (stops : List Answer) (Finished : Type 0) → are_other stops ≡ true → AnsweredBy stops A.Got Finished → Finished
+pub finished : (stops : List Answer) (Finished : Type 0) → are_other stops ≡ true → AnsweredBy stops A.Got Finished → Finished
 finished [] Finished h r = r
 finished (stop ∷ []) Finished h r = absurd (not_other stop r (first_other stop true h))
 finished (stop ∷ another ∷ more) Finished h r = absurd r

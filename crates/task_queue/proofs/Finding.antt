@@ -18,6 +18,7 @@ use Rattle.task_queue.specs.Ways.{AreBare}
 use Rattle.task_queue.specs.declared.queue.Queue.{Queue}
 use Rattle.task_queue.proofs.Grouping.{same_conflict}
 use Rattle.task_queue.proofs.Places.{beyond}
+use Rattle.ann_key.proofs.Lists.{any_within}
 
 -- ---- some element that passes
 
@@ -28,14 +29,6 @@ any_found p (x ∷ xs) h = go (or_cases (p x) (list_any p xs) h) (any_found p xs
     go : (p x ≡ true) ⊎ (list_any p xs ≡ true) → (list_any p xs ≡ true → (u : ℕ) × (is_among xs u ≡ true) × (p u ≡ true)) → (u : ℕ) × (is_among (x ∷ xs) u ≡ true) × (p u ≡ true)
     go (inl k) r = (x, or_left (x == x) (is_among xs x) (eq-eqb x x refl), k)
     go (inr k) r = let w = r k in (w.0, or_right (x == w.0) (is_among xs w.0) w.1, w.2)
-
-any_number : (p : ℕ → Bool) (a n u : ℕ) → a ≤ u → u < a + n → p u ≡ true → list_any p (range_with_len a n) ≡ true
-any_number p a zero u low high h = absurd (omega (arith, low, high))
-any_number p a (suc n) u low high h = go (cases_eq u a) (λ (more : a + 1 ≤ u). any_number p (a + 1) n u more (omega (arith, high)) h)
-  where
-    go : (u ≡ a) ⊎ (u ≡ a → ⊥) → (a + 1 ≤ u → list_any p (range_with_len (a + 1) n) ≡ true) → (p a || list_any p (range_with_len (a + 1) n)) ≡ true
-    go (inl e) r = or_left (p a) (list_any p (range_with_len (a + 1) n)) (ap p (sym e) ∙ h)
-    go (inr apart) r = or_right (p a) (list_any p (range_with_len (a + 1) n)) (r (beyond a u low apart))
 
 pub found_some : (p : ℕ → Bool) (xs : List ℕ) (u : ℕ) → find p xs ≡ Some u → (is_among xs u ≡ true) × (p u ≡ true)
 found_some p [] u h = absurd cc
@@ -78,7 +71,7 @@ least_none p a (suc n) none =
 blocked : (o : Opening) (past : List Entry) (b t : ℕ) → 0 < b → b < length o.tasks + 1 → is_busy past b ≡ true → both_conflict (task_of o b) (task_of o t) ≡ true → is_free o past t ≡ false
 blocked o past b t some within busy conflict =
     let here : list_any (λ u. is_busy past u && both_conflict (task_of o u) (task_of o t)) (numbers_of o) ≡ true =
-    any_number (λ (u : ℕ). is_busy past u && both_conflict (task_of o u) (task_of o t)) 1 (length o.tasks) b (omega (arith, some)) (omega (arith, within))
+    any_within (λ (u : ℕ). is_busy past u && both_conflict (task_of o u) (task_of o t)) 1 (length o.tasks) b (omega (arith, some)) (omega (arith, within))
     (and_from (is_busy past b) (both_conflict (task_of o b) (task_of o t)) busy conflict) in
     and_right (not (is_claimed past t)) (not (list_any (λ u. is_busy past u && both_conflict (task_of o u) (task_of o t)) (numbers_of o))) (not_from_true _ here)
 

@@ -11,6 +11,7 @@ use Rattle.task_queue.specs.declared.alike.By.{By}
 use Rattle.task_queue.specs.declared.alike.By.TheVariants.{Key, File}
 use Rattle.task_queue.specs.Groups.{Alone, AreChained, AreFirsts, AreGroups, AreNext, AreWithin, IsFirst, Text, badge_by, badge_in, badge_of, is_set, number_at, text_at, text_of}
 use Rattle.task_queue.proofs.Places.{at_set, beyond, down_other, still_down}
+use Rattle.std.proofs.lemmas.Option.{slice_get_past}
 
 -- ---- the task of a number
 
@@ -20,11 +21,6 @@ of_next o k =
     let no_zero : (suc k == 0) ≡ false = differ (suc k) 0 (λ (h : suc k ≡ 0). (let none : ⊥ = omega arith in none)) in
     rw no_zero (ap (slice_get o.tasks) less)
 
-none_past : {X : Type 0} (xs : List X) (k : ℕ) → length xs ≤ k → slice_get xs k ≡ None
-none_past [] k long = refl
-none_past (x ∷ xs) zero long = absurd (omega arith)
-none_past (x ∷ xs) (suc k) long = none_past xs k (omega arith)
-
 some_within : {X : Type 0} (xs : List X) (k : ℕ) → k < length xs → is_some (slice_get xs k) ≡ true
 some_within [] k within = absurd (omega arith)
 some_within (x ∷ xs) zero within = refl
@@ -32,7 +28,7 @@ some_within (x ∷ xs) (suc k) within = some_within xs k (omega arith)
 
 badge_past : (by : By) (o : Opening) (t : ℕ) → length o.tasks < t → badge_of by o t ≡ Alone 0
 badge_past by o zero past = refl
-badge_past by o (suc k) past = ap (badge_in by (suc k)) (of_next o k ∙ none_past o.tasks k (omega arith))
+badge_past by o (suc k) past = ap (badge_in by (suc k)) (of_next o k ∙ slice_get_past o.tasks k (omega arith))
 
 pub is_task : (o : Opening) (t : ℕ) → 0 < t → t < length o.tasks + 1 → is_some (task_of o t) ≡ true
 is_task o zero some within = absurd (omega arith)

@@ -32,6 +32,7 @@ use Rattle.task_store.proofs.ChunkStoreParts.{Chunked, chunk_parts, keys_are, mi
 use Rattle.ann_key.proofs.Lists.{same_name, all_still as all_imp, all_more}
 use Rattle.ann_key.proofs.Booleans.{false_is_true as apart}
 use Rattle.ann_key.proofs.Numbers.{same_number as nat_same}
+use Rattle.task_model.proofs.NamedRuns.{nameless}
 
 -- ---- what is asked, for any questions and what follows them
 
@@ -210,6 +211,9 @@ pieces_of setup t key file size f qs ts calls low most s g = record {
 
 abbrev pub store_task : List ℕ → List ℕ → Task
 store_task text file = record { work = W.Store; key = text; file = file; name = []; onto = [] }
+
+pub as_store : (task : Task) → task.work ≡ W.Store → nameless task ≡ store_task task.key task.file
+as_store task e = ap (λ w. record { work = w; key = task.key; file = task.file; name = []; onto = [] }) e
 
 abbrev pub are_free : List Asking → Bool
 are_free asked = list_all (λ a. is_none (asking_stop W.Store a)) asked

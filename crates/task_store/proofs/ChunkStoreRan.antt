@@ -28,14 +28,11 @@ use Rattle.task_model.specs.Ran.{RanStore, IsInChunks, answered, refusal}
 use Rattle.task_store.specs.ChunkStoring.{StoresSized}
 use Rattle.task_model.proofs.Texts.{longer_differs}
 use Rattle.task_model.proofs.PlainRuns.{of_reading}
-use Rattle.task_store.proofs.ChunkStoreEnds.{store_task}
-use Rattle.task_model.proofs.NamedRuns.{nameless, with_names}
+use Rattle.task_store.proofs.ChunkStoreEnds.{store_task, as_store}
+use Rattle.task_model.proofs.NamedRuns.{with_names}
 use Rattle.task_text.specs.Works.{has_name}
 use Rattle.ann_key.proofs.Lists.{same_name, other_name}
 use Rattle.ann_key.proofs.Booleans.{false_is_true as apart}
-
-as_store : (task : Task) → task.work ≡ W.Store → nameless task ≡ store_task task.key task.file
-as_store task e = ap (λ w. record { work = w; key = task.key; file = task.file; name = []; onto = [] }) e
 
 -- a run by the key that the task's text spells is one of the task
 store_run : (task : Task) (t : TaskTurn) (setup : Setup) (key : Parts) (layouts : List (ℕ × ℕ)) (asked : List Asking) (calls : List Call) (noted : List Noting) (answer : Answer) → task.work ≡ W.Store

@@ -31,10 +31,11 @@ use Rattle.task_model.specs.Ran.{RanPlain, answered, is_verdict_of, change_answe
 use Rattle.std.specs.Prelude.{unwrap_or}
 use Rattle.task_model.proofs.Texts.{longer_differs}
 use Rattle.task_model.proofs.PlainRuns.{of_reading}
-use Rattle.task_model.proofs.NamedRuns.{nameless, with_names}
+use Rattle.task_model.proofs.NamedRuns.{with_names}
 use Rattle.task_text.specs.Works.{has_name}
 use Rattle.ann_key.proofs.Lists.{same_name, other_name}
 use Rattle.ann_key.proofs.Booleans.{false_is_true as apart}
+use Rattle.task_store.proofs.ChunkStoreEnds.{as_store}
 
 asks_for_store : (text file : List ℕ) (key : Parts) (request : Option HostMessage) (v : Verdict) (n : ℕ) → key_reading text ≡ Some key
     → KeepsRequest (Transfer true text file) request v → AsksFor (store_request file) n key (record { request = request; name = None; verdict = v })
@@ -144,9 +145,6 @@ store_once setup t key text file n (Some q) (Unsupported at) w s h k = record {
 }
 store_once setup t key text file n request (Absent at) w s h k = apart k
 store_once setup t key text file n request (Unknown at) w s h k = apart k
-
-as_store : (task : Task) → task.work ≡ W.Store → nameless task ≡ store_task task.key task.file
-as_store task e = ap (λ w. record { work = w; key = task.key; file = task.file; name = []; onto = [] }) e
 
 -- a run of the task as a store is one of the task
 store_run : (task : Task) (t : TaskTurn) (setup : Setup) (asked : List Asking) (calls : List Call) (answer : Answer) → task.work ≡ W.Store

@@ -1,12 +1,10 @@
 -- Lines that spell tasks.
-use Rattle.std.proofs.Common.{◌≡◌, ℕ, ◌==◌, ◌&&◌, Bool, true, false, not, cond, List, [], ◌∷◌, ◌++◌, length, Option, Some, None, Result, Ok, Err, refl, sym, ap, subst, ◌∙◌, arith, if◌then◌else◌}
-use Rattle.std.specs.Prelude.{nat_lt, MatchResult}
+use Rattle.std.proofs.Common.{◌≡◌, ℕ, ◌==◌, ◌&&◌, Bool, true, false, not, cond, List, [], ◌∷◌, ◌++◌, length, Option, Some, None, Result, Ok, Err, refl, sym, ap, subst, ◌∙◌, if◌then◌else◌}
+use Rattle.std.specs.Prelude.{MatchResult}
 use Rattle.std.specs.Str.{bytes_eq}
 use Rattle.std.specs.List.{list_any, before_first, after_first}
-use Rattle.std.proofs.lemmas.Bool.{and_parts, not-true, not-false, and_from, or_from, or_parts, eqb-true}
-use borrow.Author.Tests.{ltb-true}
+use Rattle.std.proofs.lemmas.Bool.{and_parts, not-true, not-false, and_from, or_from, or_parts}
 use Rattle.std.proofs.lemmas.Slice.Eq.{bytes_eq-Decides}
-use Rattle.ann_key.specs.Keys.{is_sendable}
 use Rattle.task_text.specs.Works.{word_of, work_of, names_file, has_name, has_onto}
 use Rattle.task_text.specs.TaskLines.{SpellsTask, is_task_key, is_file, is_name, is_space, behind_key, work_at, key_in, file_in, name_in, onto_in, key_at, words_at, file_at, name_at, onto_at, fault_in, fault_of, IsReading}
 use Rattle.task_text.specs.declared.task.Work.{Work}
@@ -17,6 +15,7 @@ use Rattle.task_text.specs.declared.error.TaskError.TheVariants.{Word, Key, Unse
 use Rattle.task_text.proofs.Marks.{before_space, after_space, split_at_space}
 use Rattle.task_text.proofs.Parts.{AreParts, parts_of_rest, whole_rest, some_rest, file_right, name_right, onto_right, file_apart, file_wanted, name_wanted, onto_wanted, lacks_none}
 use Rattle.ann_key.proofs.Lists.{found_so as find_some}
+use Rattle.ann_key.proofs.Across.{no_space}
 
 -- the word of the work that a word names
 pub word_named : (word : List ℕ) (work : Work) → work_of word ≡ Some work → word ≡ word_of work
@@ -45,18 +44,6 @@ spaceless_word XCheck = refl
 spaceless_word XDrop = refl
 spaceless_word XRename = refl
 
-no_space : (b : ℕ) → (nat_lt 32 b && not (b == 127)) ≡ true → is_space b ≡ false
-no_space b h = by (b == 32) refl
-  where
-    by : (t : Bool) → (b == 32) ≡ t → t ≡ false
-    by true e = let same = eqb-true b 32 e in let above = ltb-true 32 b (and_parts _ _ h).0 in absurd (omega arith)
-    by false e = refl
-
--- a key that can be sent holds no space
-spaceless_key : (key : List ℕ) → is_sendable key ≡ true → list_any is_space key ≡ false
-spaceless_key [] h = refl
-spaceless_key (b ∷ bs) h = rw (no_space b (and_parts _ _ h).0) (spaceless_key bs (and_parts _ _ h).1)
-
 -- ---- a line that spells a task has its parts
 
 -- the line has this task's work and parts
@@ -77,7 +64,7 @@ parts_of_line task line spells =
       parts =
           parts_of_rest work task.key task.file task.name task.onto (after_first is_space line)
           (ap (after_first is_space) spells.whole ∙ after_space (word_of work) rest (spaceless_word work))
-          (spaceless_key task.key sendable) class.file_class class.name_class class.onto_class class.apart;
+          (no_space task.key sendable) class.file_class class.name_class class.onto_class class.apart;
     }
 
 same_task : (w w' : Work) (k k' f f' n n' o o' : List ℕ) → w ≡ w' → k ≡ k' → f ≡ f' → n ≡ n' → o ≡ o'

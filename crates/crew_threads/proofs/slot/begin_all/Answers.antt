@@ -1,7 +1,8 @@
 use Rattle.std.proofs.Common.{rules, ◌++◌, ◌∷◌, [], ◌∙◌, ap, sym, subst}
 use Rattle.crew_threads.specs.Slots.{SlotOf, SlotsOf}
-use Rattle.crew_threads.proofs.Pairs.{pairwise-snoc, shifted}
+use Rattle.crew_threads.proofs.Pairs.{pairwise-snoc}
 use Rattle.crew_threads.proofs.slot.begin_all.Goals as goal
+use Rattle.ann_key.proofs.Lists.{next_passed}
 
 pub loop-role-preserved : goal.loop-role-preserved
 loop-role-preserved g c =
@@ -9,6 +10,6 @@ loop-role-preserved g c =
       search rules,
       search rules,
       search rules,
-      shifted c.loop-role.yielded c.in-Some.role _ _ _ inv.3 c.in-Some.ensures.steps.0,
+      next_passed c.loop-role.yielded c.in-Some.role _ _ _ inv.3 c.in-Some.ensures.steps.0,
       rw pushed.items (pairwise-snoc (SlotOf g.E.Role.ran) _ _ c.begin.result c.in-Some.role inv.4 c.begin.ensures),
     )

@@ -1,15 +1,16 @@
 use Rattle.std.proofs.Common.{rules, ◌++◌, ◌∷◌, [], ◌∙◌, ap, sym, subst}
 use Rattle.crew_threads.specs.Slots.{SlotOf, SlotsOf, AllCameBack}
 use Rattle.crew_threads.specs.Back.{CameBack}
-use Rattle.crew_threads.proofs.Pairs.{pairwise-snoc, pairwise-last, shifted, all_passed}
+use Rattle.crew_threads.proofs.Pairs.{pairwise-snoc, pairwise-last}
 use Rattle.crew_threads.proofs.slot.end_all.Goals as goal
+use Rattle.ann_key.proofs.Lists.{all_passed, next_passed}
 
 pub loop-slot-preserved : goal.loop-slot-preserved
 loop-slot-preserved g c =
     let inv = c.loop-slot.invariant in let pushed = c.push_reserved.ensures in (
       search rules,
       search rules,
-      shifted c.loop-slot.yielded c.in-Some.slot _ _ _ inv.2 c.in-Some.ensures.steps.0,
+      next_passed c.loop-slot.yielded c.in-Some.slot _ _ _ inv.2 c.in-Some.ensures.steps.0,
       (λ roles all. let (front, last, is, some, one) = pairwise-last (SlotOf g.E.Role.ran) _ c.in-Some.slot roles all in
           rw (is, pushed.items) (pairwise-snoc (CameBack g.E.Role.ran) _ _ last c.end.result (inv.3 front some) (c.end.ensures last one))),
     )

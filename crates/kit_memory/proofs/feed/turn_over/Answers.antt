@@ -4,8 +4,10 @@ use Rattle.kit_core.proofs.FirstLines.{before_whole}
 use Rattle.wire_line.specs.HeldBytes.{has_line}
 use Rattle.kit_serve.specs.Voices.{Hears}
 use Rattle.kit_memory.proofs.Children.{heard_grows, no_end, stays_grown}
-use Rattle.kit_serve.proofs.Talks.{heard_goes, heard_ends, long_ends, read_goes, read_ends, no_line, long_line}
+use Rattle.kit_serve.proofs.Talks.{heard_goes, heard_ends, long_ends, read_goes, read_ends}
 use Rattle.kit_memory.proofs.feed.turn_over.Goals as goal
+use Rattle.wire_line.proofs.Limits.{long_line, no_line}
+use Rattle.kit_serve.specs.Limits.{longest_line}
 
 pub hear-heard-requires-clause-line : goal.hear-heard-requires-clause-line
 hear-heard-requires-clause-line g c = ap has_newline c.in-Line.ensures.next.1 ∙ before_whole c.args.splitter.now.bytes
@@ -47,7 +49,7 @@ returns-in-Long-clause-ended g c =
     let v = g.V.Voice in
     let held = c.args.splitter.now.bytes in
     long_ends v.spoke v.is_over v.is_foul v.lacks _ c.args.voice.now held
-    (long_line held (subst (λ (n : ℕ). IsTrue (not (has_line n held))) c.requires.limit c.in-Long.ensures.next.0)
+    (long_line longest_line held (subst (λ (n : ℕ). IsTrue (not (has_line n held))) c.requires.limit c.in-Long.ensures.next.0)
     (subst (λ (n : ℕ). n < length held) c.requires.limit c.in-Long.ensures.next.1)) c.requires.live
 
 pub returns-in-Long-clause-sink : goal.returns-in-Long-clause-sink
@@ -64,7 +66,7 @@ returns-in-More-clause-ended g c =
     let held = c.args.splitter.now.bytes in
     read_ends v.spoke v.is_over v.is_foul v.lacks (Some (g.S.Feed.heard c.args.source.now)) (Some (g.S.Feed.heard c.take_in.new.source)) (g.W.Sink.told c.args.sink.now).taken c.args.voice.now
     held c.take_in.new.splitter.bytes c.take_in.result c.take_in.ensures.reads c.take_in.ensures.kept
-    (no_line held (subst (λ (n : ℕ). IsTrue (not (has_line n held))) c.requires.limit c.in-More.ensures.next.0)
+    (no_line longest_line held (subst (λ (n : ℕ). IsTrue (not (has_line n held))) c.requires.limit c.in-More.ensures.next.0)
     (subst (λ (n : ℕ). length held ≤ n) c.requires.limit c.in-More.ensures.next.1)) c.requires.live c.take_in.ensures.others.0 c.take_in.ensures.others.1
 
 pub returns-in-More-clause-sink : goal.returns-in-More-clause-sink

@@ -3,8 +3,10 @@ use Rattle.annex_model.specs.Lines.{has_newline}
 use Rattle.kit_core.proofs.FirstLines.{before_whole}
 use Rattle.wire_line.specs.HeldBytes.{has_line}
 use Rattle.kit_serve.specs.Voices.{Hears}
-use Rattle.kit_serve.proofs.Talks.{turned_line, turned_read, heard_goes, heard_ends, long_ends, read_goes, read_ends, no_line, long_line}
+use Rattle.kit_serve.proofs.Talks.{turned_line, turned_read, heard_goes, heard_ends, long_ends, read_goes, read_ends}
 use Rattle.kit_serve.proofs.serving.turn.Goals as goal
+use Rattle.wire_line.proofs.Limits.{long_line, no_line}
+use Rattle.kit_serve.specs.Limits.{longest_line}
 
 pub hear-heard-requires-clause-line : goal.hear-heard-requires-clause-line
 hear-heard-requires-clause-line g c = ap has_newline c.in-Line.ensures.next.1 ∙ before_whole c.args.splitter.now.bytes
@@ -34,7 +36,7 @@ returns-in-Long-clause-ended g c =
     let v = g.V.Voice in
     let held = c.args.splitter.now.bytes in
     long_ends v.spoke v.is_over v.is_foul v.lacks _ c.args.voice.now held
-    (long_line held (subst (λ (n : ℕ). IsTrue (not (has_line n held))) c.requires.may.limit c.in-Long.ensures.next.0)
+    (long_line longest_line held (subst (λ (n : ℕ). IsTrue (not (has_line n held))) c.requires.may.limit c.in-Long.ensures.next.0)
     (subst (λ (n : ℕ). n < length held) c.requires.may.limit c.in-Long.ensures.next.1)) c.requires.may.live
 
 pub returns-in-More-clause-goes : goal.returns-in-More-clause-goes
@@ -48,7 +50,7 @@ returns-in-More-clause-ended g c =
     let held = c.args.splitter.now.bytes in
     read_ends v.spoke v.is_over v.is_foul v.lacks (g.S.Source.told c.args.source.now).given (g.S.Source.told c.fill.new.source).given (g.W.Sink.told c.args.sink.now).taken c.args.voice.now
     held c.fill.new.splitter.bytes c.fill.result c.fill.ensures.reads c.fill.ensures.kept
-    (no_line held (subst (λ (n : ℕ). IsTrue (not (has_line n held))) c.requires.may.limit c.in-More.ensures.next.0)
+    (no_line longest_line held (subst (λ (n : ℕ). IsTrue (not (has_line n held))) c.requires.may.limit c.in-More.ensures.next.0)
     (subst (λ (n : ℕ). length held ≤ n) c.requires.may.limit c.in-More.ensures.next.1)) c.requires.may.live c.fill.ensures.others.0 c.fill.ensures.others.1
 
 pub returns-in-Line-clause-turned : goal.returns-in-Line-clause-turned

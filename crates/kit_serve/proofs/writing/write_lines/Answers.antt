@@ -3,8 +3,9 @@ use Rattle.std.specs.Io.KnownBytes.{Appends}
 use Rattle.std.proofs.lemmas.List.{get_or_read}
 use Rattle.ann_outside.proofs.Telling.{appends_both}
 use Rattle.annex_model.specs.Lines.{text}
-use Rattle.kit_serve.proofs.Texts.{prefix_more, prefix_whole, text_next, text_behind, text_all}
+use Rattle.kit_serve.proofs.Texts.{prefix_more, prefix_whole, text_behind, text_all}
 use Rattle.kit_serve.proofs.writing.write_lines.Goals as goal
+use Rattle.annex_model.proofs.Across.{text_next}
 
 pub loop-line-preserved : goal.loop-line-preserved
 loop-line-preserved g c =

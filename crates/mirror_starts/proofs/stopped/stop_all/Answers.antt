@@ -2,10 +2,11 @@ use Rattle.std.proofs.Common.{◌∙◌, sym, subst, List, arith}
 use Rattle.std.specs.Vec.Iter.{into_iter_items}
 use Rattle.mirror_children.specs.Children.{ChildValue}
 use Rattle.mirror_starts.specs.Stops.{StopsAll}
-use Rattle.mirror_starts.proofs.Passing.{all_passed, next_linked, next_room, shifted}
+use Rattle.mirror_starts.proofs.Passing.{next_linked, next_room}
 use Rattle.mirror_starts.proofs.Stopping.{stops_next}
 use Rattle.mirror_starts.proofs.stopped.stop_all.Goals as goal
 use Rattle.ann_outside.proofs.Across.{stays_both}
+use Rattle.ann_key.proofs.Lists.{all_passed, next_passed}
 
 pub stop-requires-clause-linked : goal.stop-requires-clause-linked
 stop-requires-clause-linked g c κs within =
@@ -20,7 +21,7 @@ loop-child-preserved g c =
     let a = c.loop-child.invariant in
     let s = c.stop.ensures in
     record {
-      all = shifted c.loop-child.yielded c.in-Some.child c.args.children.items _ _ a.all c.in-Some.ensures.steps.0;
+      all = next_passed c.loop-child.yielded c.in-Some.child c.args.children.items _ _ a.all c.in-Some.ensures.steps.0;
       stops = stops_next c.loop-child.yielded c.in-Some.child c.args.stopped.now c.loop-child.stopped c.stop.new.stopped a.stops s.stops;
       starts = stays_both (g.P.Programs.told c.args.programs.now).starts (g.P.Programs.told c.loop-child.programs).starts (g.P.Programs.told c.stop.new.programs).starts a.starts s.starts;
       later = (let was = a.later in let now = s.later in omega (arith, was, now));

@@ -1,8 +1,10 @@
 use Rattle.std.proofs.Common.{◌<◌, ◌≤◌, ℕ, List, not, length, IsTrue, subst}
 use Rattle.wire_line.specs.HeldBytes.{has_line}
 use Rattle.plain_carry.specs.Turns.{Passes}
-use Rattle.plain_carry.proofs.Turning.{line_goes, line_ends, long_ends, read_goes, read_ends, no_line, long_line}
+use Rattle.plain_carry.proofs.Turning.{line_goes, line_ends, long_ends, read_goes, read_ends}
 use Rattle.plain_carry.proofs.carrying.turn.Goals as goal
+use Rattle.wire_line.proofs.Limits.{long_line, no_line}
+use Rattle.plain_carry.specs.Carries.{longest_line}
 
 pub returns-in-Line-clause-goes : goal.returns-in-Line-clause-goes
 returns-in-Line-clause-goes g c =
@@ -22,7 +24,7 @@ pub returns-in-Long-clause-ended : goal.returns-in-Long-clause-ended
 returns-in-Long-clause-ended g c =
     let held = c.args.splitter.now.bytes in
     long_ends g.V.Way.passes (g.S.Source.told c.args.source.now).given (g.W.Sink.told c.args.sink.now).taken held
-    (long_line held (subst (λ (n : ℕ). IsTrue (not (has_line n held))) c.requires.limit c.in-Long.ensures.next.0)
+    (long_line longest_line held (subst (λ (n : ℕ). IsTrue (not (has_line n held))) c.requires.limit c.in-Long.ensures.next.0)
     (subst (λ (n : ℕ). n < length held) c.requires.limit c.in-Long.ensures.next.1))
 
 pub returns-in-More-clause-goes : goal.returns-in-More-clause-goes
@@ -35,5 +37,5 @@ returns-in-More-clause-ended g c =
     let held = c.args.splitter.now.bytes in
     read_ends g.V.Way.passes (g.S.Source.told c.args.source.now).given (g.S.Source.told c.fill.new.source).given (g.W.Sink.told c.args.sink.now).taken
     held c.fill.new.splitter.bytes c.fill.result c.fill.ensures.reads c.fill.ensures.kept
-    (no_line held (subst (λ (n : ℕ). IsTrue (not (has_line n held))) c.requires.limit c.in-More.ensures.next.0)
+    (no_line longest_line held (subst (λ (n : ℕ). IsTrue (not (has_line n held))) c.requires.limit c.in-More.ensures.next.0)
     (subst (λ (n : ℕ). length held ≤ n) c.requires.limit c.in-More.ensures.next.1)) c.fill.ensures.others.0 c.fill.ensures.others.1

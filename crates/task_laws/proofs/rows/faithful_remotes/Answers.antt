@@ -1,14 +1,10 @@
-use Rattle.std.proofs.Common.{refl, arith}
 use Rattle.task_model.specs.Rows.{fetched_2_1, got_hi}
-use Rattle.task_laws.specs.Changes.{Retrieves}
 use Rattle.task_laws.specs.Contents.{Shows}
 use Rattle.std.specs.Prelude.{codes}
-use Rattle.task_laws.specs.Rows.{hi, stored_then_got, the_store, the_retrieve}
+use Rattle.task_laws.specs.Rows.{hi, the_store, the_retrieve}
 use Rattle.task_laws.proofs.rows.faithful_remotes.Goals as goal
 use Rattle.ann_key.proofs.Booleans.{false_is_true as apart}
-
-retrieves : Retrieves stored_then_got the_retrieve the_store hi fetched_2_1
-retrieves = record { there = (3, omega arith, refl); asks = refl; answered = 19; done = refl; stored = refl }
+use Rattle.task_laws.proofs.StoredThenGot.{retrieves}
 
 pub returns-clause-retrieves : goal.returns-clause-retrieves
 returns-clause-retrieves c = retrieves

@@ -13,7 +13,7 @@ use Rattle.task_model.specs.StretchRows.{next_greeting}
 use Rattle.crew_laws.specs.JournalRuns.{JournalRun}
 use Rattle.task_laws.specs.Changes.{Retrieves}
 use Rattle.task_laws.specs.Rows.{fetched_2_again, got_hi_again, hi, losing, lost_then_got, retrieving_again, storing, the_last_retrieve, the_store, with_again}
-use Rattle.task_laws.proofs.WormKeys.{no_digest}
+use Rattle.ann_digest.proofs.WormKeys.{no_digest}
 use Rattle.task_laws.proofs.rows.got_in_the_last_run.Goals as goal
 
 ran : TaskRun (task_of Get hi (codes "o")) (second_turn 2) (setup_of 0) [] (asks (Transfer false hi fetched_2_again) (Done 35) ∷ []) got_hi_again [] Got

@@ -10,10 +10,10 @@ use Rattle.task_model.specs.Askings.{TaskStretch}
 use Rattle.task_model.specs.Rows.{task_of, setup_of, first_turn, asks, fetched_2_1, got_hi}
 use Rattle.task_model.specs.Runs.{TaskRun}
 use Rattle.crew_laws.specs.JournalRuns.{JournalRun}
-use Rattle.task_laws.specs.Changes.{Retrieves}
-use Rattle.task_laws.specs.Rows.{hi, store_then_get, storing, retrieving, stored_then_got, the_store, the_retrieve}
-use Rattle.task_laws.proofs.WormKeys.{no_digest}
+use Rattle.task_laws.specs.Rows.{hi, store_then_get, storing, retrieving, stored_then_got, the_retrieve}
+use Rattle.ann_digest.proofs.WormKeys.{no_digest}
 use Rattle.task_laws.proofs.rows.got_what_was_stored.Goals as goal
+use Rattle.task_laws.proofs.StoredThenGot.{retrieves}
 
 ran : TaskRun (task_of Get hi (codes "o")) (first_turn 2) (setup_of 0) [] (asks (Transfer false hi fetched_2_1) (Done 19) ∷ []) got_hi [] Got
 unfolding digits
@@ -55,9 +55,6 @@ run = record {
   ran = ran;
   shut = refl;
 }
-
-retrieves : Retrieves stored_then_got the_retrieve the_store hi fetched_2_1
-retrieves = record { there = (3, omega arith, refl); asks = refl; answered = 19; done = refl; stored = refl }
 
 pub returns : goal.returns
 unfolding digits

@@ -8,11 +8,9 @@ use Rattle.task_model.specs.Reads.{holds, are_found_so}
 use Rattle.task_model.specs.Rows.{sized, moved, renamed, fetched_1, fetched_2_1, resumed_ten, ten_bytes}
 use Rattle.task_model.proofs.HeldLaws.{holds_more, so_front, so_behind, holds_cut}
 use Rattle.task_model.proofs.run_laws.fitting_runs.Goals as goal
-use Rattle.std.specs.Prelude.{Option, Some, Ok, unwrap_or, ◌∷◌, ℕ, IsTrue, ◌==◌, List, slice_index, ◌≡◌, ◌++◌, Bool, true, false, if◌then◌else◌, [], codes}
-use Rattle.ann_digest.specs.declared.hash_kind.HashKind.{HashKind}
-use Rattle.ann_digest.specs.declared.hash_kind.HashKind.TheVariants.{Md5, Sha1, Sha224, Sha256, Sha384, Sha512}
-use Rattle.ann_digest.specs.HashKinds.{backend_of}
+use Rattle.std.specs.Prelude.{Option, Some, Ok, unwrap_or, ◌∷◌, ℕ, List, ◌≡◌, ◌++◌, true, false, [], codes}
 use Rattle.ann_key.proofs.Lists.{same_name}
+use Rattle.ann_digest.proofs.WormKeys.{no_digest}
 
 -- two contents that differ
 not_all : (a b : List ℕ) → bytes_eq a b ≡ false → Some a ≡ Some b → ⊥
@@ -22,15 +20,6 @@ not_all a b d e =
 
 not_ten : (a : List ℕ) → bytes_eq a ten_bytes ≡ false → Some a ≡ Some ten_bytes → ⊥
 not_ten a d e = not_all a ten_bytes d e
-
--- WORM names no digest
-no_digest : (kind : HashKind) (extended : Bool) → codes "WORM" ≡ backend_of kind ++ (if extended then codes "E" else []) → ⊥
-no_digest Md5 extended e = let P : List ℕ → Type 0 = λ l. IsTrue (slice_index l 0 == 87) in let h : false ≡ true = subst P e refl in cc
-no_digest Sha1 extended e = let P : List ℕ → Type 0 = λ l. IsTrue (slice_index l 0 == 87) in let h : false ≡ true = subst P e refl in cc
-no_digest Sha224 extended e = let P : List ℕ → Type 0 = λ l. IsTrue (slice_index l 0 == 87) in let h : false ≡ true = subst P e refl in cc
-no_digest Sha256 extended e = let P : List ℕ → Type 0 = λ l. IsTrue (slice_index l 0 == 87) in let h : false ≡ true = subst P e refl in cc
-no_digest Sha384 extended e = let P : List ℕ → Type 0 = λ l. IsTrue (slice_index l 0 == 87) in let h : false ≡ true = subst P e refl in cc
-no_digest Sha512 extended e = let P : List ℕ → Type 0 = λ l. IsTrue (slice_index l 0 == 87) in let h : false ≡ true = subst P e refl in cc
 
 pub returns-clause-got : goal.returns-clause-got
 unfolding digits

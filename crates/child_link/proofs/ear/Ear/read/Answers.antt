@@ -5,10 +5,11 @@ use Rattle.journal_model.specs.declared.verdict.Why.TheVariants.{Eof, ReadFault,
 use Rattle.child_link.proofs.Roles.{moved_still}
 use Rattle.child_link.proofs.Hearing.{turn_over, ear_filled, ear_read_over}
 use Rattle.annex_model.specs.Lines.{has_newline}
-use Rattle.child_link.proofs.Firsts.{no_line}
 use Rattle.child_link.proofs.Hearing.{not_eof, not_fault, eof_not_fault, fault_not_eof}
 use Rattle.child_link.proofs.ear.Ear.read.Goals as goal
 use Rattle.child_link.proofs.Hearing.{over_heard, short_not_long}
+use Rattle.wire_line.proofs.Limits.{no_line}
+use Rattle.journal_model.specs.Limits.{longest_line}
 
 pub returns-in-Got-clause-moved : goal.returns-in-Got-clause-moved
 returns-in-Got-clause-moved g c =
@@ -18,14 +19,14 @@ returns-in-Got-clause-moved g c =
 
 pub returns-in-End-clause-moved : goal.returns-in-End-clause-moved
 returns-in-End-clause-moved g c =
-    ear_read_over c.args.self.now c.fill.new.self c.child-child.result Eof c.child-child.ensures c.fill.ensures.fills (c.in-End.ensures.kept refl) c.requires.more.1 c.requires.live refl (ap (λ (x : List ℕ). not (has_newline x)) (c.in-End.ensures.kept refl) ∙ no_line c.args.self.now.held c.requires.more.0 c.requires.more.1) (λ e. c.in-End.ensures.end refl) eof_not_fault c.stop.ensures.ends
+    ear_read_over c.args.self.now c.fill.new.self c.child-child.result Eof c.child-child.ensures c.fill.ensures.fills (c.in-End.ensures.kept refl) c.requires.more.1 c.requires.live refl (ap (λ (x : List ℕ). not (has_newline x)) (c.in-End.ensures.kept refl) ∙ ap not (no_line longest_line c.args.self.now.held c.requires.more.0 c.requires.more.1)) (λ e. c.in-End.ensures.end refl) eof_not_fault c.stop.ensures.ends
 
 pub returns-in-End-clause-turned : goal.returns-in-End-clause-turned
 returns-in-End-clause-turned g c = turn_over c.args.self.now c.child-child.result c.child-child.ensures Eof refl c.stop.ensures.ends
 
 pub returns-in-Fault-clause-moved : goal.returns-in-Fault-clause-moved
 returns-in-Fault-clause-moved g c =
-    ear_read_over c.args.self.now c.fill.new.self c.child-child.result ReadFault c.child-child.ensures c.fill.ensures.fills (c.in-Fault.ensures.kept refl) c.requires.more.1 c.requires.live refl (ap (λ (x : List ℕ). not (has_newline x)) (c.in-Fault.ensures.kept refl) ∙ no_line c.args.self.now.held c.requires.more.0 c.requires.more.1) fault_not_eof (λ e. c.in-Fault.ensures.fault refl) c.stop-in-Fault.ensures.ends
+    ear_read_over c.args.self.now c.fill.new.self c.child-child.result ReadFault c.child-child.ensures c.fill.ensures.fills (c.in-Fault.ensures.kept refl) c.requires.more.1 c.requires.live refl (ap (λ (x : List ℕ). not (has_newline x)) (c.in-Fault.ensures.kept refl) ∙ ap not (no_line longest_line c.args.self.now.held c.requires.more.0 c.requires.more.1)) fault_not_eof (λ e. c.in-Fault.ensures.fault refl) c.stop-in-Fault.ensures.ends
 
 pub returns-in-Fault-clause-turned : goal.returns-in-Fault-clause-turned
 returns-in-Fault-clause-turned g c = turn_over c.args.self.now c.child-child.result c.child-child.ensures ReadFault refl c.stop-in-Fault.ensures.ends
