@@ -149,14 +149,20 @@ impl Core {
             free,
         };
         let step = moves::move_of(self.alloc, past, by, event)?;
-        take_memory(
+        match take_memory(
             self.alloc,
             &mut self.journal,
             &mut self.registers,
             &mut self.notes,
             &self.opening,
             &step,
-        )?;
+        ) {
+            Ok(()) => {}
+            Err(error) => {
+                drop(step);
+                return Err(error);
+            }
+        }
         enter(
             &mut self.journal,
             &mut self.runs,

@@ -670,27 +670,26 @@ pub(super) fn move_of(
     let opening = past.opening;
     let journal = past.journal;
     let runs = past.runs;
-    let step = match event {
-        Event::Claim { child } => claim(opening, journal, runs, by, child, past.free),
-        Event::Start { slot, offer } => start(opening, journal, by, slot, offer),
-        Event::NoStart { slot } => no_start(opening, journal, by, slot),
+    match event {
+        Event::Claim { child } => Ok(claim(opening, journal, runs, by, child, past.free)),
+        Event::Start { slot, offer } => Ok(start(opening, journal, by, slot, offer)),
+        Event::NoStart { slot } => Ok(no_start(opening, journal, by, slot)),
         Event::Ask {
             child,
             task,
             request,
-        } => ask_own(alloc, opening, journal, by, child, task, request)?,
-        Event::Lookup { child, job } => lookup(opening, journal, by, child, job),
-        Event::Look { child } => look(opening, journal, by, child),
-        Event::Listen { child } => listen(opening, journal, by, child),
-        Event::Fetch { child } => fetch(alloc, opening, journal, by, child)?,
-        Event::Got { child, line } => got(alloc, past, by, child, line)?,
-        Event::Stop { child, why } => stop(opening, journal, by, child, why),
-        Event::Sent { child } => sent(opening, journal, by, child),
-        Event::Mute { child } => mute(opening, journal, by, child),
-        Event::Answer { task, answer } => answer_task(opening, journal, runs, by, task, answer),
-        Event::Note { task, chunk, count } => note(opening, journal, by, task, chunk, count),
-        Event::Layouts { task } => layouts(past, by, task)?,
-        Event::Shut { on } => shut(opening, journal, by, on),
-    };
-    Ok(step)
+        } => ask_own(alloc, opening, journal, by, child, task, request),
+        Event::Lookup { child, job } => Ok(lookup(opening, journal, by, child, job)),
+        Event::Look { child } => Ok(look(opening, journal, by, child)),
+        Event::Listen { child } => Ok(listen(opening, journal, by, child)),
+        Event::Fetch { child } => fetch(alloc, opening, journal, by, child),
+        Event::Got { child, line } => got(alloc, past, by, child, line),
+        Event::Stop { child, why } => Ok(stop(opening, journal, by, child, why)),
+        Event::Sent { child } => Ok(sent(opening, journal, by, child)),
+        Event::Mute { child } => Ok(mute(opening, journal, by, child)),
+        Event::Answer { task, answer } => Ok(answer_task(opening, journal, runs, by, task, answer)),
+        Event::Note { task, chunk, count } => Ok(note(opening, journal, by, task, chunk, count)),
+        Event::Layouts { task } => layouts(past, by, task),
+        Event::Shut { on } => Ok(shut(opening, journal, by, on)),
+    }
 }

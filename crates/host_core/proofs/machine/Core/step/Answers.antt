@@ -75,7 +75,7 @@ enter-requires-clause-room c =
     let few = few_entries o past c.self.inside.journal.room c.self.invariant.0 c.self.invariant.2 c.self.invariant.3 in
     let e : group_made past c.args.by what due ≡ (step_of o past c.args.by c.args.event).group = c.in_ok-step.ensures.step.group_is in
     let room : ℕ = c.self.inside.journal.room in
-    let kept : c.take_memory.new.journal.room ≡ room + group_room what due = c.in_ok-take_memory.ensures.room in
+    let kept : c.take_memory.new.journal.room ≡ room + group_room what due = c.in-Ok.ensures.room in
     let both = group_fits o past c.args.by c.args.event what due room few c.self.invariant.0 e c.self.invariant.2 in
     let P : List Entry → Type 0 = λ es. length es + length (group_made es c.args.by what due) ≤ c.take_memory.new.journal.room in
     subst P (sym c.take_memory.ensures.entries) (omega (arith, both.0, kept))
@@ -104,7 +104,7 @@ returns-clause-registers c =
     c.enter.ensures.entries ∙ ap (λ (es : List Entry). es ++ group_made es c.args.by what due) c.take_memory.ensures.entries in
     let x : Option RemoteMessage = set_in past what due in
     let sets : c.take_memory.new.registers ≡ set_by_all c.self.inside.registers (cons_option x []) =
-    c.in_ok-take_memory.ensures.set in
+    c.in-Ok.ensures.set in
     registers_grow o past c.enter.new.journal.entries c.self.inside.registers c.take_memory.new.registers x c.self.invariant.4.given sets
     (ap settings grown ∙ settings_group o past c.args.by c.args.event what due few c.self.invariant.0 c.in_ok-step.ensures.reply e)
 
@@ -116,7 +116,7 @@ returns-clause-notes c =
     let due : Due = c.in_ok-step.step.due in
     let grown : c.enter.new.journal.entries ≡ past ++ group_made past c.args.by what due =
     c.enter.ensures.entries ∙ ap (λ (es : List Entry). es ++ group_made es c.args.by what due) c.take_memory.ensures.entries in
-    notes_grow o past c.enter.new.journal.entries c.self.inside.notes c.take_memory.new.notes c.args.by what due c.self.invariant.5.given c.in_ok-take_memory.ensures.noted grown
+    notes_grow o past c.enter.new.journal.entries c.self.inside.notes c.take_memory.new.notes c.args.by what due c.self.invariant.5.given c.in-Ok.ensures.noted grown
 
 pub invariant_of-self-2 : goal.invariant_of-self-2
 invariant_of-self-2 c =
@@ -127,7 +127,7 @@ invariant_of-self-2 c =
     let few = few_entries o past c.self.inside.journal.room c.self.invariant.0 c.self.invariant.2 c.self.invariant.3 in
     let e : group_made past c.args.by what due ≡ (step_of o past c.args.by c.args.event).group = c.in_ok-step.ensures.step.group_is in
     let room : ℕ = c.self.inside.journal.room in
-    let kept : c.take_memory.new.journal.room ≡ room + group_room what due = c.in_ok-take_memory.ensures.room in
+    let kept : c.take_memory.new.journal.room ≡ room + group_room what due = c.in-Ok.ensures.room in
     let both = group_fits o past c.args.by c.args.event what due room few c.self.invariant.0 e c.self.invariant.2 in
     let grown : c.enter.new.journal.entries ≡ past ++ group_made past c.args.by what due =
     c.enter.ensures.entries ∙ ap (λ (es : List Entry). es ++ group_made es c.args.by what due) c.take_memory.ensures.entries in
@@ -168,8 +168,8 @@ pub returns-in_err-step-clause-few : goal.returns-in_err-step-clause-few
 returns-in_err-step-clause-few c =
     few_entries c.self.inside.opening c.self.inside.journal.entries c.self.inside.journal.room c.self.invariant.0 c.self.invariant.2 c.self.invariant.3
 
-pub returns-in_err-take_memory-clause-few : goal.returns-in_err-take_memory-clause-few
-returns-in_err-take_memory-clause-few c =
+pub returns-in-Err-clause-few : goal.returns-in-Err-clause-few
+returns-in-Err-clause-few c =
     subst (λ (es : List Entry). length es < 2 ^ 64) (sym c.take_memory.ensures.entries)
     (few_entries c.self.inside.opening c.self.inside.journal.entries c.self.inside.journal.room c.self.invariant.0 c.self.invariant.2 c.self.invariant.3)
 
@@ -179,27 +179,27 @@ returns-in_err-step-clause-free_event c = λ free. (
     (cc)
     )
 
-pub returns-in_err-take_memory-clause-free : goal.returns-in_err-take_memory-clause-free
-returns-in_err-take_memory-clause-free c = λ free. (
+pub returns-in-Err-clause-free : goal.returns-in-Err-clause-free
+returns-in-Err-clause-free c = λ free. (
     let o : Opening = c.self.inside.opening in
     let past : List Entry = c.self.inside.journal.entries in
     let what : Option What = c.in_ok-step.step.what in
     let due : Due = c.in_ok-step.step.due in
     let e : group_made past c.args.by what due ≡ (step_of o past c.args.by c.args.event).group = c.in_ok-step.ensures.step.group_is in
     let f : is_free (step_of o past c.args.by c.args.event) ≡ true = subst (λ (v : CoreValue). is_free (step_of v.opening v.journal c.args.by c.args.event) ≡ true) (sym c.self.view_is) free in
-    let no : false ≡ true = c.in_err-take_memory.ensures.free (free_room o past c.args.by c.args.event what due f e) in
+    let no : false ≡ true = c.in-Err.ensures.free (free_room o past c.args.by c.args.event what due f e) in
     (cc)
     )
 
-pub returns-in_err-take_memory-clause-free_event : goal.returns-in_err-take_memory-clause-free_event
-returns-in_err-take_memory-clause-free_event c = λ free. (
+pub returns-in-Err-clause-free_event : goal.returns-in-Err-clause-free_event
+returns-in-Err-clause-free_event c = λ free. (
     let o : Opening = c.self.inside.opening in
     let past : List Entry = c.self.inside.journal.entries in
     let what : Option What = c.in_ok-step.step.what in
     let due : Due = c.in_ok-step.step.due in
     let e : group_made past c.args.by what due ≡ (step_of o past c.args.by c.args.event).group = c.in_ok-step.ensures.step.group_is in
     let f : is_free (step_of o past c.args.by c.args.event) ≡ true = event_free o past c.args.by c.args.event free in
-    let no : false ≡ true = c.in_err-take_memory.ensures.free (free_room o past c.args.by c.args.event what due f e) in
+    let no : false ≡ true = c.in-Err.ensures.free (free_room o past c.args.by c.args.event what due f e) in
     (cc)
     )
 
@@ -220,18 +220,18 @@ invariant_of-self c = (
   c.free_task-free.ensures.kept c.self.inside.journal.entries c.self.invariant.7,
 )
 
-pub invariant_of-self-in_err-take_memory : goal.invariant_of-self-in_err-take_memory
-invariant_of-self-in_err-take_memory c =
+pub invariant_of-self-in-Err : goal.invariant_of-self-in-Err
+invariant_of-self-in-Err c =
     let o : Opening = c.self.inside.opening in
     let past : List Entry = c.self.inside.journal.entries in
     let same = sym c.take_memory.ensures.entries in
     let rooms : room_of o c.take_memory.new.journal.entries ≡ room_of o past = ap (room_of o) c.take_memory.ensures.entries in (
       subst (Legal o) same c.self.invariant.0,
       c.self.invariant.1,
-      omega (arith, rooms, c.self.invariant.2, c.in_err-take_memory.ensures.kept),
+      omega (arith, rooms, c.self.invariant.2, c.in-Err.ensures.kept),
       c.take_memory.ensures.small,
-      subst (λ (es : List Entry). IsServed o es c.take_memory.new.registers) same (subst (IsServed o past) (sym c.in_err-take_memory.ensures.registers) c.self.invariant.4),
-      subst (λ (es : List Entry). IsNoted o es c.take_memory.new.notes) same (subst (IsNoted o past) (sym c.in_err-take_memory.ensures.notes) c.self.invariant.5),
+      subst (λ (es : List Entry). IsServed o es c.take_memory.new.registers) same (subst (IsServed o past) (sym c.in-Err.ensures.registers) c.self.invariant.4),
+      subst (λ (es : List Entry). IsNoted o es c.take_memory.new.notes) same (subst (IsNoted o past) (sym c.in-Err.ensures.notes) c.self.invariant.5),
       subst (λ (es : List Entry). AreRuns o es c.self.inside.runs.items) same c.self.invariant.6,
       subst (λ (es : List Entry). IsQueued o es c.free_task-free.new.queue) same (c.free_task-free.ensures.kept past c.self.invariant.7),
     )
