@@ -37,7 +37,10 @@ pub(super) fn next_line(
     ensures free { needs_memory (next_line rest (unsent journal.now.entries child)) ≡ false → IsOk result }
 {
     match first_unsent(journal, child) {
-        Some(line) => Ok(Reply::Line(with_newline(alloc, line)?)),
+        Some(line) => {
+            drop(rest);
+            Ok(Reply::Line(with_newline(alloc, line)?))
+        }
         None => Ok(rest),
     }
 }

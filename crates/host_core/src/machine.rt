@@ -1,17 +1,26 @@
-ghost use Rattle.std.specs.Prelude.{◌≡◌, ◌<◌, ◌≤◌, ◌+◌, ◌*◌, ◌^◌, ◌++◌, [], length, true, false, All, IfOk, IsOk, IsTrue, OnOk, OnErr};
+ghost use Rattle.std.specs.Prelude.{◌≡◌, ◌<◌, ◌≤◌, ◌+◌, ◌*◌, ◌^◌, ◌++◌, [], length, true, false, All, List, IfOk, IsOk, IsTrue, OnOk, OnErr};
+ghost use Rattle.std.specs.List.{cons_option};
 ghost use Rattle.chunk_log.specs.NoteBooks.{in_order};
 ghost use Rattle.journal_model.specs.Beginnings.{MayBegin};
+ghost use Rattle.journal_model.specs.declared.entry.Entry.{Entry};
+ghost use Rattle.journal_model.specs.declared.opening.Opening.{Opening};
 ghost use Rattle.journal_model.specs.Journal.{is_tagged};
 ghost use Rattle.journal_model.specs.Legality.{Legal};
 ghost use Rattle.journal_model.specs.Limits.{most_again, most_tasks};
-ghost use Rattle.host_core.specs.Books.{notes_after};
+ghost use Rattle.journal_model.specs.Notes.{with_notes};
+ghost use Rattle.journal_model.specs.Replies.{set_by_all};
+ghost use Rattle.host_core.specs.Books.{IsSized, noted_in, notes_after};
 ghost use Rattle.host_core.specs.Mays.{IsMadeBy};
-ghost use Rattle.host_core.specs.Runs.{AreRuns};
+ghost use Rattle.host_core.specs.Moves.{group_bytes, group_made, group_room};
+ghost use Rattle.host_core.specs.Queued.{IsNextIn, IsTurnedIn};
+ghost use Rattle.host_core.specs.Runs.{AreRuns, IsCounted, runs_after};
 ghost use Rattle.host_core.specs.Steps.{step_of, takes_no_memory, is_free, unclaimed, told, shut_by};
-ghost use Rattle.host_core.specs.Settings.{registers_after};
-ghost use Rattle.task_queue.specs.Queues.{IsQueued};
+ghost use Rattle.host_core.specs.Settings.{IsLine, registers_after, set_in};
+ghost use Rattle.task_queue.specs.Queues.{HasRoom, IsOrdered, IsQueued};
 
+use crate::due::Due;
 use crate::event::{Event, Reply};
+use crate::moves::Move;
 use crate::runs::{self, Run};
 use crate::serving::Past;
 use crate::waits::{Turn, Waits};
@@ -19,7 +28,7 @@ use crate::{group, keeping, moves, queued};
 use ann_key::NoMemory;
 use chunk_log::NoteBook;
 use journal_look::{Journal, is_tagged, unclaimed};
-use journal_model::Opening;
+use journal_model::{Opening, What};
 use reg_file::Registers;
 use std::alloc::Global;
 use std::marker::Model;
@@ -76,10 +85,29 @@ impl Core {
         ensures empty { IfOk result (λ c. c.journal ≡ []) }
         ensures shut { IfOk result (λ c. c.shut ≡ false) }
     {
-        let begun = begin(alloc, &opening)?;
+        match begin(alloc, &opening) {
+            Ok(begun) => Ok(Core::of(alloc, opening, begun)),
+            Err(error) => {
+                drop(opening);
+                Err(error)
+            }
+        }
+    }
+
+    fn of(alloc: Global, opening: Opening, begun: Begun) -> Core
+        requires begins { MayBegin opening }
+        requires journal { (begun.journal.entries ≡ []) × (begun.journal.room ≡ 2 * ((1 + opening.again) * length opening.tasks)) }
+        requires registers { begun.registers ≡ opening.registers }
+        requires notes { begun.notes ≡ opening.notes }
+        requires runs { AreRuns opening [] begun.runs.items }
+        requires queue { IsQueued opening [] begun.queue }
+        ensures opening { result.opening ≡ opening }
+        ensures empty { result.journal ≡ [] }
+        ensures shut { result.shut ≡ false }
+    {
         let _kept = opening.registers.wanted();
         let _in_order = opening.notes.line(0);
-        Ok(Core {
+        Core {
             alloc,
             opening,
             journal: begun.journal,
@@ -89,7 +117,7 @@ impl Core {
             queue: begun.queue,
             shut: false,
             waits: Waits::none(),
-        })
+        }
     }
 
     /// One event, told by that number. What takes memory is taken in an order such that nothing has to be undone: the replies, then
@@ -121,19 +149,28 @@ impl Core {
             free,
         };
         let step = moves::move_of(self.alloc, past, by, event)?;
-        group::take_room(&mut self.journal, &step.what, &step.due)?;
-        keeping::keep_group(
+        match take_memory(
             self.alloc,
+            &mut self.journal,
             &mut self.registers,
             &mut self.notes,
             &self.opening,
-            &self.journal,
-            &step.what,
-            &step.due,
-        )?;
-        runs::note(&mut self.runs, &step.what);
-        queued::note(&mut self.queue, &step.what);
-        group::push_group(&mut self.journal, by, step.what, step.due);
+            &step,
+        ) {
+            Ok(()) => {}
+            Err(error) => {
+                drop(step);
+                return Err(error);
+            }
+        }
+        enter(
+            &mut self.journal,
+            &mut self.runs,
+            &mut self.queue,
+            by,
+            step.what,
+            step.due,
+        );
         let reply = moves::told(waits, over, step.reply);
         self.shut = shut;
         Ok(reply)
@@ -205,7 +242,17 @@ impl Core {
         ensures registers { result.1 ≡ self.registers }
         ensures notes { result.2 ≡ self.notes }
     {
-        (self.journal, self.registers, self.notes)
+        let Core {
+            opening,
+            journal,
+            registers,
+            notes,
+            queue,
+            ..
+        } = self;
+        drop(opening);
+        drop(queue);
+        (journal, registers, notes)
     }
 }
 
@@ -228,11 +275,31 @@ fn first_journal(alloc: Global, opening: &Opening) -> Result<Journal, NoMemory>
 {
     let mut journal = Journal::new(alloc);
     let runs = 1 + opening.again as usize;
-    journal.take_room(2 * (runs * opening.tasks.view().len()), 0)?;
-    Ok(journal)
+    match journal.take_room(2 * (runs * opening.tasks.view().len()), 0) {
+        Ok(()) => Ok(journal),
+        Err(error) => {
+            drop(journal);
+            Err(error)
+        }
+    }
 }
 
-// That journal, and copies of the opening's registers and notes.
+// Copies of the opening's registers and notes.
+fn first_books(opening: &Opening) -> Result<(Registers, NoteBook), NoMemory>
+    ensures registers { IfOk result (λ b. b.0 ≡ opening.now.registers) }
+    ensures notes { IfOk result (λ b. b.1 ≡ opening.now.notes) }
+{
+    let registers = opening.registers.copy()?;
+    match opening.notes.copy() {
+        Ok(notes) => Ok((registers, notes)),
+        Err(error) => {
+            drop(registers);
+            Err(error)
+        }
+    }
+}
+
+// That journal, and these copies.
 fn first_values(
     alloc: Global,
     opening: &Opening,
@@ -243,10 +310,15 @@ fn first_values(
     ensures registers { IfOk result (λ b. b.1 ≡ opening.now.registers) }
     ensures notes { IfOk result (λ b. b.2 ≡ opening.now.notes) }
 {
-    let registers = opening.registers.copy()?;
-    let notes = opening.notes.copy()?;
-    let journal = first_journal(alloc, opening)?;
-    Ok((journal, registers, notes))
+    let (registers, notes) = first_books(opening)?;
+    match first_journal(alloc, opening) {
+        Ok(journal) => Ok((journal, registers, notes)),
+        Err(error) => {
+            drop(registers);
+            drop(notes);
+            Err(error)
+        }
+    }
 }
 
 // What is kept of each task, and the queue of them.
@@ -270,12 +342,72 @@ fn begin(alloc: Global, opening: &Opening) -> Result<Begun, NoMemory>
     ensures queue { IfOk result (λ b. IsQueued opening.now [] b.queue) }
 {
     let (runs, queue) = first_tasks(alloc, opening)?;
-    let (journal, registers, notes) = first_values(alloc, opening)?;
-    Ok(Begun {
-        journal,
-        registers,
-        notes,
-        runs,
-        queue,
-    })
+    match first_values(alloc, opening) {
+        Ok((journal, registers, notes)) => Ok(Begun {
+            journal,
+            registers,
+            notes,
+            runs,
+            queue,
+        }),
+        Err(error) => {
+            drop(queue);
+            Err(error)
+        }
+    }
+}
+
+// Takes what memory the move takes: room for its group, and what it sets or notes. Where memory runs out nothing but room was taken.
+fn take_memory(
+    alloc: Global,
+    journal: &mut Journal,
+    registers: &mut Registers,
+    notes: &mut NoteBook,
+    opening: &Opening,
+    step: &Move,
+) -> Result<(), NoMemory>
+    requires small { journal.old.room < 2 ^ 64 }
+    requires begins { MayBegin opening.now }
+    requires line { IsLine step.now.what }
+    requires sized { IsSized step.now.what }
+    ensures entries { journal.new.entries ≡ journal.old.entries }
+    ensures small { journal.new.room < 2 ^ 64 }
+    ensures room { OnOk result (journal.new.room ≡ journal.old.room + group_room step.now.what step.now.due) }
+    ensures spare { OnOk result (group_bytes step.now.what step.now.due ≤ journal.new.spare) }
+    ensures set { OnOk result (registers.new ≡ set_by_all registers.old (cons_option (set_in journal.old.entries step.now.what step.now.due) [])) }
+    ensures noted { OnOk result (notes.new ≡ with_notes notes.old (cons_option (noted_in opening.now step.now.what) [])) }
+    ensures kept { OnErr result (journal.old.room ≤ journal.new.room) }
+    ensures registers { OnErr result (registers.new ≡ registers.old) }
+    ensures notes { OnErr result (notes.new ≡ notes.old) }
+    ensures free { group_room step.now.what step.now.due ≡ 0 → IsOk result }
+{
+    group::take_room(journal, &step.what, &step.due)?;
+    keeping::keep_group(
+        alloc, registers, notes, opening, journal, &step.what, &step.due,
+    )
+}
+
+// Notes the group's first entry where runs and tasks are kept, and appends the group. It takes no memory.
+fn enter(
+    journal: &mut Journal,
+    runs: &mut Vec<Run>,
+    queue: &mut Queue,
+    by: u32,
+    what: Option<What>,
+    due: Due,
+)
+    requires counted { IsCounted what runs.old.items }
+    requires ordered { IsOrdered queue.old }
+    requires held { HasRoom queue.old }
+    requires next { IsNextIn what queue.old }
+    requires room { length journal.old.entries + length (group_made journal.old.entries by what due) ≤ journal.old.room }
+    requires spare { group_bytes what due ≤ journal.old.spare }
+    ensures entries { journal.new.entries ≡ journal.old.entries ++ group_made journal.old.entries by what due }
+    ensures room { journal.new.room ≡ journal.old.room }
+    ensures runs { runs.new.items ≡ runs_after what runs.old.items }
+    ensures queue { (o : Opening) (past after : List Entry) → IsTurnedIn past what after → IsQueued o past queue.old → IsQueued o after queue.new }
+{
+    runs::note(runs, &what);
+    queued::note(queue, &what);
+    group::push_group(journal, by, what, due);
 }

@@ -1,13 +1,14 @@
 // What each event appends, and what is answered, found before anything is changed.
 ghost use Rattle.std.specs.Prelude.{◌≡◌, ◌≤◌, length, IfOk, true, false, Some, None, IsOk, ℕ, Bool, List, if◌then◌else◌};
+ghost use Rattle.annex_model.specs.Lines.{has_newline};
 ghost use Rattle.annex_model.specs.Messages.{host_line, is_askable};
 ghost use Rattle.journal_model.specs.Limits.{most_tasks};
-ghost use Rattle.journal_model.specs.Journal.{on_wire};
+ghost use Rattle.journal_model.specs.Journal.{is_ended, is_full, is_started, on_wire};
 ghost use Rattle.journal_model.specs.Legality.{Legal, least_free};
 ghost use Rattle.journal_model.specs.Due.{made_by};
 ghost use Rattle.talk_serial.specs.Requests.{message_of, name_of};
 ghost use Rattle.wire_msg.specs.Shown.{host_shown};
-ghost use Rattle.host_core.specs.Steps.{step_of, claim, asking, next_job, next_on_wire, gone, closing, told, unless_shut, shut_by, shut_for, listening, resting, next_line};
+ghost use Rattle.host_core.specs.Steps.{step_of, claim, asking, next_job, next_on_wire, gone, may_request, is_named_well, closing, told, unless_shut, shut_by, shut_for, listening, resting, next_line};
 ghost use Rattle.host_core.specs.Steps.{is_free, is_gone, is_awaited, is_idle, may_end, may_answer, may_add_note};
 ghost use Rattle.host_core.specs.Books.{IsNoted};
 ghost use Rattle.host_core.specs.Moves.{IsStep, group_made};
@@ -188,7 +189,6 @@ fn asked(
     ensures quiet { IfOk result (λ m. IsDueReply journal.now.entries m.what m.due) }
 {
     let job = next_job(journal, child);
-    let reply = Reply::Job(job);
     match request.name() {
         None => Ok(append(
             What::Ask {
@@ -197,13 +197,13 @@ fn asked(
                 task,
                 line,
             },
-            reply,
+            Reply::Job(job),
         )),
         Some(name) => {
             let said = HostMsg::Export(name.view().as_bytes());
             let lead = line_of(alloc, journal, child, job, &said)?;
             Ok(Move {
-                reply,
+                reply: Reply::Job(job),
                 what: Some(What::Lead {
                     child,
                     job,
@@ -218,6 +218,28 @@ fn asked(
             })
         }
     }
+}
+
+/// A request that may be asked, of a child that is there.
+fn ask_next(
+    alloc: Global,
+    opening: &Opening,
+    journal: &Journal,
+    by: u32,
+    child: u32,
+    task: u32,
+    request: &Request,
+) -> Result<Move, NoMemory>
+    requires may { may_request journal.now.entries by task child (message_of request.now) ≡ true }
+    requires well { is_named_well (name_of request.now) ≡ true }
+    requires here { is_gone journal.now.entries child ≡ false }
+    ensures step { IfOk result (IsStep journal.now.entries by (step_of opening.now journal.now.entries by (Event.Ask child task request.now))) }
+    ensures reply { IfOk result (λ m. IsDueReply journal.now.entries m.what m.due) }
+    ensures free { is_free (step_of opening.now journal.now.entries by (Event.Ask child task request.now)) ≡ true → IsOk result }
+{
+    let message = request.message();
+    let line = line_of(alloc, journal, child, next_job(journal, child), &message)?;
+    asked(alloc, journal, child, task, request, line)
 }
 
 fn ask(
@@ -241,9 +263,7 @@ fn ask(
     if is_gone(journal, child) {
         return Ok(append(What::Lost { child, task }, gone(journal, child)));
     }
-    let message = request.message();
-    let line = line_of(alloc, journal, child, next_job(journal, child), &message)?;
-    asked(alloc, journal, child, task, request, line)
+    ask_next(alloc, opening, journal, by, child, task, request)
 }
 
 /// The same of a request that is its own.
@@ -260,7 +280,9 @@ fn ask_own(
     ensures reply { IfOk result (λ m. IsDueReply journal.now.entries m.what m.due) }
     ensures free { is_free (step_of opening.now journal.now.entries by (Event.Ask child task request)) ≡ true → IsOk result }
 {
-    ask(alloc, opening, journal, by, child, task, &request)
+    let step = ask(alloc, opening, journal, by, child, task, &request);
+    drop(request);
+    step
 }
 
 fn lookup(opening: &Opening, journal: &Journal, by: u32, child: u32, job: u64) -> Move
@@ -383,6 +405,58 @@ fn end_full(child: u32) -> Move
     }
 }
 
+/// A line that a journal with room takes.
+fn take_line(
+    alloc: Global,
+    past: Past<'_>,
+    by: u32,
+    child: u32,
+    line: Bytes,
+) -> Result<Move, NoMemory>
+    requires legal { Legal past.opening.now past.journal.now.entries }
+    requires served { IsServed past.opening.now past.journal.now.entries past.registers.now }
+    requires started { is_started past.journal.now.entries child ≡ true }
+    requires fits { has_newline line ≡ false }
+    requires live { is_ended past.journal.now.entries child ≡ false }
+    requires roomy { is_full past.journal.now.entries ≡ false }
+    ensures step { IfOk result (IsStep past.entry.journal.now.entries by (step_of past.entry.opening.now past.entry.journal.now.entries by (Event.Got child line))) }
+    ensures reply { IfOk result (λ m. IsDueReply past.entry.journal.now.entries m.what m.due) }
+    ensures free { is_free (step_of past.entry.opening.now past.entry.journal.now.entries by (Event.Got child line)) ≡ true → IsOk result }
+{
+    let due = due_by_got(alloc, past, child, line.view())?;
+    Ok(Move {
+        reply: Reply::Done,
+        what: Some(What::Got { child, line }),
+        due,
+    })
+}
+
+/// A line of a child that was started.
+fn got_line(
+    alloc: Global,
+    past: Past<'_>,
+    by: u32,
+    child: u32,
+    line: Bytes,
+) -> Result<Move, NoMemory>
+    requires legal { Legal past.opening.now past.journal.now.entries }
+    requires served { IsServed past.opening.now past.journal.now.entries past.registers.now }
+    requires started { is_started past.journal.now.entries child ≡ true }
+    requires fits { has_newline line ≡ false }
+    ensures step { IfOk result (IsStep past.entry.journal.now.entries by (step_of past.entry.opening.now past.entry.journal.now.entries by (Event.Got child line))) }
+    ensures reply { IfOk result (λ m. IsDueReply past.entry.journal.now.entries m.what m.due) }
+    ensures free { is_free (step_of past.entry.opening.now past.entry.journal.now.entries by (Event.Got child line)) ≡ true → IsOk result }
+{
+    let journal = past.journal;
+    if is_ended(journal, child) {
+        return Ok(only(gone(journal, child)));
+    }
+    if is_full(journal) {
+        return Ok(end_full(child));
+    }
+    take_line(alloc, past, by, child, line)
+}
+
 fn got(alloc: Global, past: Past<'_>, by: u32, child: u32, line: Bytes) -> Result<Move, NoMemory>
     requires legal { Legal past.opening.now past.journal.now.entries }
     requires served { IsServed past.opening.now past.journal.now.entries past.registers.now }
@@ -390,22 +464,10 @@ fn got(alloc: Global, past: Past<'_>, by: u32, child: u32, line: Bytes) -> Resul
     ensures reply { IfOk result (λ m. IsDueReply past.entry.journal.now.entries m.what m.due) }
     ensures free { is_free (step_of past.entry.opening.now past.entry.journal.now.entries by (Event.Got child line)) ≡ true → IsOk result }
 {
-    let journal = past.journal;
-    if !is_started(journal, child) || has_byte(line.view(), b'\n') {
+    if !is_started(past.journal, child) || has_byte(line.view(), b'\n') {
         return Ok(only(Reply::Odd));
     }
-    if is_ended(journal, child) {
-        return Ok(only(gone(journal, child)));
-    }
-    if is_full(journal) {
-        return Ok(end_full(child));
-    }
-    let due = due_by_got(alloc, past, child, line.view())?;
-    Ok(Move {
-        reply: Reply::Done,
-        what: Some(What::Got { child, line }),
-        due,
-    })
+    got_line(alloc, past, by, child, line)
 }
 
 /// Whether an event may end the child so. Nothing but a line ends one at a full journal.
@@ -608,27 +670,26 @@ pub(super) fn move_of(
     let opening = past.opening;
     let journal = past.journal;
     let runs = past.runs;
-    let step = match event {
-        Event::Claim { child } => claim(opening, journal, runs, by, child, past.free),
-        Event::Start { slot, offer } => start(opening, journal, by, slot, offer),
-        Event::NoStart { slot } => no_start(opening, journal, by, slot),
+    match event {
+        Event::Claim { child } => Ok(claim(opening, journal, runs, by, child, past.free)),
+        Event::Start { slot, offer } => Ok(start(opening, journal, by, slot, offer)),
+        Event::NoStart { slot } => Ok(no_start(opening, journal, by, slot)),
         Event::Ask {
             child,
             task,
             request,
-        } => ask_own(alloc, opening, journal, by, child, task, request)?,
-        Event::Lookup { child, job } => lookup(opening, journal, by, child, job),
-        Event::Look { child } => look(opening, journal, by, child),
-        Event::Listen { child } => listen(opening, journal, by, child),
-        Event::Fetch { child } => fetch(alloc, opening, journal, by, child)?,
-        Event::Got { child, line } => got(alloc, past, by, child, line)?,
-        Event::Stop { child, why } => stop(opening, journal, by, child, why),
-        Event::Sent { child } => sent(opening, journal, by, child),
-        Event::Mute { child } => mute(opening, journal, by, child),
-        Event::Answer { task, answer } => answer_task(opening, journal, runs, by, task, answer),
-        Event::Note { task, chunk, count } => note(opening, journal, by, task, chunk, count),
-        Event::Layouts { task } => layouts(past, by, task)?,
-        Event::Shut { on } => shut(opening, journal, by, on),
-    };
-    Ok(step)
+        } => ask_own(alloc, opening, journal, by, child, task, request),
+        Event::Lookup { child, job } => Ok(lookup(opening, journal, by, child, job)),
+        Event::Look { child } => Ok(look(opening, journal, by, child)),
+        Event::Listen { child } => Ok(listen(opening, journal, by, child)),
+        Event::Fetch { child } => fetch(alloc, opening, journal, by, child),
+        Event::Got { child, line } => got(alloc, past, by, child, line),
+        Event::Stop { child, why } => Ok(stop(opening, journal, by, child, why)),
+        Event::Sent { child } => Ok(sent(opening, journal, by, child)),
+        Event::Mute { child } => Ok(mute(opening, journal, by, child)),
+        Event::Answer { task, answer } => Ok(answer_task(opening, journal, runs, by, task, answer)),
+        Event::Note { task, chunk, count } => Ok(note(opening, journal, by, task, chunk, count)),
+        Event::Layouts { task } => layouts(past, by, task),
+        Event::Shut { on } => Ok(shut(opening, journal, by, on)),
+    }
 }

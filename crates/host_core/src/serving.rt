@@ -1,5 +1,5 @@
 // What a remote is answered that asks its host for something, and what it sets.
-ghost use Rattle.std.specs.Prelude.{◌≡◌, [], map, not, true, IfOk, OnOk, OnErr, IsOk, IsTrue};
+ghost use Rattle.std.specs.Prelude.{◌≡◌, ◌++◌, ◌∷◌, [], map, not, true, IfOk, OnOk, OnErr, IsOk, IsTrue};
 ghost use Rattle.std.specs.List.{cons_option};
 ghost use Rattle.annex_model.specs.Lines.{has_newline};
 ghost use Rattle.annex_model.specs.Messages.{remote_reading};
@@ -33,6 +33,22 @@ pub struct Past<'a> {
     pub free: Option<u32>,
 }
 
+/// One more line as it stands on the wire in that job.
+fn push_wired(
+    alloc: Global,
+    journal: &Journal,
+    child: u32,
+    job: u64,
+    line: &[u8],
+    wired: &mut Vec<Bytes>,
+) -> Result<(), NoMemory>
+    ensures { OnOk result (wired.new.items ≡ wired.old.items ++ on_wire journal.now.entries child job line.now ∷ []) }
+{
+    let line = Bytes::copy(alloc, line)?;
+    wired.push(on_wire(alloc, journal, child, job, line)?)?;
+    Ok(())
+}
+
 /// The lines as they stand on the wire in that job.
 fn wired(
     alloc: Global,
@@ -45,8 +61,7 @@ fn wired(
 {
     let mut wired = Vec::new(alloc);
     for line in lines {
-        let line = Bytes::copy(alloc, line.view())?;
-        wired.push(on_wire(alloc, journal, child, job, line)?)?;
+        push_wired(alloc, journal, child, job, line.view(), &mut wired)?;
     }
     Ok(wired)
 }

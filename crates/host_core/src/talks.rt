@@ -1,12 +1,12 @@
 // What a message is to an open job: the talk about its request, brought to where the job stands.
-ghost use Rattle.std.specs.Prelude.{ℕ, ◌≡◌, ◌≤◌, ◌∷◌, [], Some, IfOk, IfSome, MatchOption, true, false};
-ghost use Rattle.annex_model.specs.Messages.{remote_reading};
+ghost use Rattle.std.specs.Prelude.{ℕ, ◌≡◌, ◌≤◌, ◌∷◌, [], List, Option, Some, IfOk, IfSome, MatchOption, true, false};
+ghost use Rattle.annex_model.specs.Messages.{RemoteMessage, remote_reading};
 ghost use Rattle.annex_model.specs.Talks.{said, awaits, shape_of, spells_aside};
 ghost use Rattle.annex_model.specs.Hearings.{request_in, hearing};
 ghost use Rattle.wire_msg.specs.Shown.{remote_shown, host_shown};
 ghost use Rattle.talk_serial.specs.Requests.{message_of, is_request};
 ghost use Rattle.talk_serial.specs.Talked.{is_over};
-ghost use Rattle.talk_serial.specs.Hearings.{heard_as, Follows};
+ghost use Rattle.talk_serial.specs.Hearings.{heard, heard_as, Follows};
 ghost use Rattle.journal_model.specs.Journal.{is_open};
 ghost use Rattle.journal_model.specs.Parts.{part};
 ghost use Rattle.journal_model.specs.Legality.{Legal};
@@ -131,6 +131,17 @@ fn talk_of(
     }
 }
 
+/// What the message is to the talk.
+fn heard(talk: Talk, message: &RemoteMsg<'_>) -> Heard
+    requires { is_over talk ≡ false }
+    ensures { (ms : List (Option RemoteMessage)) → Follows talk ms → result ≡ heard (message_of talk.request) ms (remote_shown message.now) }
+{
+    let mut talk = talk;
+    let heard = talk.hear(message);
+    drop(talk);
+    heard
+}
+
 /// What the message is to the open job.
 pub(super) fn hear(
     alloc: Global,
@@ -147,7 +158,6 @@ pub(super) fn hear(
     if is_aside(message) {
         return Ok(Heard::Aside);
     }
-    let mut talk = talk_of(alloc, opening, journal, child, job)?;
-    let heard = talk.hear(message);
-    Ok(heard)
+    let talk = talk_of(alloc, opening, journal, child, job)?;
+    Ok(heard(talk, message))
 }

@@ -14,5 +14,5 @@ returns-then-is_aside c =
 pub returns : goal.returns
 returns c =
     let p = part c.args.journal.now.entries c.args.child c.args.job in
-    c.hear-heard.ensures.answer (said p) c.in_ok-talk.ensures.follows c.in_ok-talk.ensures.open
+    c.heard.ensures (said p) c.in_ok-talk.ensures.follows
     ∙ heard_in p (remote_shown c.args.message.now) (message_of c.in_ok-talk.talk.request) c.in_ok-talk.ensures.request

@@ -21,7 +21,7 @@ use Rattle.host_core.specs.Runs.{AreRuns}
 use Rattle.host_core.specs.Settings.{set_in, IsServed}
 use Rattle.host_core.proofs.Sharing.{step_made}
 use Rattle.host_core.proofs.Stepping.{Legal-step}
-use Rattle.host_core.proofs.Pushing.{group_fits, few_entries, free_room, free_first}
+use Rattle.host_core.proofs.Pushing.{group_fits, few_entries, free_room}
 use Rattle.host_core.proofs.Sparing.{event_free}
 use Rattle.host_core.proofs.Noting.{note_fits, notes_grow}
 use Rattle.host_core.proofs.Queueing.{queue_fits, queue_turns}
@@ -29,8 +29,8 @@ use Rattle.host_core.proofs.Running.{runs_fit, runs_grow}
 use Rattle.host_core.proofs.Setting.{settings_group, line_fits, registers_grow}
 use Rattle.host_core.proofs.machine.Core.step.Goals as goal
 
-pub keep_group-requires-clause-line : goal.keep_group-requires-clause-line
-keep_group-requires-clause-line c =
+pub take_memory-requires-clause-line : goal.take_memory-requires-clause-line
+take_memory-requires-clause-line c =
     let o : Opening = c.self.inside.opening in
     let past : List Entry = c.self.inside.journal.entries in
     let what : Option What = c.in_ok-step.step.what in
@@ -39,18 +39,15 @@ keep_group-requires-clause-line c =
     let e : group_made past c.args.by what due ≡ (step_of o past c.args.by c.args.event).group = c.in_ok-step.ensures.step.group_is in
     line_fits o past c.args.by c.args.event what due few e
 
-pub keep_group-requires-clause-sized : goal.keep_group-requires-clause-sized
-keep_group-requires-clause-sized c =
+pub take_memory-requires-clause-sized : goal.take_memory-requires-clause-sized
+take_memory-requires-clause-sized c =
     let o : Opening = c.self.inside.opening in
     let past : List Entry = c.self.inside.journal.entries in
     let few = few_entries o past c.self.inside.journal.room c.self.invariant.0 c.self.invariant.2 c.self.invariant.3 in
     note_fits o past c.args.by c.args.event c.in_ok-step.step.what c.in_ok-step.step.due few c.in_ok-step.ensures.step.group_is
 
-pub keep_group-requires-clause-begins : goal.keep_group-requires-clause-begins
-keep_group-requires-clause-begins c = c.self.invariant.1
-
-pub note-requires : goal.note-requires
-note-requires c =
+pub enter-requires-clause-counted : goal.enter-requires-clause-counted
+enter-requires-clause-counted c =
     let o : Opening = c.self.inside.opening in
     let past : List Entry = c.self.inside.journal.entries in
     let few = few_entries o past c.self.inside.journal.room c.self.invariant.0 c.self.invariant.2 c.self.invariant.3 in
@@ -59,18 +56,18 @@ note-requires c =
 pub move_of-requires-clause-free : goal.move_of-requires-clause-free
 move_of-requires-clause-free c = λ child claims. c.free_task-free.ensures.free c.self.inside.journal.entries child c.self.invariant.7 claims
 
-pub note-requires-2-clause-ordered : goal.note-requires-2-clause-ordered
-note-requires-2-clause-ordered c = (c.free_task-free.ensures.kept c.self.inside.journal.entries c.self.invariant.7).ordered
+pub enter-requires-clause-ordered : goal.enter-requires-clause-ordered
+enter-requires-clause-ordered c = (c.free_task-free.ensures.kept c.self.inside.journal.entries c.self.invariant.7).ordered
 
-pub note-requires-2-clause-next : goal.note-requires-2-clause-next
-note-requires-2-clause-next c =
+pub enter-requires-clause-next : goal.enter-requires-clause-next
+enter-requires-clause-next c =
     let o : Opening = c.self.inside.opening in
     let past : List Entry = c.self.inside.journal.entries in
     let few = few_entries o past c.self.inside.journal.room c.self.invariant.0 c.self.invariant.2 c.self.invariant.3 in
     queue_fits o past c.args.by c.args.event c.in_ok-step.step.what c.in_ok-step.step.due c.free_task-free.new.queue few (c.free_task-free.ensures.kept past c.self.invariant.7) c.in_ok-step.ensures.step.group_is
 
-pub push_group-requires-clause-room : goal.push_group-requires-clause-room
-push_group-requires-clause-room c =
+pub enter-requires-clause-room : goal.enter-requires-clause-room
+enter-requires-clause-room c =
     let o : Opening = c.self.inside.opening in
     let past : List Entry = c.self.inside.journal.entries in
     let what : Option What = c.in_ok-step.step.what in
@@ -78,10 +75,10 @@ push_group-requires-clause-room c =
     let few = few_entries o past c.self.inside.journal.room c.self.invariant.0 c.self.invariant.2 c.self.invariant.3 in
     let e : group_made past c.args.by what due ≡ (step_of o past c.args.by c.args.event).group = c.in_ok-step.ensures.step.group_is in
     let room : ℕ = c.self.inside.journal.room in
-    let kept : c.take_room.new.journal.room ≡ room + group_room what due = c.in_ok-take_room.ensures.room in
+    let kept : c.take_memory.new.journal.room ≡ room + group_room what due = c.in-Ok.ensures.room in
     let both = group_fits o past c.args.by c.args.event what due room few c.self.invariant.0 e c.self.invariant.2 in
-    let P : List Entry → Type 0 = λ es. length es + length (group_made es c.args.by what due) ≤ c.take_room.new.journal.room in
-    subst P (sym c.take_room.ensures.entries) (omega (arith, both.0, kept))
+    let P : List Entry → Type 0 = λ es. length es + length (group_made es c.args.by what due) ≤ c.take_memory.new.journal.room in
+    subst P (sym c.take_memory.ensures.entries) (omega (arith, both.0, kept))
 
 pub returns-clause-legal : goal.returns-clause-legal
 returns-clause-legal c =
@@ -91,8 +88,8 @@ returns-clause-legal c =
     let due : Due = c.in_ok-step.step.due in
     let few = few_entries o past c.self.inside.journal.room c.self.invariant.0 c.self.invariant.2 c.self.invariant.3 in
     let e : group_made past c.args.by what due ≡ (step_of o past c.args.by c.args.event).group = c.in_ok-step.ensures.step.group_is in
-    let grown : c.push_group.new.journal.entries ≡ past ++ group_made past c.args.by what due =
-    c.push_group.ensures.entries ∙ ap (λ (es : List Entry). es ++ group_made es c.args.by what due) c.take_room.ensures.entries in
+    let grown : c.enter.new.journal.entries ≡ past ++ group_made past c.args.by what due =
+    c.enter.ensures.entries ∙ ap (λ (es : List Entry). es ++ group_made es c.args.by what due) c.take_memory.ensures.entries in
     subst (Legal o) (sym (grown ∙ ap (λ (g : List Entry). past ++ g) e)) (Legal-step o past c.args.by c.args.event few c.self.invariant.0)
 
 pub returns-clause-registers : goal.returns-clause-registers
@@ -103,12 +100,12 @@ returns-clause-registers c =
     let due : Due = c.in_ok-step.step.due in
     let few = few_entries o past c.self.inside.journal.room c.self.invariant.0 c.self.invariant.2 c.self.invariant.3 in
     let e : group_made past c.args.by what due ≡ (step_of o past c.args.by c.args.event).group = c.in_ok-step.ensures.step.group_is in
-    let grown : c.push_group.new.journal.entries ≡ past ++ group_made past c.args.by what due =
-    c.push_group.ensures.entries ∙ ap (λ (es : List Entry). es ++ group_made es c.args.by what due) c.take_room.ensures.entries in
+    let grown : c.enter.new.journal.entries ≡ past ++ group_made past c.args.by what due =
+    c.enter.ensures.entries ∙ ap (λ (es : List Entry). es ++ group_made es c.args.by what due) c.take_memory.ensures.entries in
     let x : Option RemoteMessage = set_in past what due in
-    let sets : c.keep_group.new.registers ≡ set_by_all c.self.inside.registers (cons_option x []) =
-    c.in_ok-keep_group.ensures.set ∙ ap (λ (es : List Entry). set_by_all c.self.inside.registers (cons_option (set_in es what due) [])) c.take_room.ensures.entries in
-    registers_grow o past c.push_group.new.journal.entries c.self.inside.registers c.keep_group.new.registers x c.self.invariant.4.given sets
+    let sets : c.take_memory.new.registers ≡ set_by_all c.self.inside.registers (cons_option x []) =
+    c.in-Ok.ensures.set in
+    registers_grow o past c.enter.new.journal.entries c.self.inside.registers c.take_memory.new.registers x c.self.invariant.4.given sets
     (ap settings grown ∙ settings_group o past c.args.by c.args.event what due few c.self.invariant.0 c.in_ok-step.ensures.reply e)
 
 pub returns-clause-notes : goal.returns-clause-notes
@@ -117,9 +114,9 @@ returns-clause-notes c =
     let past : List Entry = c.self.inside.journal.entries in
     let what : Option What = c.in_ok-step.step.what in
     let due : Due = c.in_ok-step.step.due in
-    let grown : c.push_group.new.journal.entries ≡ past ++ group_made past c.args.by what due =
-    c.push_group.ensures.entries ∙ ap (λ (es : List Entry). es ++ group_made es c.args.by what due) c.take_room.ensures.entries in
-    notes_grow o past c.push_group.new.journal.entries c.self.inside.notes c.keep_group.new.notes c.args.by what due c.self.invariant.5.given c.in_ok-keep_group.ensures.noted grown
+    let grown : c.enter.new.journal.entries ≡ past ++ group_made past c.args.by what due =
+    c.enter.ensures.entries ∙ ap (λ (es : List Entry). es ++ group_made es c.args.by what due) c.take_memory.ensures.entries in
+    notes_grow o past c.enter.new.journal.entries c.self.inside.notes c.take_memory.new.notes c.args.by what due c.self.invariant.5.given c.in-Ok.ensures.noted grown
 
 pub invariant_of-self-2 : goal.invariant_of-self-2
 invariant_of-self-2 c =
@@ -130,21 +127,21 @@ invariant_of-self-2 c =
     let few = few_entries o past c.self.inside.journal.room c.self.invariant.0 c.self.invariant.2 c.self.invariant.3 in
     let e : group_made past c.args.by what due ≡ (step_of o past c.args.by c.args.event).group = c.in_ok-step.ensures.step.group_is in
     let room : ℕ = c.self.inside.journal.room in
-    let kept : c.take_room.new.journal.room ≡ room + group_room what due = c.in_ok-take_room.ensures.room in
+    let kept : c.take_memory.new.journal.room ≡ room + group_room what due = c.in-Ok.ensures.room in
     let both = group_fits o past c.args.by c.args.event what due room few c.self.invariant.0 e c.self.invariant.2 in
-    let grown : c.push_group.new.journal.entries ≡ past ++ group_made past c.args.by what due =
-    c.push_group.ensures.entries ∙ ap (λ (es : List Entry). es ++ group_made es c.args.by what due) c.take_room.ensures.entries in
-    let roomy : room_of o c.push_group.new.journal.entries ≡ room_of o (past ++ group_made past c.args.by what due) = ap (room_of o) grown in (
+    let grown : c.enter.new.journal.entries ≡ past ++ group_made past c.args.by what due =
+    c.enter.ensures.entries ∙ ap (λ (es : List Entry). es ++ group_made es c.args.by what due) c.take_memory.ensures.entries in
+    let roomy : room_of o c.enter.new.journal.entries ≡ room_of o (past ++ group_made past c.args.by what due) = ap (room_of o) grown in (
       returns-clause-legal c,
       c.self.invariant.1,
-      omega (arith, roomy, both.1, kept, c.push_group.ensures.room),
-      omega (arith, c.take_room.ensures.small, c.push_group.ensures.room),
+      omega (arith, roomy, both.1, kept, c.enter.ensures.room),
+      omega (arith, c.take_memory.ensures.small, c.enter.ensures.room),
       record { given = returns-clause-registers c; kept = c.self.invariant.4.kept; identity = c.self.invariant.4.identity },
       record { given = returns-clause-notes c; order = c.self.invariant.5.order },
-      subst (λ (es : List Entry). AreRuns o es c.note.new.runs.items) (sym grown)
-          (subst (AreRuns o (past ++ group_made past c.args.by what due)) (sym c.note.ensures)
+      subst (λ (es : List Entry). AreRuns o es c.enter.new.runs.items) (sym grown)
+          (subst (AreRuns o (past ++ group_made past c.args.by what due)) (sym c.enter.ensures.runs)
           (runs_grow o past c.args.by c.args.event what due c.self.inside.runs.items few c.self.invariant.1.again c.self.invariant.6 e)),
-      c.note-2.ensures o past c.push_group.new.journal.entries (subst (IsTurnedIn past what) (sym grown) (queue_turns o past c.args.by c.args.event what due c.free_task-free.new.queue few (c.free_task-free.ensures.kept past c.self.invariant.7) e))
+      c.enter.ensures.queue o past c.enter.new.journal.entries (subst (IsTurnedIn past what) (sym grown) (queue_turns o past c.args.by c.args.event what due c.free_task-free.new.queue few (c.free_task-free.ensures.kept past c.self.invariant.7) e))
           (c.free_task-free.ensures.kept past c.self.invariant.7),
     )
 
@@ -165,15 +162,15 @@ returns-clause-made c =
 
 pub returns-clause-few : goal.returns-clause-few
 returns-clause-few c =
-    few_entries c.self.inside.opening c.push_group.new.journal.entries c.push_group.new.journal.room (returns-clause-legal c) (invariant_of-self-2 c).2 (invariant_of-self-2 c).3
+    few_entries c.self.inside.opening c.enter.new.journal.entries c.enter.new.journal.room (returns-clause-legal c) (invariant_of-self-2 c).2 (invariant_of-self-2 c).3
 
 pub returns-in_err-step-clause-few : goal.returns-in_err-step-clause-few
 returns-in_err-step-clause-few c =
     few_entries c.self.inside.opening c.self.inside.journal.entries c.self.inside.journal.room c.self.invariant.0 c.self.invariant.2 c.self.invariant.3
 
-pub returns-in_err-take_room-clause-few : goal.returns-in_err-take_room-clause-few
-returns-in_err-take_room-clause-few c =
-    subst (λ (es : List Entry). length es < 2 ^ 64) (sym c.take_room.ensures.entries)
+pub returns-in-Err-clause-few : goal.returns-in-Err-clause-few
+returns-in-Err-clause-few c =
+    subst (λ (es : List Entry). length es < 2 ^ 64) (sym c.take_memory.ensures.entries)
     (few_entries c.self.inside.opening c.self.inside.journal.entries c.self.inside.journal.room c.self.invariant.0 c.self.invariant.2 c.self.invariant.3)
 
 pub returns-in_err-step-clause-free_event : goal.returns-in_err-step-clause-free_event
@@ -182,58 +179,29 @@ returns-in_err-step-clause-free_event c = λ free. (
     (cc)
     )
 
-pub returns-in_err-take_room-clause-free : goal.returns-in_err-take_room-clause-free
-returns-in_err-take_room-clause-free c = λ free. (
+pub returns-in-Err-clause-free : goal.returns-in-Err-clause-free
+returns-in-Err-clause-free c = λ free. (
     let o : Opening = c.self.inside.opening in
     let past : List Entry = c.self.inside.journal.entries in
     let what : Option What = c.in_ok-step.step.what in
     let due : Due = c.in_ok-step.step.due in
     let e : group_made past c.args.by what due ≡ (step_of o past c.args.by c.args.event).group = c.in_ok-step.ensures.step.group_is in
     let f : is_free (step_of o past c.args.by c.args.event) ≡ true = subst (λ (v : CoreValue). is_free (step_of v.opening v.journal c.args.by c.args.event) ≡ true) (sym c.self.view_is) free in
-    let no : false ≡ true = c.in_err-take_room.ensures.free (free_room o past c.args.by c.args.event what due f e) in
+    let no : false ≡ true = c.in-Err.ensures.free (free_room o past c.args.by c.args.event what due f e) in
     (cc)
     )
 
-pub returns-in_err-take_room-clause-free_event : goal.returns-in_err-take_room-clause-free_event
-returns-in_err-take_room-clause-free_event c = λ free. (
+pub returns-in-Err-clause-free_event : goal.returns-in-Err-clause-free_event
+returns-in-Err-clause-free_event c = λ free. (
     let o : Opening = c.self.inside.opening in
     let past : List Entry = c.self.inside.journal.entries in
     let what : Option What = c.in_ok-step.step.what in
     let due : Due = c.in_ok-step.step.due in
     let e : group_made past c.args.by what due ≡ (step_of o past c.args.by c.args.event).group = c.in_ok-step.ensures.step.group_is in
     let f : is_free (step_of o past c.args.by c.args.event) ≡ true = event_free o past c.args.by c.args.event free in
-    let no : false ≡ true = c.in_err-take_room.ensures.free (free_room o past c.args.by c.args.event what due f e) in
+    let no : false ≡ true = c.in-Err.ensures.free (free_room o past c.args.by c.args.event what due f e) in
     (cc)
     )
-
-pub returns-in_err-keep_group-clause-free : goal.returns-in_err-keep_group-clause-free
-returns-in_err-keep_group-clause-free c = λ free. (
-    let o : Opening = c.self.inside.opening in
-    let past : List Entry = c.self.inside.journal.entries in
-    let what : Option What = c.in_ok-step.step.what in
-    let due : Due = c.in_ok-step.step.due in
-    let e : group_made past c.args.by what due ≡ (step_of o past c.args.by c.args.event).group = c.in_ok-step.ensures.step.group_is in
-    let f : is_free (step_of o past c.args.by c.args.event) ≡ true = subst (λ (v : CoreValue). is_free (step_of v.opening v.journal c.args.by c.args.event) ≡ true) (sym c.self.view_is) free in
-    let no : false ≡ true = c.in_err-keep_group.ensures.free (free_first what due (free_room o past c.args.by c.args.event what due f e)) in
-    (cc)
-    )
-
-pub returns-in_err-keep_group-clause-free_event : goal.returns-in_err-keep_group-clause-free_event
-returns-in_err-keep_group-clause-free_event c = λ free. (
-    let o : Opening = c.self.inside.opening in
-    let past : List Entry = c.self.inside.journal.entries in
-    let what : Option What = c.in_ok-step.step.what in
-    let due : Due = c.in_ok-step.step.due in
-    let e : group_made past c.args.by what due ≡ (step_of o past c.args.by c.args.event).group = c.in_ok-step.ensures.step.group_is in
-    let f : is_free (step_of o past c.args.by c.args.event) ≡ true = event_free o past c.args.by c.args.event free in
-    let no : false ≡ true = c.in_err-keep_group.ensures.free (free_first what due (free_room o past c.args.by c.args.event what due f e)) in
-    (cc)
-    )
-
-pub returns-in_err-keep_group-clause-few : goal.returns-in_err-keep_group-clause-few
-returns-in_err-keep_group-clause-few c =
-    subst (λ (es : List Entry). length es < 2 ^ 64) (sym c.take_room.ensures.entries)
-    (few_entries c.self.inside.opening c.self.inside.journal.entries c.self.inside.journal.room c.self.invariant.0 c.self.invariant.2 c.self.invariant.3)
 
 pub returns-in_err-step-clause-notes : goal.returns-in_err-step-clause-notes
 returns-in_err-step-clause-notes c = c.self.invariant.5.given
@@ -252,34 +220,18 @@ invariant_of-self c = (
   c.free_task-free.ensures.kept c.self.inside.journal.entries c.self.invariant.7,
 )
 
-pub invariant_of-self-in_err-take_room : goal.invariant_of-self-in_err-take_room
-invariant_of-self-in_err-take_room c =
+pub invariant_of-self-in-Err : goal.invariant_of-self-in-Err
+invariant_of-self-in-Err c =
     let o : Opening = c.self.inside.opening in
     let past : List Entry = c.self.inside.journal.entries in
-    let same = sym c.take_room.ensures.entries in
-    let rooms : room_of o c.take_room.new.journal.entries ≡ room_of o past = ap (room_of o) c.take_room.ensures.entries in (
+    let same = sym c.take_memory.ensures.entries in
+    let rooms : room_of o c.take_memory.new.journal.entries ≡ room_of o past = ap (room_of o) c.take_memory.ensures.entries in (
       subst (Legal o) same c.self.invariant.0,
       c.self.invariant.1,
-      omega (arith, rooms, c.self.invariant.2, c.in_err-take_room.ensures.err),
-      c.take_room.ensures.small,
-      subst (λ (es : List Entry). IsServed o es c.self.inside.registers) same c.self.invariant.4,
-      subst (λ (es : List Entry). IsNoted o es c.self.inside.notes) same c.self.invariant.5,
-      subst (λ (es : List Entry). AreRuns o es c.self.inside.runs.items) same c.self.invariant.6,
-      subst (λ (es : List Entry). IsQueued o es c.free_task-free.new.queue) same (c.free_task-free.ensures.kept past c.self.invariant.7),
-    )
-
-pub invariant_of-self-in_err-keep_group : goal.invariant_of-self-in_err-keep_group
-invariant_of-self-in_err-keep_group c =
-    let o : Opening = c.self.inside.opening in
-    let past : List Entry = c.self.inside.journal.entries in
-    let same = sym c.take_room.ensures.entries in
-    let rooms : room_of o c.take_room.new.journal.entries ≡ room_of o past = ap (room_of o) c.take_room.ensures.entries in (
-      subst (Legal o) same c.self.invariant.0,
-      c.self.invariant.1,
-      omega (arith, rooms, c.self.invariant.2, c.in_ok-take_room.ensures.room),
-      c.take_room.ensures.small,
-      subst (λ (es : List Entry). IsServed o es c.keep_group.new.registers) same (subst (IsServed o past) (sym c.in_err-keep_group.ensures.registers) c.self.invariant.4),
-      subst (λ (es : List Entry). IsNoted o es c.keep_group.new.notes) same (subst (IsNoted o past) (sym c.in_err-keep_group.ensures.notes) c.self.invariant.5),
+      omega (arith, rooms, c.self.invariant.2, c.in-Err.ensures.kept),
+      c.take_memory.ensures.small,
+      subst (λ (es : List Entry). IsServed o es c.take_memory.new.registers) same (subst (IsServed o past) (sym c.in-Err.ensures.registers) c.self.invariant.4),
+      subst (λ (es : List Entry). IsNoted o es c.take_memory.new.notes) same (subst (IsNoted o past) (sym c.in-Err.ensures.notes) c.self.invariant.5),
       subst (λ (es : List Entry). AreRuns o es c.self.inside.runs.items) same c.self.invariant.6,
       subst (λ (es : List Entry). IsQueued o es c.free_task-free.new.queue) same (c.free_task-free.ensures.kept past c.self.invariant.7),
     )

@@ -1,11 +1,11 @@
-use Rattle.std.proofs.Common.{◌≡◌, ◌∙◌, sym, ap, true}
+use Rattle.std.proofs.Common.{◌≡◌, ◌∙◌, ap, true}
 use Rattle.std.specs.Prelude.{◌&&◌}
 use Rattle.annex_model.specs.Messages.{HostMessage, is_askable}
 use Rattle.journal_model.specs.Journal.{is_started}
 use Rattle.journal_model.specs.Legality.{may_ask, is_in_turn}
 use Rattle.talk_serial.specs.Requests.{message_of}
 use Rattle.host_core.specs.Steps.{next_job}
-use Rattle.host_core.proofs.moves.ask.Goals as goal
+use Rattle.host_core.proofs.moves.ask_next.Goals as goal
 use Rattle.ann_key.proofs.Booleans.{and_last as and_right}
 
 pub line_of-requires : goal.line_of-requires
@@ -15,4 +15,4 @@ line_of-requires c =
     let q = message_of c.args.request.now in
     ap is_askable c.message-message.ensures
     ∙ and_right (is_started past child && may_ask past c.args.by c.args.task child && is_in_turn past child (next_job past child) q) (is_askable q)
-    (sym c.may_request.ensures ∙ c.if-not-may_request.false)
+    c.requires.may
