@@ -1,0 +1,2 @@
+pub use Rattle.ann_outside.specs.Causes
+pub use Rattle.ann_outside.specs.Fails

@@ -10,3 +10,12 @@ pub mod Hearings
 pub mod Writings
 pub mod Rows
 pub mod Wires
+pub use Rattle.annex_model.specs.Lines
+pub use Rattle.host_core.specs.Steps
+pub use Rattle.journal_model.specs.Halves
+pub use Rattle.journal_model.specs.Journal
+pub use Rattle.journal_model.specs.Legality
+pub use Rattle.journal_model.specs.Limits
+pub use Rattle.journal_model.specs.Projection
+pub use Rattle.journal_model.specs.Shares
+pub use Rattle.talk_serial.specs.Requests

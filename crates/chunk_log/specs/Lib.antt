@@ -5,3 +5,6 @@ pub mod LogLaws
 pub mod NoteBooks
 pub mod Places
 pub mod Stamps
+pub use Rattle.ann_key.specs.KeyRefs
+pub use Rattle.ann_key.specs.Keys
+pub use Rattle.ann_key.specs.Numbers

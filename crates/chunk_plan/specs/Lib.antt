@@ -1,2 +1,4 @@
 pub mod Layouts
 pub mod LayoutLaws
+pub use Rattle.ann_key.specs.KeyRefs
+pub use Rattle.ann_key.specs.Keys

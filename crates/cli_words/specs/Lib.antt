@@ -8,3 +8,4 @@ pub mod Pages
 pub mod Refusals
 pub mod Texts
 pub mod Rows
+pub use Rattle.reg_file.specs.Registers

@@ -1,3 +1,12 @@
 pub mod JobLaws
 pub mod Jobs
 pub mod Runs
+pub use Rattle.annex_model.specs.Lines
+pub use Rattle.child_link.specs.Doors
+pub use Rattle.crew_laws.specs.Tasks
+pub use Rattle.crew_worker.specs.AtTasks
+pub use Rattle.crew_worker.specs.KnownLayouts
+pub use Rattle.crew_worker.specs.Works
+pub use Rattle.hall.specs.Passes
+pub use Rattle.journal_model.specs.Legality
+pub use Rattle.task_model.specs.Askings

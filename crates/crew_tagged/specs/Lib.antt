@@ -8,3 +8,6 @@ pub mod Crewing
 pub mod TaggedRounds
 pub mod Coming
 pub mod PoolChildren
+pub use Rattle.child_link.specs.Moves
+pub use Rattle.crew_laws.specs.Laws
+pub use Rattle.hall.specs.Passes

@@ -6,3 +6,9 @@ pub mod Describing
 pub mod Interleavings
 pub mod Outcomes
 pub mod Traces
+pub use Rattle.ann_key.specs.FileNames
+pub use Rattle.ann_key.specs.KeyRefs
+pub use Rattle.ann_outside.specs.Files
+pub use Rattle.annex_model.specs.Lines
+pub use Rattle.annex_model.specs.Messages
+pub use Rattle.kit_core.specs.Calls

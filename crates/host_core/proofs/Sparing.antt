@@ -6,21 +6,17 @@ use Rattle.journal_model.specs.declared.answer.Answer.{Answer}
 use Rattle.journal_model.specs.declared.verdict.Why.{Why}
 use Rattle.journal_model.specs.declared.verdict.Verdict.{Verdict}
 use Rattle.journal_model.specs.declared.verdict.Verdict.TheVariants.{Ended, Unsent}
-use Rattle.journal_model.specs.declared.entry.What.TheVariants.{Mute, End, Answer as Answered, Sent, Verdict as Settled, Again}
+use Rattle.journal_model.specs.declared.entry.What.TheVariants.{Mute, End, Answer as Answered, Verdict as Settled, Again}
 use Rattle.journal_model.specs.declared.entry.Entry.{Entry}
 use Rattle.journal_model.specs.declared.opening.Opening.{Opening}
-use Rattle.annex_model.specs.Lines.{has_newline}
-use Rattle.talk_serial.specs.declared.request.Request.{Request}
-use Rattle.talk_serial.specs.Requests.{message_of, name_of}
-use Rattle.journal_model.specs.Journal.{is_full, first_of, is_started, is_ended, is_mute, is_live, is_unsent, open_jobs, unsent, verdict_of}
+use Rattle.journal_model.specs.Journal.{first_of, is_started, is_ended, is_mute, is_live, is_unsent, open_jobs, unsent, verdict_of}
 use Rattle.journal_model.specs.Due.{made_by}
-use Rattle.journal_model.specs.Legality.{least_free, is_prepared, is_empty, is_claimed_by, is_run_again, task_of}
-use Rattle.task_text.specs.declared.task.Task.{Task}
+use Rattle.journal_model.specs.Legality.{least_free, is_prepared, is_empty, is_run_again}
 use Rattle.host_core.specs.declared.event.Event.{Event}
-use Rattle.host_core.specs.declared.event.Event.TheVariants.{Claim as ClaimEvent, Ask as AskEvent, Fetch, Got as GotEvent, Lookup, Look, Listen, Stop, Sent as SentEvent, Mute as MuteEvent, Answer as AnswerEvent, Layouts as LayoutsEvent, Shut}
+use Rattle.host_core.specs.declared.event.Event.TheVariants.{Claim as ClaimEvent, Lookup, Look, Listen, Stop, Sent as SentEvent, Mute as MuteEvent, Answer as AnswerEvent, Shut}
 use Rattle.host_core.specs.declared.event.Reply.{Reply}
-use Rattle.host_core.specs.declared.event.Reply.TheVariants.{Job, NoTask, Read, Over, Wait, Done}
-use Rattle.host_core.specs.Steps.{Step, step_of, needs_room, needs_memory, is_free, next_line, takes_no_memory, odd, only, append, gone, is_gone, claim, closing, are_all_claimed, is_asked, settled_so, listening, is_awaited, is_idle, may_end, may_answer, may_request, next_job, asking, is_named_well, resting}
+use Rattle.host_core.specs.declared.event.Reply.TheVariants.{NoTask, Read, Over, Wait, Done}
+use Rattle.host_core.specs.Steps.{Step, step_of, needs_room, needs_memory, is_free, next_line, takes_no_memory, only, append, is_gone, claim, closing, are_all_claimed, is_asked, settled_so, listening, is_awaited, is_idle, may_end, may_answer}
 
 verdicts_free : (by c : ℕ) (v : Verdict) (js : List ℕ) → list_any needs_room (made_by by (map (λ j. Settled c j v) js)) ≡ false
 verdicts_free by c v [] = refl
@@ -88,32 +84,3 @@ pub line_first : (rest : Reply) (us : List (Option ℕ × List ℕ)) (line : Lis
     → needs_memory (next_line rest us) ≡ true
 line_first rest [] line h = absurd cc
 line_first rest (w ∷ ws) line h = refl
-
--- ---- steps that take memory
-
-pub ask_takes : (o : Opening) (past : List Entry) (by child task : ℕ) (request : Request) → may_request past by task child (message_of request) ≡ true
-    → is_named_well (name_of request) ≡ true → is_gone past child ≡ false → is_free (step_of o past by (AskEvent child task request)) ≡ false
-ask_takes o past by child task request may well here = rw (may, well, here) (named (name_of request))
-  where
-    named : (name : Option (List ℕ)) → is_free (record { reply = Job (next_job past child); group = made_by by (asking past task child name (message_of request)) }) ≡ false
-    named None = refl
-    named (Some name) = refl
-
-pub got_takes : (o : Opening) (past : List Entry) (by child : ℕ) (line : List ℕ) → (not (is_started past child) || has_newline line) ≡ false → is_ended past child ≡ false → is_full past ≡ false
-    → is_free (step_of o past by (GotEvent child line)) ≡ false
-got_takes o past by child line fits live full = rw (fits, live, full) refl
-
-pub layouts_take : (o : Opening) (past : List Entry) (by number : ℕ) (task : Task) → is_claimed_by past by number ≡ true → task_of o number ≡ Some task
-    → is_free (step_of o past by (LayoutsEvent number)) ≡ false
-layouts_take o past by number task claimed there = rw (claimed, there) refl
-
-pub fetch_is : (o : Opening) (past : List Entry) (by child : ℕ) → is_started past child ≡ true → is_gone past child ≡ false
-    → step_of o past by (Fetch child) ≡ only (next_line (resting o past child) (unsent past child))
-fetch_is o past by child started here = rw (started, here) refl
-
-pub free_line : (reply : Reply) → is_free (only reply) ≡ true → needs_memory reply ≡ false
-free_line reply h = go (needs_memory reply) h
-  where
-    go : (b : Bool) → (true && not b) ≡ true → b ≡ false
-    go true h = absurd cc
-    go false h = refl

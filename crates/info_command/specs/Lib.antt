@@ -4,3 +4,7 @@ pub mod Interviews
 pub mod Tellings
 pub mod Askings
 pub mod Rows
+pub use Rattle.ann_key.specs.KeyRefs
+pub use Rattle.annex_model.specs.Lines
+pub use Rattle.annex_model.specs.Messages
+pub use Rattle.cli_words.specs.Refusals

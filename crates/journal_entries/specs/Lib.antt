@@ -4,3 +4,4 @@ pub mod Entries
 pub mod Fields
 pub mod Verdicts
 pub mod Whys
+pub use Rattle.journal_scan.specs.Shown

@@ -1,1 +1,2 @@
 pub mod JournalTexts
+pub use Rattle.reg_file.specs.RegLines

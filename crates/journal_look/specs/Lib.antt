@@ -6,3 +6,10 @@ pub mod Opens
 pub mod Cursors
 pub mod Holds
 pub mod Taken
+pub use Rattle.journal_model.specs.Journal
+pub use Rattle.journal_model.specs.Legality
+pub use Rattle.journal_model.specs.Limits
+pub use Rattle.journal_model.specs.Parts
+pub use Rattle.journal_scan.specs.Looks
+pub use Rattle.journal_scan.specs.Shown
+pub use Rattle.journal_scan.specs.Spans

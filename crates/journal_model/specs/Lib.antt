@@ -21,3 +21,10 @@ pub mod Wires
 pub mod Halves
 pub mod Shares
 pub mod HalfRows
+pub use Rattle.ann_key.specs.Keys
+pub use Rattle.annex_model.specs.Lines
+pub use Rattle.annex_model.specs.Messages
+pub use Rattle.annex_model.specs.Talks
+pub use Rattle.chunk_log.specs.ChunkLines
+pub use Rattle.chunk_log.specs.NoteBooks
+pub use Rattle.reg_file.specs.Tables

@@ -12,3 +12,7 @@ pub mod Meanings
 pub mod Rows
 pub mod Standings
 pub mod Views
+pub use Rattle.annex_model.specs.Messages
+pub use Rattle.annex_model.specs.Tags
+pub use Rattle.kit_core.specs.Kits
+pub use Rattle.wire_msg.specs.Shown

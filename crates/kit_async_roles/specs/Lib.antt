@@ -3,3 +3,4 @@ pub mod Ends
 pub mod Passes
 pub mod Reading
 pub mod Writing
+pub use Rattle.kit_serve.specs.Limits

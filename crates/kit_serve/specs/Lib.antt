@@ -6,3 +6,8 @@ pub mod Sessions
 pub mod Telling
 pub mod Turns
 pub mod Voices
+pub use Rattle.ann_key.specs.KeyRefs
+pub use Rattle.ann_outside.specs.Causes
+pub use Rattle.annex_model.specs.Lines
+pub use Rattle.annex_model.specs.Messages
+pub use Rattle.kit_core.specs.Stages

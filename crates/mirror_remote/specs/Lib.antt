@@ -2,3 +2,11 @@ pub mod Mirrors
 pub mod Describing
 pub mod Sessions
 pub mod Rows
+pub use Rattle.ann_key.specs.KeyRefs
+pub use Rattle.annex_model.specs.Lines
+pub use Rattle.annex_model.specs.Messages
+pub use Rattle.kit_core.specs.Calls
+pub use Rattle.mirror_children.specs.Children
+pub use Rattle.mirror_children.specs.Rule
+pub use Rattle.mirror_plan.specs.Settings
+pub use Rattle.mirror_starts.specs.Outcomes

@@ -8,3 +8,7 @@ pub mod Answered
 pub mod Paces
 pub mod Peace
 pub mod Stored
+pub use Rattle.annex_model.specs.Lines
+pub use Rattle.kit_core.specs.Stages
+pub use Rattle.reg_file.specs.Tables
+pub use Rattle.wire_line.specs.HeldBytes

@@ -2,3 +2,8 @@ pub mod Moves
 pub mod StoredRows
 pub mod Standing
 pub mod Rows
+pub use Rattle.journal_model.specs.Beginnings
+pub use Rattle.pair_kit.specs.Pairs
+pub use Rattle.pair_kit.specs.Shelves
+pub use Rattle.pair_kit.specs.Stored
+pub use Rattle.pair_kit.specs.Worlds

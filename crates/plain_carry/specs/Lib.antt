@@ -1,2 +1,3 @@
 pub mod Carries
 pub mod Turns
+pub use Rattle.plain_words.specs.Changes

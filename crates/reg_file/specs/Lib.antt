@@ -4,3 +4,4 @@ pub mod RegLines
 pub mod Registers
 pub mod Rows
 pub mod Tables
+pub use Rattle.ann_key.specs.Keys

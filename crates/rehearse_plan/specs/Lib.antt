@@ -1,2 +1,3 @@
 pub mod Plans
 pub mod Tallies
+pub use Rattle.journal_model.specs.Beginnings

@@ -1,2 +1,3 @@
 pub mod Answers
 pub mod Answering
+pub use Rattle.journal_model.specs.Legality

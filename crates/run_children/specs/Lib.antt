@@ -14,3 +14,10 @@ pub mod PostRows
 pub mod PostLaws
 pub mod Completeness
 pub mod ToldDesks
+pub use Rattle.ann_outside.specs.Told
+pub use Rattle.annex_model.specs.Lines
+pub use Rattle.child_end.specs.Programs
+pub use Rattle.child_start.specs.Cores
+pub use Rattle.crew_worker.specs.Works
+pub use Rattle.journal_model.specs.Legality
+pub use Rattle.run_starts.specs.Rounds

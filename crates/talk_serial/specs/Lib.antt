@@ -2,3 +2,8 @@ pub mod Requests
 pub mod Talked
 pub mod Hearings
 pub mod Stages
+pub use Rattle.annex_model.specs.Extensions
+pub use Rattle.annex_model.specs.Messages
+pub use Rattle.annex_model.specs.Talks
+pub use Rattle.annex_model.specs.Turns
+pub use Rattle.wire_msg.specs.Shown

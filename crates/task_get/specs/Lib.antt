@@ -3,3 +3,13 @@ pub mod ChunkFetches
 pub mod PartBegins
 pub mod LayoutRuns
 pub mod WholeFetches
+pub use Rattle.ann_digest.specs.Checkers
+pub use Rattle.ann_key.specs.KeyRefs
+pub use Rattle.ann_outside.specs.Calls
+pub use Rattle.annex_model.specs.Lines
+pub use Rattle.annex_model.specs.Messages
+pub use Rattle.task_model.specs.Askers
+pub use Rattle.task_model.specs.Fetching
+pub use Rattle.task_model.specs.Names
+pub use Rattle.task_model.specs.Ran
+pub use Rattle.task_text.specs.TaskLines

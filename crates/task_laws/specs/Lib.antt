@@ -10,3 +10,5 @@ pub mod Sent
 pub mod Rows
 pub mod ChildrenWell
 pub mod ToldDesks
+pub use Rattle.annex_model.specs.Messages
+pub use Rattle.task_model.specs.ExportRows

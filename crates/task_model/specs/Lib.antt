@@ -20,3 +20,10 @@ pub mod Fetching
 pub mod RunLaws
 pub mod StretchRows
 pub mod Askers
+pub use Rattle.ann_digest.specs.Fits
+pub use Rattle.ann_key.specs.KeyRefs
+pub use Rattle.ann_key.specs.Keys
+pub use Rattle.annex_model.specs.Lines
+pub use Rattle.annex_model.specs.Messages
+pub use Rattle.annex_model.specs.Turns
+pub use Rattle.journal_model.specs.Projection

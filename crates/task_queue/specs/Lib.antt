@@ -5,3 +5,5 @@ pub mod Blocks
 pub mod Queues
 pub mod Woken
 pub mod Ways
+pub use Rattle.journal_model.specs.Legality
+pub use Rattle.journal_model.specs.Limits

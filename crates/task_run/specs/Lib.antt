@@ -1,1 +1,8 @@
 pub mod Rounds
+pub use Rattle.ann_key.specs.KeyRefs
+pub use Rattle.annex_model.specs.Lines
+pub use Rattle.annex_model.specs.Messages
+pub use Rattle.task_model.specs.Askers
+pub use Rattle.task_model.specs.Layouts
+pub use Rattle.task_model.specs.Ran
+pub use Rattle.task_text.specs.TaskLines
