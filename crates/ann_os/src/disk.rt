@@ -211,6 +211,21 @@ fn lock<R: Files<File = File>>(
     }
 }
 
+// Reads of a file from a place on, once its lock is taken.
+fn read_locked<R: Files<File = File>>(
+    locks: &mut Option<Locks>,
+    rt: &R,
+    name: &str,
+    from: u64,
+    buf: &mut [u8],
+) -> Result<usize, DeskError>
+    ensures bound { ReadsAtMost result buf.new }
+    ensures place { IfOk result (λ n. from + n < 2 ^ 64) }
+{
+    lock(locks, rt, name)?;
+    read_from(rt, name, from, buf)
+}
+
 impl<R: Files<File = File>> OsDesk<R> {
     // Counts a fault or a missing file where the outcome is one, and hands the outcome on.
     fn counted<T>(&mut self, outcome: Result<T, DeskError>) -> Result<T, DeskError>
@@ -236,10 +251,7 @@ impl<R: Files<File = File>> Desk for OsDesk<R> {
     }
 
     fn read_at(&mut self, name: &str, from: u64, buf: &mut [u8]) -> Result<usize, DeskError> {
-        let count = match lock(&mut self.locks, &self.rt, name) {
-            Ok(()) => read_from(&self.rt, name, from, buf),
-            Err(error) => Err(error),
-        };
+        let count = read_locked(&mut self.locks, &self.rt, name, from, buf);
         self.counted(count)
     }
 

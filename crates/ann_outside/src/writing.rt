@@ -19,10 +19,7 @@ pub fn write_all<S: Sink>(sink: &mut S, bytes: &[u8]) -> Result<(), Failed>
 {
     let mut at = 0;
     while at < bytes.len() {
-        match sink.write(&bytes[at..]) {
-            Ok(n) => at += n,
-            Err(Failed) => return Err(Failed),
-        }
+        at += sink.write(&bytes[at..])?;
     }
     Ok(())
 }

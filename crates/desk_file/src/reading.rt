@@ -77,12 +77,12 @@ fn read_step<D: Desk>(
     ensures files { (D.told desk.new).files ≡ (D.told desk.old).files }
     ensures causes { HasCauses (D.told desk.old).counts (D.told desk.new).counts result }
 {
-    match desk.read_at(name, bytes.len() as u64, buffer) {
-        Ok(0) => Ok(false),
-        Ok(n) => match bytes.extend_from_slice(&buffer[..n]) {
-            Ok(()) => Ok(true),
-            Err(_) => Err(DeskError::NoMemory),
-        },
-        Err(error) => Err(error),
+    let n = desk.read_at(name, bytes.len() as u64, buffer)?;
+    if n == 0 {
+        return Ok(false);
+    }
+    match bytes.extend_from_slice(&buffer[..n]) {
+        Ok(()) => Ok(true),
+        Err(_) => Err(DeskError::NoMemory),
     }
 }

@@ -27,10 +27,8 @@ fn append_all<D: Desk>(desk: &mut D, name: &str, text: &[u8]) -> Result<(), Desk
     let mut at = 0;
     while at < text.len() {
         let end = at + (text.len() - at).min(STEP);
-        match desk.append(name, &text[at..end]) {
-            Ok(()) => at = end,
-            Err(error) => return Err(error),
-        }
+        desk.append(name, &text[at..end])?;
+        at = end;
     }
     Ok(())
 }
@@ -43,12 +41,8 @@ fn replace_by<D: Desk>(desk: &mut D, name: &str, fresh: &str, text: &[u8]) -> Re
     ensures causes { HasCauses (D.told desk.old).counts (D.told desk.new).counts result }
     ensures found { result ≡ Err DeskError.Missing → (D.told desk.old).files ≡ None }
 {
-    if let Err(error) = desk.create(fresh) {
-        return Err(error);
-    }
-    if let Err(error) = append_all(desk, fresh, text) {
-        return Err(error);
-    }
+    desk.create(fresh)?;
+    append_all(desk, fresh, text)?;
     desk.rename(fresh, name)
 }
 

@@ -28,14 +28,12 @@ fn copy_piece<D: Desk>(
     ensures others { WhereTold (D.told desk.old).files (D.told desk.new).files (OthersStay (λ other. other ≡ to.now)) }
     ensures piece { WhereTold (D.told desk.old).files (D.told desk.new).files (PieceDoes from.now to.now at result) }
 {
-    match desk.read_at(from, at, buffer) {
-        Ok(0) => Ok(0),
-        Ok(count) => match desk.append(to, &buffer[..count]) {
-            Ok(()) => Ok(count as u64),
-            Err(error) => Err(error),
-        },
-        Err(error) => Err(error),
+    let count = desk.read_at(from, at, buffer)?;
+    if count == 0 {
+        return Ok(0);
     }
+    desk.append(to, &buffer[..count])?;
+    Ok(count as u64)
 }
 
 // Makes the file, anew or only where there is none of its name.
@@ -90,9 +88,7 @@ pub fn copy<D: Desk>(
     let Ok(mut buffer) = vec![in alloc; 0; STEP] else {
         return Err(DeskError::NoMemory);
     };
-    if let Err(error) = make(desk, to, alone) {
-        return Err(error);
-    }
+    make(desk, to, alone)?;
     let mut at = 0;
     loop {
         match copy_piece(desk, from, to, at, buffer.as_mut_slice()) {

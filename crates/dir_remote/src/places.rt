@@ -63,10 +63,7 @@ fn file_name(alloc: Global, key: KeyRef<'_>) -> Result<Text, Outcome>
 pub fn content_place(alloc: Global, directory: &str, key: KeyRef<'_>) -> Result<Text, Outcome>
     ensures { MatchResult result (λ name. IsContentName directory.now (text_of key.entry) name × IsUtf8 (file_name_of (text_of key.entry))) (IsUnnamed (text_of key.entry)) }
 {
-    let file = match file_name(alloc, key) {
-        Ok(file) => file,
-        Err(outcome) => return Err(outcome),
-    };
+    let file = file_name(alloc, key)?;
     let folder = lower(key);
     let Ok(folder) = str::from_utf8(&folder) else {
         unreachable!()
@@ -101,10 +98,7 @@ pub fn temporary_place(
 ) -> Result<Text, Outcome>
     ensures { MatchResult result (λ name. name ≡ temporary_name mark.now directory.now (text_of key.entry)) (IsUnnamed (text_of key.entry)) }
 {
-    let file = match file_name(alloc, key) {
-        Ok(file) => file,
-        Err(outcome) => return Err(outcome),
-    };
+    let file = file_name(alloc, key)?;
     let Ok(file) = marked_name(alloc, mark, file.view()) else {
         return Err(Outcome::NoMemory);
     };

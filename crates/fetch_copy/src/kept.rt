@@ -26,14 +26,12 @@ fn check_piece<D: Desk>(
     ensures most { IfOk result (λ n. n ≤ length buffer.old) }
     ensures causes { HasCauses (D.told desk.old).counts (D.told desk.new).counts result }
 {
-    match desk.read_at(file, at, buffer) {
-        Ok(0) => Ok(0),
-        Ok(n) => {
-            checker.update(&buffer[..n]);
-            Ok(n as u64)
-        }
-        Err(error) => Err(error),
+    let n = desk.read_at(file, at, buffer)?;
+    if n == 0 {
+        return Ok(0);
     }
+    checker.update(&buffer[..n]);
+    Ok(n as u64)
 }
 
 // Reads the first n bytes of a file, and checks them, by a buffer of one step.

@@ -27,14 +27,12 @@ pub fn carry_piece<D: Desk>(
     ensures filled { WhereTold (D.told desk.old).files (D.told desk.new).files (PieceGrows from.now to.now at (length buffer.old) result) }
     ensures causes { HasCauses (D.told desk.old).counts (D.told desk.new).counts result }
 {
-    match desk.read_at(from, at, buffer) {
-        Ok(0) => Ok(0),
-        Ok(n) => match desk.append(to, &buffer[..n]) {
-            Ok(()) => Ok(n),
-            Err(error) => Err(error),
-        },
-        Err(error) => Err(error),
+    let n = desk.read_at(from, at, buffer)?;
+    if n == 0 {
+        return Ok(0);
     }
+    desk.append(to, &buffer[..n])?;
+    Ok(n)
 }
 
 // Moves a piece, and checks it.
@@ -53,14 +51,12 @@ fn move_piece<D: Desk>(
     ensures filled { WhereTold (D.told desk.old).files (D.told desk.new).files (PieceGrows from.now part.now at (length buffer.old) result) }
     ensures causes { HasCauses (D.told desk.old).counts (D.told desk.new).counts result }
 {
-    match carry_piece(desk, from, part, at, buffer) {
-        Ok(0) => Ok(0),
-        Ok(n) => {
-            checker.update(&buffer[..n]);
-            Ok(n as u64)
-        }
-        Err(error) => Err(error),
+    let n = carry_piece(desk, from, part, at, buffer)?;
+    if n == 0 {
+        return Ok(0);
     }
+    checker.update(&buffer[..n]);
+    Ok(n as u64)
 }
 
 pub fn refused(error: DeskError) -> Result<Copied, NoMemory>

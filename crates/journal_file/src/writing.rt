@@ -58,10 +58,8 @@ fn make_synced<D: Desk>(
     ensures causes { HasCauses (D.told desk.old).counts (D.told desk.new).counts result }
     ensures found { result ≡ Err DeskError.Missing → (D.told desk.old).files ≡ None }
 {
-    match make_text(alloc, desk, name, opening, journal) {
-        Ok(()) => desk.sync(name),
-        Err(error) => Err(error),
-    }
+    make_text(alloc, desk, name, opening, journal)?;
+    desk.sync(name)
 }
 
 // Makes the file, and adds all lines to it.

@@ -33,12 +33,11 @@ pub fn read_kept<D: Desk>(alloc: Global, desk: &mut D, name: &str) -> Result<Kep
     ensures files { (D.told desk.new).files ≡ (D.told desk.old).files }
     ensures causes { HasKeptCauses (D.told desk.old).counts (D.told desk.new).counts result }
 {
-    match read_file(alloc, desk, name, MOST_BYTES) {
-        Ok(FileRead::Text(text)) => kept_in(alloc, text.view()),
-        Ok(FileRead::Missing) => kept_in(alloc, &[]),
-        Ok(FileRead::TooLarge) => Ok(KeptRead::TooLarge),
-        Ok(FileRead::Fault) => Ok(KeptRead::Fault),
-        Err(NoMemory) => Err(NoMemory),
+    match read_file(alloc, desk, name, MOST_BYTES)? {
+        FileRead::Text(text) => kept_in(alloc, text.view()),
+        FileRead::Missing => kept_in(alloc, &[]),
+        FileRead::TooLarge => Ok(KeptRead::TooLarge),
+        FileRead::Fault => Ok(KeptRead::Fault),
     }
 }
 

@@ -125,13 +125,9 @@ impl DeskState {
         ensures apart { LeavesOther (state_counts self.old) (state_counts self.new) result }
         ensures log { self.new.log ≡ self.old.log }
     {
-        match self.settle(next) {
-            Ok(bytes) => {
-                put(&mut self.files, name, bytes);
-                Ok(())
-            }
-            Err(e) => Err(e),
-        }
+        let bytes = self.settle(next)?;
+        put(&mut self.files, name, bytes);
+        Ok(())
     }
 
     // Counts the call, and makes the file where there is none of its name. One that stands is a fault.
@@ -169,14 +165,26 @@ impl DeskState {
         ensures apart { LeavesOther (state_counts self.old) (state_counts self.new) result }
         ensures log { self.new.log ≡ self.old.log }
     {
-        match self.settle(moved) {
-            Ok(bytes) => {
-                take_away(&mut self.files, from);
-                put(&mut self.files, to, bytes);
-                Ok(())
-            }
-            Err(e) => Err(e),
-        }
+        let bytes = self.settle(moved)?;
+        take_away(&mut self.files, from);
+        put(&mut self.files, to, bytes);
+        Ok(())
+    }
+
+    // Counts the call, and takes the file away.
+    fn remove_file(&mut self, name: &str) -> Result<(), DeskError>
+        ensures files { RemoveDoes name.now result self.old.files.items self.new.files.items }
+        ensures err { OnErr result (self.new.files.items ≡ self.old.files.items) }
+        ensures memory { result ≡ Err DeskError.NoMemory → ⊥ }
+        ensures counted { IsCounted self.old.fails self.new.fails result }
+        ensures causes { HasCauses (state_counts self.old) (state_counts self.new) result }
+        ensures apart { LeavesOther (state_counts self.old) (state_counts self.new) result }
+        ensures log { self.new.log ≡ self.old.log }
+    {
+        let size = size_of(self.files.as_slice(), name);
+        self.settle(size)?;
+        take_away(&mut self.files, name);
+        Ok(())
     }
 
     /// The length of the file.
@@ -391,14 +399,7 @@ impl DeskState {
         let Ok(noted) = self.begin(name) else {
             return Err(DeskError::NoMemory);
         };
-        let size = size_of(self.files.as_slice(), name);
-        let answer = match self.settle(size) {
-            Ok(_) => {
-                take_away(&mut self.files, name);
-                Ok(())
-            }
-            Err(e) => Err(e),
-        };
+        let answer = self.remove_file(name);
         self.end(Call::Remove {
             name: noted,
             answer,
@@ -416,9 +417,7 @@ impl DeskState {
         ensures counted { IsCounted self.old.fails self.new.fails result }
     {
         let size = size_of(self.files.as_slice(), name);
-        match self.settle(size) {
-            Ok(_) => Ok(()),
-            Err(e) => Err(e),
-        }
+        self.settle(size)?;
+        Ok(())
     }
 }

@@ -1,4 +1,5 @@
 use Rattle.std.proofs.Common.{◌≡◌, ◌∙◌, ◌≤◌, ◌+◌, ◌-◌, Ok, [], take, drop, refl, arith}
+use Rattle.std.proofs.lemmas.Result.{err_from_is_err_and}
 use Rattle.ann_outside.specs.Files.{AppendDoes}
 use Rattle.desk_file.specs.Writes.{HasGrown}
 use Rattle.desk_file.proofs.WriteLaws.{appending_nothing, appending_more, appends_refused, grows_nothing, grows_more}
@@ -22,13 +23,14 @@ loop-at-preserved g c =
     let end = c.loop-at.at + c.min.result in
     let low : c.loop-at.at ≤ c.loop-at.at + c.min.result = omega arith in
     record {
-      appending = appending_more _ _ _ c.args.name.now c.args.text.now c.loop-at.at (c.loop-at.at + c.min.result) low i.appending c.in-Ok.ensures.log;
+      appending = appending_more _ _ _ c.args.name.now c.args.text.now c.loop-at.at (c.loop-at.at + c.min.result) low i.appending c.in_ok-append.ensures.log;
       files = where_then (HasGrown name (take at text)) (AppendDoes name (take (end - at) (drop at text)) (Ok tt)) (HasGrown name (take end text)) _ _ _
-          (λ x y z p q. grows_more name text at end low x y z p q) i.files c.in-Ok.ensures.files;
-      quiet = c.in-Ok.ensures.causes.done ∙ i.quiet;
+          (λ x y z p q. grows_more name text at end low x y z p q) i.files c.in_ok-append.ensures.files;
+      quiet = c.in_ok-append.ensures.causes.done ∙ i.quiet;
       most = omega (arith, c.min.ensures, i.most);
     }
 
-pub returns-in-Err-clause-calls : goal.returns-in-Err-clause-calls
-returns-in-Err-clause-calls g c =
-    appends_refused _ _ _ c.args.name.now c.args.text.now c.loop-at.at (c.loop-at.at + c.min.result - c.loop-at.at) c.in-Err.error c.loop-at.invariant.appending c.in-Err.ensures.log
+pub returns-in_err-append-clause-calls : goal.returns-in_err-append-clause-calls
+returns-in_err-append-clause-calls g c =
+    let p = err_from_is_err_and c.from_residual.result c.from_residual.ensures.1 in
+    rw (p.1, p.2) (appends_refused _ _ _ c.args.name.now c.args.text.now c.loop-at.at (c.loop-at.at + c.min.result - c.loop-at.at) _ c.loop-at.invariant.appending c.in_err-append.ensures.log)

@@ -1,4 +1,5 @@
 use Rattle.std.proofs.Common.{◌∙◌, ℕ, arith, refl, subst, Ok, Err}
+use Rattle.std.proofs.lemmas.Result.{err_from_is_err_and}
 use Rattle.ann_outside.specs.Files.{WhereTold}
 use Rattle.dir_remote.specs.Copies.{PieceDoes}
 use Rattle.dir_remote.specs.Traces.{PieceTraces, Traced}
@@ -7,26 +8,30 @@ use Rattle.dir_remote.proofs.CopyLaws.{create_others, create_refused, copying_be
 use Rattle.dir_remote.proofs.TraceLaws.{traced_none, copy_unmade_traced, copy_begins, copy_goes_on, copy_ends_traced, copy_breaks_traced}
 use Rattle.dir_remote.proofs.copying.copy.Goals as goal
 
-pub returns-in-Err-clause-causes : goal.returns-in-Err-clause-causes
-returns-in-Err-clause-causes g c =
-    copy_broken c.args.alone _ _ _ _ c.in-Err.error refl c.in-Err.ensures.causes c.in-Err.ensures.apart (omega arith) (omega arith) (λ t. refl)
+pub returns-in_err-make-clause-causes : goal.returns-in_err-make-clause-causes
+returns-in_err-make-clause-causes g c =
+    let p = err_from_is_err_and c.from_residual.result c.from_residual.ensures.1 in
+    rw (p.1, p.2) (copy_broken c.args.alone _ _ _ _ _ refl c.in_err-make.ensures.causes c.in_err-make.ensures.apart (omega arith) (omega arith) (λ t. refl))
 
-pub returns-in-Err-clause-others : goal.returns-in-Err-clause-others
-returns-in-Err-clause-others g c =
-    create_others c.args.to.now (Err c.in-Err.error) (g.D.Desk.told c.args.desk.now).files (g.D.Desk.told c.make.new.desk).files c.in-Err.ensures.files
+pub returns-in_err-make-clause-others : goal.returns-in_err-make-clause-others
+returns-in_err-make-clause-others g c =
+    create_others c.args.to.now (Err _) (g.D.Desk.told c.args.desk.now).files (g.D.Desk.told c.make.new.desk).files c.in_err-make.ensures.files
 
-pub returns-in-Err-clause-copied : goal.returns-in-Err-clause-copied
-returns-in-Err-clause-copied g c =
-    create_refused c.args.from.now c.args.to.now c.in-Err.error (g.D.Desk.told c.args.desk.now).files (g.D.Desk.told c.make.new.desk).files c.in-Err.ensures.files
+pub returns-in_err-make-clause-copied : goal.returns-in_err-make-clause-copied
+returns-in_err-make-clause-copied g c =
+    let p = err_from_is_err_and c.from_residual.result c.from_residual.ensures.1 in
+    rw (p.1, p.2) (create_refused c.args.from.now c.args.to.now _ (g.D.Desk.told c.args.desk.now).files (g.D.Desk.told c.make.new.desk).files c.in_err-make.ensures.files)
 
-pub returns-in-Err-clause-traced : goal.returns-in-Err-clause-traced
-returns-in-Err-clause-traced g c = copy_unmade_traced c.args.alone c.args.from.now c.args.to.now c.in-Err.error _ _ c.in-Err.ensures.log
+pub returns-in_err-make-clause-traced : goal.returns-in_err-make-clause-traced
+returns-in_err-make-clause-traced g c =
+    let p = err_from_is_err_and c.from_residual.result c.from_residual.ensures.1 in
+    rw (p.1, p.2) (copy_unmade_traced c.args.alone c.args.from.now c.args.to.now _ _ _ c.in_err-make.ensures.log)
 
 pub loop-buffer-init : goal.loop-buffer-init
 loop-buffer-init g c = record {
-  copying = copying_begins c.args.from.now c.args.to.now (g.D.Desk.told c.args.desk.now).files (g.D.Desk.told c.make.new.desk).files c.in_default-make.ensures.files;
-  tracing = copy_begins c.args.from.now c.args.to.now _ _ c.in_default-make.ensures.log;
-  counts = c.in_default-make.ensures.causes.done;
+  copying = copying_begins c.args.from.now c.args.to.now (g.D.Desk.told c.args.desk.now).files (g.D.Desk.told c.make.new.desk).files c.in_ok-make.ensures.files;
+  tracing = copy_begins c.args.from.now c.args.to.now _ _ c.in_ok-make.ensures.log;
+  counts = c.in_ok-make.ensures.causes.done;
   buffer = c.in-Ok.ensures.len;
   fits = omega arith;
 }
@@ -61,30 +66,30 @@ loop-buffer-preserved g c =
       fits = h.place;
     }
 
-pub returns-in-Err-copy_piece-clause-causes : goal.returns-in-Err-copy_piece-clause-causes
-returns-in-Err-copy_piece-clause-causes g c =
-    let h = c.in-Err-copy_piece.ensures in
+pub returns-in-Err-clause-causes : goal.returns-in-Err-clause-causes
+returns-in-Err-clause-causes g c =
+    let h = c.in-Err.ensures in
     let k = c.give_up.ensures in
-    rw k.same (copy_broken c.args.alone (g.D.Desk.told c.args.desk.now).counts (g.D.Desk.told c.loop-buffer.desk).counts (g.D.Desk.told c.copy_piece.new.desk).counts (g.D.Desk.told c.give_up.new.desk).counts c.in-Err-copy_piece.error
+    rw k.same (copy_broken c.args.alone (g.D.Desk.told c.args.desk.now).counts (g.D.Desk.told c.loop-buffer.desk).counts (g.D.Desk.told c.copy_piece.new.desk).counts (g.D.Desk.told c.give_up.new.desk).counts c.in-Err.error
     c.loop-buffer.invariant.counts h.causes h.apart k.later k.missing k.calm)
 
-pub returns-in-Err-copy_piece-clause-others : goal.returns-in-Err-copy_piece-clause-others
-returns-in-Err-copy_piece-clause-others g c =
+pub returns-in-Err-clause-others : goal.returns-in-Err-clause-others
+returns-in-Err-clause-others g c =
     others_cleared c.args.to.now (g.D.Desk.told c.args.desk.now).files (g.D.Desk.told c.copy_piece.new.desk).files (g.D.Desk.told c.give_up.new.desk).files
-    (copy_others c.args.from.now c.args.to.now c.loop-buffer.at (g.D.Desk.told c.args.desk.now).files (g.D.Desk.told c.loop-buffer.desk).files (g.D.Desk.told c.copy_piece.new.desk).files c.loop-buffer.invariant.copying c.in-Err-copy_piece.ensures.others)
+    (copy_others c.args.from.now c.args.to.now c.loop-buffer.at (g.D.Desk.told c.args.desk.now).files (g.D.Desk.told c.loop-buffer.desk).files (g.D.Desk.told c.copy_piece.new.desk).files c.loop-buffer.invariant.copying c.in-Err.ensures.others)
     c.give_up.ensures.others
 
-pub returns-in-Err-copy_piece-clause-copied : goal.returns-in-Err-copy_piece-clause-copied
-returns-in-Err-copy_piece-clause-copied g c =
+pub returns-in-Err-clause-copied : goal.returns-in-Err-clause-copied
+returns-in-Err-clause-copied g c =
     rw c.give_up.ensures.same
-    (refused_cleared c.args.from.now c.args.to.now c.in-Err-copy_piece.error (g.D.Desk.told c.args.desk.now).files (g.D.Desk.told c.copy_piece.new.desk).files (g.D.Desk.told c.give_up.new.desk).files
-    (copy_refused c.args.from.now c.args.to.now c.loop-buffer.at c.in-Err-copy_piece.error (g.D.Desk.told c.args.desk.now).files (g.D.Desk.told c.loop-buffer.desk).files (g.D.Desk.told c.copy_piece.new.desk).files c.loop-buffer.invariant.copying c.in-Err-copy_piece.ensures.piece)
+    (refused_cleared c.args.from.now c.args.to.now c.in-Err.error (g.D.Desk.told c.args.desk.now).files (g.D.Desk.told c.copy_piece.new.desk).files (g.D.Desk.told c.give_up.new.desk).files
+    (copy_refused c.args.from.now c.args.to.now c.loop-buffer.at c.in-Err.error (g.D.Desk.told c.args.desk.now).files (g.D.Desk.told c.loop-buffer.desk).files (g.D.Desk.told c.copy_piece.new.desk).files c.loop-buffer.invariant.copying c.in-Err.ensures.piece)
     c.give_up.ensures.others)
 
-pub returns-in-Err-copy_piece-clause-traced : goal.returns-in-Err-copy_piece-clause-traced
-returns-in-Err-copy_piece-clause-traced g c =
+pub returns-in-Err-clause-traced : goal.returns-in-Err-clause-traced
+returns-in-Err-clause-traced g c =
     rw c.give_up.ensures.same
-    (copy_breaks_traced c.args.alone c.args.from.now c.args.to.now c.loop-buffer.at c.in-Err-copy_piece.error _ _ _ _ c.loop-buffer.invariant.tracing c.in-Err-copy_piece.ensures.traced c.give_up.ensures.traced)
+    (copy_breaks_traced c.args.alone c.args.from.now c.args.to.now c.loop-buffer.at c.in-Err.error _ _ _ _ c.loop-buffer.invariant.tracing c.in-Err.ensures.traced c.give_up.ensures.traced)
 
 pub returns-in_default-clause-causes : goal.returns-in_default-clause-causes
 returns-in_default-clause-causes g c = copy_idle _ _

@@ -15,8 +15,8 @@ unreachable-requires c =
 pub returns-in-Ok-place : goal.returns-in-Ok-place
 returns-in-Ok-place c =
     let base = base_of c.args.key in
-    let folder = c.in-Ok-from_utf8.ensures.cases.0 ∙ c.lower-folder.ensures base.0 base.1 in
-    let file = c.view.ensures ∙ c.in-Ok.ensures.0 in (
+    let folder = c.in-Ok.ensures.cases.0 ∙ c.lower-folder.ensures base.0 base.1 in
+    let file = c.view.ensures ∙ c.in_ok-file.ensures.0 in (
       record {
         parts = parts_of c.args.key;
         read = c.args.key.spelled;
@@ -27,5 +27,5 @@ returns-in-Ok-place c =
             ∙ ap (λ l. place_of c.args.directory.now l c.view.result.now) folder
             ∙ ap (λ f. place_of c.args.directory.now (lower_of base.0) f) file;
       },
-      c.in-Ok.ensures.1,
+      c.in_ok-file.ensures.1,
     )

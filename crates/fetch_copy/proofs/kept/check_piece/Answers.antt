@@ -1,8 +1,11 @@
+use Rattle.std.proofs.lemmas.Result.{err_from_is_err_and}
 use Rattle.fetch_copy.proofs.ReadLaws.{reads_piece, reads_refused}
 use Rattle.fetch_copy.proofs.kept.check_piece.Goals as goal
 
-pub returns-in-Ok-clause-read : goal.returns-in-Ok-clause-read
-returns-in-Ok-clause-read g c = reads_piece _ _ _ _ _ _ _ _ c.in-Ok.ensures.log c.in-Ok.ensures.bound.0 c.in-Ok.n-test.1 record { taken = c.update.ensures.taken; holds = c.update.ensures.bytes }
+pub returns-clause-read : goal.returns-clause-read
+returns-clause-read g c = reads_piece _ _ _ _ _ _ _ _ c.in_ok-n.ensures.log c.in_ok-n.ensures.bound.0 c.if-n-eq0.false record { taken = c.update.ensures.taken; holds = c.update.ensures.bytes }
 
-pub returns-in-Err-clause-read : goal.returns-in-Err-clause-read
-returns-in-Err-clause-read g c = reads_refused _ _ _ _ _ _ c.in-Err.ensures.log
+pub returns-in_err-n-clause-read : goal.returns-in_err-n-clause-read
+returns-in_err-n-clause-read g c =
+    let p = err_from_is_err_and c.from_residual.result c.from_residual.ensures.1 in
+    rw (p.1, p.2) (reads_refused _ _ _ _ _ _ c.in_err-n.ensures.log)
