@@ -12,6 +12,7 @@ use crate::made::{CheckEnd, CheckMade};
 use crate::preparing::{Ready, prepare};
 use ann_key::{KeyRef, NoMemory};
 use ann_outside::{Clock, Programs};
+use child_end::journal_of;
 use child_link::Wire;
 use host_core::Core;
 use journal_look::Journal;
@@ -33,14 +34,6 @@ where
         wires: Vec::new(alloc),
         end: CheckEnd::Memory,
     }
-}
-
-// The journal of a core whose registers and notes are of no use any more.
-fn journal_of(core: Core) -> Journal
-    ensures { result.entries ≡ core.journal }
-{
-    let (journal, _, _) = core.close();
-    journal
 }
 
 // The answer of a check that ran so, where memory is found for it.

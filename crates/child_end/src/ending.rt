@@ -14,6 +14,7 @@ use ann_outside::{Programs, Sink, Source};
 use child_link::{Door, Lone, OwnDoor, Wire};
 use child_start::wait_for;
 use host_core::Core;
+use journal_look::Journal;
 
 // The same over any door of the main thread's.
 fn close_over<I: Sink, O: Source, D: Door>(link: &Lone<I, O>, door: &mut D)
@@ -59,4 +60,12 @@ pub fn finish<P: Programs>(
     let (inlet, outlet) = wire.halves();
     wait_for(programs, inlet, outlet, stub);
     wires.push_reserved(wire);
+}
+
+/// The journal of a core whose registers and notes are of no use any more.
+pub fn journal_of(core: Core) -> Journal
+    ensures { result.entries ≡ core.journal }
+{
+    let (journal, _, _) = core.close();
+    journal
 }

@@ -3,4 +3,4 @@
 
 mod ending;
 
-pub use ending::{close_child, finish};
+pub use ending::{close_child, finish, journal_of};

@@ -9,6 +9,7 @@ use crate::interview::ask_child;
 use crate::made::{InfoEnd, InfoMade};
 use ann_key::{Key, KeyRef, NoMemory, Text};
 use ann_outside::Programs;
+use child_end::journal_of;
 use child_link::Wire;
 use chunk_log::NoteBook;
 use cli_words::{nobody, refusal};
@@ -16,7 +17,6 @@ use host_core::Core;
 use journal_look::Journal;
 use journal_model::Opening;
 use reg_file::Registers;
-use run_once::journal_of;
 use std::alloc::Global;
 use task_text::Tasks;
 

@@ -14,13 +14,13 @@ use crate::made::{InitEnd, InitMade};
 use crate::setup::Setup;
 use ann_key::NoMemory;
 use ann_outside::{Desk, Desks, Programs};
+use child_end::journal_of;
 use child_link::Wire;
 use cli_words::InitWords;
 use host_core::Core;
 use journal_look::Journal;
 use journal_model::Opening;
 use keep_desk::write_kept;
-use run_once::journal_of;
 use std::alloc::Global;
 
 // Room for what an init leaves of its objects.

@@ -6,7 +6,7 @@ ghost use Rattle.mirror_starts.specs.Stops.{AreSoundLogs, AreWired, IsUnwired, S
 
 use ann_key::NoMemory;
 use ann_outside::{Programs, Sink, Source};
-use child_end::{close_child, finish};
+use child_end::{close_child, finish, journal_of};
 use child_link::Wire;
 use host_core::Core;
 use journal_look::Journal;
@@ -157,12 +157,4 @@ fn add_journals(cores: Vec<Core>, journals: &mut Vec<Journal>)
     for core in cores {
         journals.push_reserved(journal_of(core));
     }
-}
-
-// The journal of a core whose registers and notes are of no use any more.
-fn journal_of(core: Core) -> Journal
-    ensures { result.entries ≡ core.journal }
-{
-    let (journal, _, _) = core.close();
-    journal
 }

@@ -14,6 +14,7 @@ use crate::ready::{Ready, WORKERS, prepare};
 use crate::remotes::Remotes;
 use ann_key::NoMemory;
 use ann_outside::{Desk, Desks, Programs, Sink, Source};
+use child_end::journal_of;
 use child_link::Wire;
 use host_core::Core;
 use journal_audit::{Audit, audit};
@@ -28,14 +29,6 @@ use std::alloc::Global;
 use std::marker::{Send, Sync};
 use std::sync::Wait;
 use std::thread::Threads;
-
-// The journal of a core whose registers and notes are of no use any more.
-fn journal_of(core: Core) -> Journal
-    ensures { result.entries ≡ core.journal }
-{
-    let (journal, _, _) = core.close();
-    journal
-}
 
 // The desks of the workers.
 #[tactic(auto, using(crate::proofs::Crews::counts_more))]

@@ -12,6 +12,7 @@ use crate::made::RunEnd;
 use crate::setting::Setting;
 use ann_key::{NoMemory, Text};
 use ann_outside::{Desk, Desks, Programs};
+use child_end::journal_of;
 use child_link::Wire;
 use cli_words::RunWords;
 use host_core::Core;
@@ -82,14 +83,6 @@ fn prepare(alloc: Global, words: &RunWords, opening: Opening) -> Result<Ready, N
     };
     let core = Core::new(alloc, opening)?;
     Ok(Ready { core, plan, tasks })
-}
-
-// The journal of a core whose registers and notes are of no use any more.
-fn journal_of(core: Core) -> Journal
-    ensures { result.entries ≡ core.journal }
-{
-    let (journal, _, _) = core.close();
-    journal
 }
 
 // Asks for the desks of so many workers, 1, 2 and so on, until no memory is found for one.
