@@ -36,10 +36,7 @@ impl<I: Sink, O: Source> Lone<I, O> {
         ensures link { KeepsLink (D.view door.old).seen (D.view door.new).seen self.old.ear self.new.ear self.old.mouth self.new.mouth }
         ensures door { IsSameDoor (D.view door.old) (D.view door.new) }
     {
-        match self.ask(door, task, request) {
-            Ok(verdict) => Ok(verdict),
-            Err(NoMemory) => Err(NoMemory),
-        }
+        self.ask(door, task, request)
     }
 
     /// Hears the first line, as [`Lone::hear_version`] does.

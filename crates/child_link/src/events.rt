@@ -159,10 +159,8 @@ pub fn fetch<D: Door>(door: &mut D, child: u32) -> Result<Fetched, NoMemory>
     ensures passed { During Passed (D.view door.old) (D.view door.new) }
     ensures door { IsSameDoor (D.view door.old) (D.view door.new) }
 {
-    match step(door, Event::Fetch { child }) {
-        Ok(reply) => Ok(fetched_of(reply)),
-        Err(NoMemory) => Err(NoMemory),
-    }
+    let reply = step(door, Event::Fetch { child })?;
+    Ok(fetched_of(reply))
 }
 
 /// Feeds a line. False where it wasn't taken, and the child has ended.
@@ -173,10 +171,8 @@ pub fn got<D: Door>(door: &mut D, child: u32, line: Bytes) -> Result<bool, NoMem
     ensures err { OnErr result (During Passed (D.view door.old) (D.view door.new)) }
     ensures door { IsSameDoor (D.view door.old) (D.view door.new) }
 {
-    match step(door, Event::Got { child, line }) {
-        Ok(reply) => Ok(is_done(reply)),
-        Err(NoMemory) => Err(NoMemory),
-    }
+    let reply = step(door, Event::Got { child, line })?;
+    Ok(is_done(reply))
 }
 
 /// Ends the child, where it hadn't ended, for a reason that the link found.
@@ -235,15 +231,13 @@ pub fn ask<D: Door>(
     ensures err { OnErr result (During Passed (D.view door.old) (D.view door.new)) }
     ensures door { IsSameDoor (D.view door.old) (D.view door.new) }
 {
-    match step(
+    let reply = step(
         door,
         Event::Ask {
             child,
             task,
             request,
         },
-    ) {
-        Ok(reply) => Ok(asked_of(reply)),
-        Err(NoMemory) => Err(NoMemory),
-    }
+    )?;
+    Ok(asked_of(reply))
 }

@@ -5,9 +5,9 @@ use Rattle.child_link.specs.declared.events.Asked.{Asked}
 use Rattle.child_link.proofs.Replying.{asked_so}
 use Rattle.child_link.proofs.events.ask.Goals as goal
 
-pub returns-in-Ok-clause-asked : goal.returns-in-Ok-clause-asked
-returns-in-Ok-clause-asked g c =
+pub returns-clause-asked : goal.returns-clause-asked
+returns-clause-asked g c =
     let o = (g.D.Door.view c.args.door.now).opening in
     let n = (g.D.Door.view c.args.door.now).number in
     subst (λ (x : Asked). IsAsked o n (g.D.Door.view c.args.door.now).alone (g.D.Door.view c.args.door.now).seen (g.D.Door.view c.step.new.door).seen c.args.child c.args.task (name_of c.args.request) (message_of c.args.request) x) (sym c.asked_of.ensures)
-    (asked_so c.args.child c.args.task c.args.request c.in-Ok.ensures.stepped)
+    (asked_so c.args.child c.args.task c.args.request c.in_ok-reply.ensures.stepped)
