@@ -197,10 +197,8 @@ fn note_no_start(core: &mut Core, slot: u32) -> Result<(), NoMemory>
     ensures opening { core.new.opening ≡ core.old.opening }
     ensures legal { Legal core.new.opening core.new.journal }
 {
-    match core.step(0, Event::NoStart { slot }) {
-        Ok(_) => Ok(()),
-        Err(NoMemory) => Err(NoMemory),
-    }
+    core.step(0, Event::NoStart { slot })?;
+    Ok(())
 }
 
 // Closes and finishes a child of which nothing could be noted.

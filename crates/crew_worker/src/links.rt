@@ -36,8 +36,5 @@ pub fn ask_by_link<I: Sink, O: Source, D: Door>(
     ensures same { IsSameLink link.old.ear link.new.ear link.old.mouth link.new.mouth }
     ensures door { IsSameDoor (D.view door.old) (D.view door.new) }
 {
-    match link.ask(door, task, request) {
-        Ok(verdict) => Ok(verdict),
-        Err(NoMemory) => Err(NoMemory),
-    }
+    link.ask(door, task, request)
 }

@@ -85,10 +85,7 @@ where
         if core.unclaimed() == 0 {
             return Ok(());
         }
-        match start_one(setting, programs, offer, core, desk, wires) {
-            Ok(next) => offer = next,
-            Err(NoMemory) => return Err(NoMemory),
-        }
+        offer = start_one(setting, programs, offer, core, desk, wires)?;
     }
     Ok(())
 }

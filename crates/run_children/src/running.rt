@@ -47,16 +47,11 @@ where
     ensures core { IsSameCore core.old core.new }
 {
     let setting = Setting { alloc, plan, tasks };
-    match start_all(&setting, programs, core, desk, wires) {
-        Ok(()) => {
-            if core.unclaimed() > 0 {
-                answer_left(core);
-                return Ok(());
-            }
-            Ok(())
-        }
-        Err(NoMemory) => Err(NoMemory),
+    start_all(&setting, programs, core, desk, wires)?;
+    if core.unclaimed() > 0 {
+        answer_left(core);
     }
+    Ok(())
 }
 
 /// Does all tasks over children, and answers each. Over a child that takes tags, a worker for each desk does tasks side by side, in a thread

@@ -1,11 +1,12 @@
 use Rattle.ann_outside.specs.Told.{DeskTold, ProgramsTold}
 use Rattle.std.proofs.Common.{[], ◌∷◌, arith, inl, inr, subst, sym, ap, refl, ◌∙◌, List, length, true}
+use Rattle.std.proofs.lemmas.Result.{err_from_is_err_and}
 use Rattle.journal_model.specs.declared.opening.Opening.{Opening}
 use Rattle.journal_model.specs.Legality.{Legal}
 use Rattle.host_core.specs.Steps.{are_all_claimed}
 use Rattle.child_link.specs.Wires.{WireValue}
 use Rattle.run_starts.proofs.Ending.{cores_both, kept_begin, left_nothing, left_some}
-use Rattle.run_children.proofs.Between.{at_err, at_ok, at_rest, jobs_begin}
+use Rattle.run_children.proofs.Between.{at_rest, jobs_begin}
 use Rattle.run_children.specs.Runs.{IsHanded}
 use Rattle.run_children.proofs.Objects.{wires_many}
 use Rattle.run_children.proofs.Steps.{broken_kept, broken_started, next_job_start}
@@ -63,8 +64,8 @@ start_one-requires-clause-room g c = λ κs fresh. (
     let all = c.requires.may.room in
     omega (arith, below, end, used, room, all))
 
-pub returns-in-Err-clause-started : goal.returns-in-Err-clause-started
-returns-in-Err-clause-started g c =
+pub returns-in_err-offer-clause-started : goal.returns-in_err-offer-clause-started
+returns-in_err-offer-clause-started g c =
     let o = c.args.core.now.opening in
     let p = c.children.core.opening in
     let cur = c.children.core.journal in
@@ -79,12 +80,13 @@ returns-in-Err-clause-started g c =
     let after : ProgramsTold = (g.P.Programs.told c.start_one.new.programs) in
     let wires : List WireValue = c.children.wires.items in
     let wires' : List WireValue = c.start_one.new.wires.items in
-    broken_started o p c.args.setting.now.plan.now.setup c.args.setting.now.plan.now.offers c.args.setting.now.plan.now.starts c.children.made c.children.offer c.args.setting.now.plan.now.program cur new desks0 desks desks' before after wires wires' same_opening c.children.invariant.between
-    (at_err _ _ c.start_one.result c.in-Err.field-0 c.in-Err.is c.start_one.ensures.starts) legal
-    (let below = c.children-test.true in let end = c.children.auto.made-end in omega (arith, below, end))
+    let q = err_from_is_err_and c.from_residual.result c.from_residual.ensures.1 in
+    rw q.1 (broken_started o p c.args.setting.now.plan.now.setup c.args.setting.now.plan.now.offers c.args.setting.now.plan.now.starts c.children.made c.children.offer c.args.setting.now.plan.now.program cur new desks0 desks desks' before after wires wires' same_opening c.children.invariant.between
+    c.in_err-offer.ensures.starts legal
+    (let below = c.children-test.true in let end = c.children.auto.made-end in omega (arith, below, end)))
 
-pub returns-in-Err-clause-kept : goal.returns-in-Err-clause-kept
-returns-in-Err-clause-kept g c =
+pub returns-in_err-offer-clause-kept : goal.returns-in_err-offer-clause-kept
+returns-in_err-offer-clause-kept g c =
     let o = c.args.core.now.opening in
     let p = c.children.core.opening in
     let cur = c.children.core.journal in
@@ -99,11 +101,12 @@ returns-in-Err-clause-kept g c =
     let after : ProgramsTold = (g.P.Programs.told c.start_one.new.programs) in
     let wires : List WireValue = c.children.wires.items in
     let wires' : List WireValue = c.start_one.new.wires.items in
-    broken_kept o p c.args.setting.now.plan.now.setup c.args.setting.now.plan.now.offers c.args.setting.now.plan.now.starts c.children.made c.children.offer c.args.setting.now.plan.now.program cur new desks0 desks desks' start before after wires wires' same_opening c.children.invariant.between c.children.invariant.kept
-    (at_err _ _ c.start_one.result c.in-Err.field-0 c.in-Err.is c.start_one.ensures.starts)
+    let q = err_from_is_err_and c.from_residual.result c.from_residual.ensures.1 in
+    rw q.1 (broken_kept o p c.args.setting.now.plan.now.setup c.args.setting.now.plan.now.offers c.args.setting.now.plan.now.starts c.children.made c.children.offer c.args.setting.now.plan.now.program cur new desks0 desks desks' start before after wires wires' same_opening c.children.invariant.between c.children.invariant.kept
+    c.in_err-offer.ensures.starts)
 
-pub returns-in-Err-clause-core : goal.returns-in-Err-clause-core
-returns-in-Err-clause-core g c = cores_both c.children.invariant.core c.start_one.ensures.core
+pub returns-in_err-offer-clause-core : goal.returns-in_err-offer-clause-core
+returns-in_err-offer-clause-core g c = cores_both c.children.invariant.core c.start_one.ensures.core
 
 pub children-preserved : goal.children-preserved
 children-preserved g c =
@@ -121,8 +124,8 @@ children-preserved g c =
     let after : ProgramsTold = (g.P.Programs.told c.start_one.new.programs) in
     let wires : List WireValue = c.children.wires.items in
     let wires' : List WireValue = c.start_one.new.wires.items in
-    let after_one = next_job_start o p c.args.setting.now.plan.now.setup c.args.setting.now.plan.now.offers c.args.setting.now.plan.now.starts c.children.made c.children.offer c.in-Ok.next true c.args.setting.now.plan.now.program cur new desks0 desks desks' start before after wires wires'
-    same_opening c.children.invariant.between c.children.invariant.kept (at_ok _ _ c.start_one.result c.in-Ok.next c.in-Ok.is c.start_one.ensures.starts) legal in
+    let after_one = next_job_start o p c.args.setting.now.plan.now.setup c.args.setting.now.plan.now.offers c.args.setting.now.plan.now.starts c.children.made c.children.offer _ true c.args.setting.now.plan.now.program cur new desks0 desks desks' start before after wires wires'
+    same_opening c.children.invariant.between c.children.invariant.kept c.in_ok-offer.ensures.starts legal in
     record {
       between = after_one.0;
       kept = after_one.1;
