@@ -210,6 +210,6 @@ def case_words_print_or_are_refused(room):
     done = room.run([ANNEX_REMOTE_DIR, "--help"])
     expect((done.status, done.err), (0, ""), "--help")
     require("directory" in done.out, "the help names the setting")
-    for words in (["help"], ["--help", "x"], [""], ["-h"]):
+    for words in (["help"], ["--help", "x"], [""], ["-h"], [b"\xff"]):
         done = room.run([ANNEX_REMOTE_DIR, *words], input="PREPARE\n")
         expect((done.status, done.out), (2, ""), f"{words}")

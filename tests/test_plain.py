@@ -103,7 +103,7 @@ def case_words_print_or_are_refused(room):
     done = room.run([PLAIN, "--help"])
     expect((done.status, done.err), (0, ""), "--help")
     require("ANNEX_REMOTE_PROGRAM" in done.out, "the help names the variable")
-    for words in (["help"], ["--help", "x"], [""], ["-h"]):
+    for words in (["help"], ["--help", "x"], [""], ["-h"], [b"\xff"]):
         expect(room.run([PLAIN, *words], input="PREPARE\n"), Done(2, "", "annex-remote-plain: it takes no words\n"), f"{words}")
 
 
