@@ -93,7 +93,7 @@ impl Stage {
         let opening = opening(alloc, self.tasks.as_slice(), self.again)?;
         self.tasks.clear();
         self.again = 0;
-        self.core = Some(Core::new(alloc, opening)?);
+        drop(self.core.replace(Core::new(alloc, opening)?));
         Ok(())
     }
 
@@ -101,8 +101,12 @@ impl Stage {
     fn close(&mut self, out: &mut String) -> Result<(), NoMemory> {
         match self.core.take() {
             Some(core) => {
-                let (journal, _, _) = core.close();
-                Ok(words::tell_number(out, "entries", journal.len())?)
+                let (journal, registers, notes) = core.close();
+                let entries = journal.len();
+                drop(journal);
+                drop(registers);
+                drop(notes);
+                Ok(words::tell_number(out, "entries", entries)?)
             }
             None => Ok(words::tell(out, "no core")?),
         }

@@ -59,5 +59,8 @@ fn main(rt: HostRuntime) -> io::Result<()> {
         stage: Stage::new(rt.alloc()),
         talking: Talking::new(),
     };
-    print_rows(&rt, &mut scene)
+    let printed = print_rows(&rt, &mut scene);
+    // (a call is proved once, and a drop in place at each way out)
+    drop(scene);
+    printed
 }

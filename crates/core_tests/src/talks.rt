@@ -2,7 +2,8 @@
 use crate::{requests, words};
 use ann_key::NoMemory;
 use std::alloc::Global;
-use talk_serial::Talk;
+use std::mem;
+use talk_serial::{Request, Talk};
 use wire_msg::read_remote;
 
 /// A talk that goes on from row to row.
@@ -23,8 +24,10 @@ impl Talking {
         out: &mut String,
         text: &str,
     ) -> Result<(), NoMemory> {
-        self.talk = talk_about(alloc, text)?;
-        if self.talk.is_none() {
+        let talk = talk_about(alloc, text)?;
+        let has_none = talk.is_none();
+        drop(mem::replace(&mut self.talk, talk));
+        if has_none {
             words::tell(out, "no request")?;
         }
         Ok(())
@@ -42,9 +45,17 @@ impl Talking {
 // A talk about a copy of the request that the text spells.
 fn talk_about(alloc: Global, text: &str) -> Result<Option<Talk>, NoMemory> {
     match requests::request(alloc, text)? {
-        Some(request) => Ok(Some(Talk::ask(Talk::ask(request).request().copy(alloc)?))),
+        Some(request) => Ok(Some(Talk::ask(copied(alloc, request)?))),
         None => Ok(None),
     }
+}
+
+// A copy of the request that a talk about it has.
+fn copied(alloc: Global, request: Request) -> Result<Request, NoMemory> {
+    let talk = Talk::ask(request);
+    let copied = talk.request().copy(alloc);
+    drop(talk);
+    copied
 }
 
 fn hear(out: &mut String, talk: &mut Talk, line: &str) -> Result<(), NoMemory> {
@@ -60,7 +71,11 @@ pub(crate) fn heard(alloc: Global, out: &mut String, text: &str) -> Result<(), N
         return Ok(words::tell(out, "no line")?);
     };
     match talk_about(alloc, request)? {
-        Some(mut talk) => hear(out, &mut talk, line),
+        Some(mut talk) => {
+            let heard = hear(out, &mut talk, line);
+            drop(talk);
+            heard
+        }
         None => Ok(words::tell(out, "no request")?),
     }
 }

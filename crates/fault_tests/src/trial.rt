@@ -111,6 +111,7 @@ pub(crate) fn tell<R: Threads + Wait + Sync>(
         &mut clock,
     );
     let (status, entries) = (closing.status, closing.journal.len());
+    drop(closing);
     Ok(tell_end(text, status, &out, &err, entries)?)
 }
 
