@@ -164,6 +164,15 @@ def audit(text):
     return run([SPECIAL, "audit"], input=text)
 
 
+def preloaded(room, source):
+    """A library of the C file, built in the room, that a program loads by LD_PRELOAD."""
+    if not shutil.which("cc"):
+        skip("there is no cc")
+    made = room.path("preloaded.so")
+    subprocess.run(["cc", "-O2", "-shared", "-fPIC", "-o", made, f"{TOP}/{source}", "-ldl"], check=True)
+    return made
+
+
 class Room:
     """An empty folder of the case's own, and what is done in it."""
 

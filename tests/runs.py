@@ -10,7 +10,7 @@ def status_of(out):
     return 0 if all(line.partition(" ")[2] in WELL for line in out.splitlines()) else 1
 
 
-def expect_run(room, program, tasks, out, *words, jobs=4, starts=1, children=1, busy=1):
+def expect_run(room, program, tasks, out, *words, jobs=4, starts=1, children=1, busy=1, env=None):
     """Does the tasks, and gives the journal.
 
     It is expected what is printed, that the journal is legal, that so many
@@ -18,7 +18,7 @@ def expect_run(room, program, tasks, out, *words, jobs=4, starts=1, children=1, 
     each task was claimed once and then answered once by the same thread, and
     that each child heard and said what the journal has.
     """
-    done = room.run_command(program, tasks, "--jobs", str(jobs), "--starts", str(starts), *words)
+    done = room.run_command(program, tasks, "--jobs", str(jobs), "--starts", str(starts), *words, env=env)
     expect(done.out, out, "what is printed")
     expect(done, (status_of(out), out, ""), "the status and the errors")
     expect(audit(room.text("journal")), (0, "legal\n", ""), "the audit")

@@ -6,22 +6,11 @@ Both need a library that is preloaded, built by `cc`.
 import itertools
 import os
 import re
-import shutil
-import subprocess
 from concurrent.futures import ThreadPoolExecutor
 
-from harness import SPECIAL, TOP, UUID, expect, limits, require, run, skip, table
+from harness import SPECIAL, TOP, UUID, expect, limits, preloaded, require, run, table
 
 TASKS = "check WORM-s1--a\ncheck WORM-s1--b\n"
-
-
-def library(room, source):
-    """A library of the C file, built in the room."""
-    if not shutil.which("cc"):
-        skip("there is no cc")
-    made = room.path("preloaded.so")
-    subprocess.run(["cc", "-O2", "-shared", "-fPIC", "-o", made, f"{TOP}/{source}", "-ldl"], check=True)
-    return made
 
 
 def tells_of_memory(done):
@@ -37,7 +26,7 @@ def tells_of_memory(done):
 @limits(seconds=120)
 def a_run_that_is_refused_an_allocation_says_so_unless_others_do_its_tasks(room, jobs, remote):
     """Where a thread is refused the others do the tasks, or the main thread does; and where a pool's second child isn't ready, the first."""
-    refusing = library(room, "tools/refuse.c")
+    refusing = preloaded(room, "tools/refuse.c")
     for name in ("WORM-s1--a", "WORM-s1--b"):
         room.write(f"contents/{name}", "x")
 
@@ -88,7 +77,7 @@ with open(f"ends.{number}", "w") as file:
      'greet("ASYNC")\ntags = hear_all("CHECKPRESENT WORM--a")\nsay(tags[0] + "CHECKPRESENT-SUCCESS WORM--a")\n'),
 ])
 def a_child_sees_its_input_end_before_its_output_breaks(room, words, data, body):
-    slow = library(room, "tests/slow_close.c")
+    slow = preloaded(room, "tests/slow_close.c")
     room.children("remote", body + LISTENING)
     done = room.special(*words, input=data, env={"LD_PRELOAD": slow})
     expect(done.status, 0, f"the status, after {done}")

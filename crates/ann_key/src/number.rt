@@ -9,7 +9,7 @@ pub(super) fn is_digit(b: u8) -> bool
     b'0' <= b && b <= b'9'
 }
 
-/// Whether each byte is a decimal digit, as it is where there is none.
+/// Whether each byte is a decimal digit. True if there are no bytes.
 pub fn all_digits(bytes: &[u8]) -> bool
     ensures { result ≡ list_all is_digit bytes.now }
 {

@@ -120,8 +120,8 @@ impl Core {
         }
     }
 
-    /// One event, told by that number. What takes memory is taken in an order such that nothing has to be undone: the replies, then
-    /// room, then what is set or noted. So after running out of memory the core is as before.
+    /// One event, told by that number. Memory is taken in an order that leaves nothing to undo: the replies, then room, then what is
+    /// set or noted. So after running out of memory the core is as before.
     pub fn step(&mut self, by: u32, event: Event) -> Result<Reply, NoMemory>
         ensures reply { IfOk result (λ reply. reply ≡ told self.old.journal self.old.shut event (step_of self.old.opening self.old.journal by event).reply) }
         ensures journal { OnOk result (self.new.journal ≡ self.old.journal ++ (step_of self.old.opening self.old.journal by event).group) }
@@ -186,7 +186,7 @@ impl Core {
         }
     }
 
-    /// The bells that the event rings which was heeded last.
+    /// The bells that the last heeded event rings.
     pub(super) fn bells(&self) -> u64 {
         self.waits.bells()
     }
@@ -357,7 +357,7 @@ fn begin(alloc: Global, opening: &Opening) -> Result<Begun, NoMemory>
     }
 }
 
-// Takes what memory the move takes: room for its group, and what it sets or notes. Where memory runs out nothing but room was taken.
+// Takes what memory the move takes: room for its group, and what it sets or notes. If memory runs out, only room has been taken.
 fn take_memory(
     alloc: Global,
     journal: &mut Journal,

@@ -174,7 +174,7 @@ fn line_of(
     on_wire(alloc, journal, child, job, line)
 }
 
-/// The next job of the child, asked by that line, and by one that says the name before it, where there is one.
+/// Asks the child's next job with that line. If the request has a name, the line that says the name comes first.
 fn asked(
     alloc: Global,
     journal: &Journal,
@@ -266,7 +266,7 @@ fn ask(
     ask_next(alloc, opening, journal, by, child, task, request)
 }
 
-/// The same of a request that is its own.
+/// The same, for a request that it owns.
 fn ask_own(
     alloc: Global,
     opening: &Opening,
@@ -534,7 +534,7 @@ fn may_answer(journal: &Journal, by: u32, task: u32) -> bool
     is_claimed_by(journal, by, task) && !has_open_job(journal, task)
 }
 
-/// The task is run again in place of the answer, or answered so.
+/// Again if the task is run again, else its answer.
 fn closing(opening: &Opening, runs: &[Run], task: u32, answer: Answer) -> What
     ensures { (past : List Entry) → AreRuns opening.now past runs.now → result ≡ closing opening.now past task answer }
 {
@@ -640,7 +640,7 @@ pub(super) fn is_waiting(event: &Event) -> bool
     matches!(event, Event::Listen { .. } | Event::Fetch { .. })
 }
 
-/// What is answered to it by a core that is shut or not.
+/// The reply to an event, by whether it waits and whether the core is shut.
 pub(super) fn told(waits: bool, shut: bool, reply: Reply) -> Reply
     ensures { result ≡ (if waits then unless_shut shut reply else reply) }
 {

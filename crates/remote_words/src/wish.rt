@@ -40,7 +40,7 @@ fn wish_of_one(word: &str) -> Wish
     }
 }
 
-/// What the words ask for that the program was started with. Words that aren't UTF-8 are none that it knows. `None`: out of memory.
+/// What the program's arguments ask for. Arguments that aren't UTF-8 are refused. `None`: out of memory.
 pub fn read_wish<R: Env + AllocGlobal>(rt: &R) -> Option<Wish> {
     let args = match env::args(rt) {
         Ok(args) => args,
