@@ -1,9 +1,12 @@
-"""Runs of which a call fails by its number: a read or a write of a child's pipes, or the start of a thread.
+"""Runs of which a call fails by its number: a read or a write of a child's pipes, the start of a thread, or a call on a file.
 
 The library that fails them is preloaded, and built by `cc`.
 """
 
-from harness import SPECIAL, UUID, expect, preloaded, table
+import itertools
+import shutil
+
+from harness import ANNEX_REMOTE_DIR, SPECIAL, UUID, expect, preloaded, require, run, table
 from runs import check_answers, checks, expect_run
 
 # It ends without a word where nobody reads it any more.
@@ -87,3 +90,54 @@ def without_a_thread_the_first_thread_does_the_tasks_over_a_pool(room, most, bod
     claimed = claimers(room, most, ["greet()\n" + body] * 2)
     expect(len(claimed - {0}), workers, "the number of workers")
     expect(0 in claimed, workers == 0, "whether the first thread did a task")
+
+
+KEY, OLD, NEW = "WORM-s3--there", b"old", b"n" * 70_000
+READY = "VERSION 1\nGETCONFIG directory\nPREPARE-SUCCESS\n"
+
+
+def asked(room, name, request, env=None):
+    """What `annex-remote-dir` says to the request once it is ready, and all it says, in a copy of the room's folder `begun`."""
+    folder = room.path(name)
+    shutil.copytree(room.path("begun"), folder)
+    done = run([ANNEX_REMOTE_DIR], f"PREPARE\nVALUE d\n{request}\n", env, folder)
+    expect((done.status, done.err), (0, ""), f"the end of {done}")
+    return done.out.splitlines()[-1]
+
+
+def content(room, name):
+    """What is there under the key; None if nothing is."""
+    directory = room.folder / name / "d"
+    places = [path for path in directory.rglob(KEY) if directory / "tmp" not in path.parents]
+    require(len(places) < 2, f"one place, not {places}")
+    return places[0].read_bytes() if places else None
+
+
+# A request, how it is answered where no call fails, and what may be there after a call that failed.
+@table([
+    ("store", f"TRANSFER STORE {KEY} new", f"TRANSFER-SUCCESS STORE {KEY}", [OLD, NEW]),
+    ("retrieve", f"TRANSFER RETRIEVE {KEY} out", f"TRANSFER-SUCCESS RETRIEVE {KEY}", [OLD]),
+    ("check", f"CHECKPRESENT {KEY}", f"CHECKPRESENT-SUCCESS {KEY}", [OLD]),
+    ("remove", f"REMOVE {KEY}", f"REMOVE-SUCCESS {KEY}", [OLD, None]),
+])
+def a_content_is_whole_or_as_before_whichever_call_on_a_file_fails(room, request, well, may_be):
+    failing = preloaded(room, "tests/failing_calls.c")
+    room.write("begun/f", OLD)
+    expect(run([ANNEX_REMOTE_DIR], f"PREPARE\nVALUE d\nTRANSFER STORE {KEY} f\n", cwd=room.path("begun")).out, READY + f"TRANSFER-SUCCESS STORE {KEY}\n")
+    room.write("begun/new", NEW)
+    failed = 0
+    for number in itertools.count(1):
+        name, mark = f"at-{number}", room.path(f"failed-{number}")
+        said = asked(room, name, request, {"LD_PRELOAD": failing, "FAIL_FILE": number, "FAILED": mark})
+        there = content(room, name)
+        if not room.has(mark):
+            break
+        require(there in may_be, f"call {number} failed: {said!r}, and {there and len(there)} bytes are there")
+        if said == well:
+            require(there == may_be[-1], f"call {number} failed: {said!r}, but it isn't done")
+            require("RETRIEVE" not in request or room.read(f"{name}/out") == OLD, f"call {number} failed: {said!r}, but nothing whole was retrieved")
+        else:
+            failed += 1
+            require(not said.startswith("CHECKPRESENT-FAILURE"), f"call {number} failed: {said!r}")
+    expect((said, there), (well, may_be[-1]), "where no call fails")
+    require(failed > 0, "no call's failure was told")

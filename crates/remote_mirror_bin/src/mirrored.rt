@@ -5,7 +5,7 @@ ghost use Rattle.mirror_plan.specs.Settings.{names};
 use ann_key::{KeyRef, NoMemory};
 use ann_os::OsPrograms;
 use kit_core::{Availability, Describe, Pair, Remote, Said, Values, Where};
-use mirror_remote::{Ended, MirrorRemote};
+use mirror_remote::MirrorRemote;
 use std::alloc::{AllocGlobal, Global};
 use std::process::{Processes, SystemProcess};
 
@@ -27,11 +27,7 @@ impl<R: Processes<Started = SystemProcess> + AllocGlobal> Mirrored<R> {
         R: Drop,
     {
         let Mirrored { mirror } = self;
-        let Ended {
-            programs: _,
-            journals: _,
-            wires: _,
-        } = mirror.finish();
+        drop(mirror.finish());
     }
 }
 

@@ -50,5 +50,7 @@ fn main(rt: HostRuntime) -> ExitCode {
         &mut err,
         &mut clock,
     );
-    ExitCode::from(closing.status)
+    let status = closing.status;
+    drop(closing);
+    ExitCode::from(status)
 }
