@@ -1,9 +1,9 @@
 // The status of a real child, and streams of std that fail.
+use crate::calls::expect_count;
 use ann_os::{OsInput, OsOutput, OsPrograms};
 use ann_outside::{Failed, Programs, Sink, Source, StartError, Started};
 use std::io;
 use std::io::{ErrorKind, Read, Write};
-use std::process::Abort;
 
 #[test]
 fn a_status_is_handed_on(rt: HostRuntime) -> Result<(), StartError> {
@@ -52,10 +52,6 @@ impl Write for Flaky {
         self.next()?;
         Ok(())
     }
-}
-
-fn expect_count(rt: &impl Abort, came: Result<usize, Failed>, want: Result<usize, Failed>) {
-    assert_eq!(rt; came, want);
 }
 
 #[test]
