@@ -1,5 +1,5 @@
 // Calls of a desk as rows of a table, and what each answers.
-use ann_outside::{Desk, DeskError};
+use ann_outside::{Desk, DeskError, Failed};
 use std::process::Abort;
 
 #[derive(Clone, Copy)]
@@ -77,6 +77,18 @@ fn cut<D: Desk>(desk: &mut D, name: &str, size: u64) -> Result<(), DeskError> {
     desk.cut(name, size)
 }
 
+/// Goes over the rows, one call after the other, and lets the desk go.
+pub fn expect_rows<D: Desk + Drop>(rt: &impl Abort, mut desk: D, rows: &[Row<'_>]) {
+    for (at, row) in rows.iter().enumerate() {
+        expect_row(rt, at, &mut desk, row);
+    }
+}
+
 pub fn expect_row<D: Desk>(rt: &impl Abort, at: usize, desk: &mut D, row: &Row<'_>) {
     assert_eq!(rt; answer_of(desk, &row.0, &row.1), row.1, "at row {at}");
+}
+
+/// Of a read or a write. A call of its own keeps what a failure prints out of the proof of each test.
+pub fn expect_count(rt: &impl Abort, came: Result<usize, Failed>, want: Result<usize, Failed>) {
+    assert_eq!(rt; came, want);
 }

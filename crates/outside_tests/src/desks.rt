@@ -1,10 +1,11 @@
 // Desks in memory, and desks that share one map.
 use crate::calls::Came::{Bytes, Done, Failed, Length, Missing};
 use crate::calls::Step::{Append, Create, CreateNew, Cut, Read, Remove, Rename, Size, Sync};
-use crate::calls::{Row, expect_row};
+use crate::calls::{Row, expect_row, expect_rows};
 use ann_key::NoMemory;
-use ann_outside::{Desks, MemDesk, MemDesks};
+use ann_outside::{Desk, Desks, MemDesk, MemDesks};
 use shared_desks::SharedDesks;
+use std::process::Abort;
 use std::test::Fail;
 
 static CALLS: [Row<'static>; 13] = [
@@ -27,10 +28,9 @@ static CALLS: [Row<'static>; 13] = [
 #[test]
 fn each_call_of_a_desk_in_memory_succeeds(rt: HostRuntime) -> Result<(), NoMemory> {
     let mut desks = MemDesks::new(rt.alloc(), Vec::new(rt.alloc()));
-    let mut desk = desks.desk(0)?;
-    for (at, row) in CALLS.iter().enumerate() {
-        expect_row(&rt, at, &mut desk, row);
-    }
+    let desk = desks.desk(0)?;
+    drop(desks);
+    expect_rows(&rt, desk, &CALLS);
     Ok(())
 }
 
@@ -43,17 +43,21 @@ static SHARED: [(Row<'static>, Row<'static>); 6] = [
     ((Read("b", 0, 9), Missing), (Size("b"), Missing)),
 ];
 
+fn expect_shared<D: Desk + Drop>(rt: &impl Abort, mut first: D, mut second: D) {
+    for (at, (one, other)) in SHARED.iter().enumerate() {
+        expect_row(rt, at, &mut first, one);
+        expect_row(rt, at, &mut second, other);
+    }
+}
+
 // What one desk does the other sees, and the calls of both are numbered together.
 #[test]
 fn two_desks_are_one_map(rt: HostRuntime) -> Result<(), Fail> {
     let fails = Vec::from_slice(rt.alloc(), &[3])?;
     let map = MemDesk::new(rt.alloc(), Vec::new(rt.alloc()), fails)?;
     let mut desks = SharedDesks::new(&rt, rt.alloc(), map)?;
-    let mut first = desks.desk(1)?;
-    let mut second = desks.desk(2)?;
-    for (at, (one, other)) in SHARED.iter().enumerate() {
-        expect_row(&rt, at, &mut first, one);
-        expect_row(&rt, at, &mut second, other);
-    }
+    let first = desks.desk(1)?;
+    let second = desks.desk(2)?;
+    expect_shared(&rt, first, second);
     Ok(())
 }

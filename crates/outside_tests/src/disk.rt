@@ -1,10 +1,11 @@
 // Files of this machine.
 use crate::calls::Came::{Bytes, Done, Failed, Length, Missing};
 use crate::calls::Step::{Append, Create, CreateNew, Cut, Read, Remove, Rename, Size, Sync};
-use crate::calls::{Row, expect_row};
+use crate::calls::{Row, expect_row, expect_rows};
 use ann_os::OsDesks;
-use ann_outside::Desks;
+use ann_outside::{Desk, Desks};
 use std::fs;
+use std::process::Abort;
 use std::test::Fail;
 
 static CALLS: [Row<'static>; 49] = [
@@ -69,10 +70,8 @@ static CALLS: [Row<'static>; 49] = [
 
 #[test]
 fn calls_on_files_and_folders(rt: HostRuntime) -> Result<(), Fail> {
-    let mut desk = OsDesks::new(&rt).desk(0)?;
-    for (at, row) in CALLS.iter().enumerate() {
-        expect_row(&rt, at, &mut desk, row);
-    }
+    let desk = OsDesks::new(&rt).desk(0)?;
+    expect_rows(&rt, desk, &CALLS);
     fs::remove_dir_all(&rt, "calls")?;
     Ok(())
 }
@@ -81,18 +80,22 @@ static LOCKED: Row<'static> = (Read("locked/file", 0, 4), Failed);
 
 static NO_FILE: Row<'static> = (Read("locked/file", 0, 4), Missing);
 
+// The second main desk reads the file once the first one is gone.
+fn expect_in_turn<D: Desk + Drop>(rt: &impl Abort, mut first: D, mut second: D, mut worker: D) {
+    expect_row(rt, 0, &mut first, &NO_FILE);
+    expect_row(rt, 1, &mut second, &LOCKED);
+    expect_row(rt, 2, &mut worker, &NO_FILE);
+    drop(first);
+    expect_row(rt, 3, &mut second, &NO_FILE);
+}
+
 #[test]
 fn one_main_desk_at_a_time_reads_a_file(rt: HostRuntime) -> Result<(), Fail> {
     let mut desks = OsDesks::new(&rt);
-    let mut worker = desks.desk(1)?;
-    let mut second = desks.desk(0)?;
-    {
-        let mut first = desks.desk(0)?;
-        expect_row(&rt, 0, &mut first, &NO_FILE);
-        expect_row(&rt, 1, &mut second, &LOCKED);
-        expect_row(&rt, 2, &mut worker, &NO_FILE);
-    }
-    expect_row(&rt, 3, &mut second, &NO_FILE);
+    let worker = desks.desk(1)?;
+    let second = desks.desk(0)?;
+    let first = desks.desk(0)?;
+    expect_in_turn(&rt, first, second, worker);
     fs::remove_dir_all(&rt, "locked")?;
     Ok(())
 }

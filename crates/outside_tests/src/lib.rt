@@ -1,8 +1,10 @@
-// Desks, call by call: in memory, shared, and over the files of this machine; streams that fail.
+// Desks, call by call: in memory, shared, and over the files of this machine; streams that fail; a child in memory.
 #![tactic(auto)]
 
 #[cfg(test)]
 mod calls;
+#[cfg(test)]
+mod children;
 #[cfg(test)]
 mod desks;
 #[cfg(test)]

@@ -1,4 +1,5 @@
 // The status of a real child, and streams of std that fail.
+use crate::calls::expect_count;
 use ann_os::{OsInput, OsOutput, OsPrograms};
 use ann_outside::{Failed, Programs, Sink, Source, StartError, Started};
 use std::io;
@@ -57,13 +58,13 @@ impl Write for Flaky {
 fn an_interrupted_call_is_tried_again(rt: HostRuntime) {
     let mut input = OsInput::new(Flaky { calls: 0 });
     let mut buf = [0; 4];
-    assert_eq!(rt; input.read(&mut buf), Ok(1));
-    assert_eq!(rt; input.read(&mut buf), Err(Failed));
-    assert_eq!(rt; input.read(&mut buf), Ok(0));
+    expect_count(&rt, input.read(&mut buf), Ok(1));
+    expect_count(&rt, input.read(&mut buf), Err(Failed));
+    expect_count(&rt, input.read(&mut buf), Ok(0));
 
     let mut output = OsOutput::new(Flaky { calls: 0 });
-    assert_eq!(rt; output.write(&[1, 2]), Ok(1));
-    assert_eq!(rt; output.flush(), Err(Failed));
-    assert_eq!(rt; output.write(&[3]), Err(Failed));
-    assert_eq!(rt; output.write(&[]), Ok(0));
+    expect_count(&rt, output.write(&[1, 2]), Ok(1));
+    assert!(rt; output.flush().is_err());
+    expect_count(&rt, output.write(&[3]), Err(Failed));
+    expect_count(&rt, output.write(&[]), Ok(0));
 }

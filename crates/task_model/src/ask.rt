@@ -1,11 +1,13 @@
 // The requests of a task, made, asked and let go. Those of exports follow the task's name.
-//
-// A request is asked in a function of its own, since what lets it go goes by its kinds.
 ghost use Rattle.std.specs.Prelude.{◌≡◌, true, false, IfOk, None, Some};
 ghost use Rattle.ann_key.specs.KeyRefs.{text_of};
 ghost use Rattle.annex_model.specs.Lines.{has_newline};
-ghost use Rattle.annex_model.specs.Messages.{Checkpresent, Remove, Transfer, Checkpresentexport, Removeexport, Renameexport, Transferexport, is_sent_key};
-ghost use Rattle.task_model.specs.Askers.{AskAdds, IsSameTask};
+ghost use Rattle.annex_model.specs.Messages.{Checkpresent, Remove, Transfer, Checkpresentexport, Removeexport, Renameexport, Transferexport, is_askable, is_sent_key};
+ghost use Rattle.annex_model.specs.Turns.{turn_of};
+ghost use Rattle.annex_model.specs.declared.turn.Turn.TheVariants.{Later};
+ghost use Rattle.journal_model.specs.Projection.{IsNamed};
+ghost use Rattle.talk_serial.specs.Requests.{message_of, name_of};
+ghost use Rattle.task_model.specs.Askers.{AskAdds, IsSameTask, is_said_in_line, names_in_line};
 ghost use Rattle.task_model.specs.Ran.{is_verdict_of};
 
 use crate::Asker;
@@ -13,6 +15,31 @@ use ann_key::{Key, KeyRef, NoMemory, Text};
 use journal_model::Verdict;
 use std::alloc::Global;
 use talk_serial::Request;
+
+// Asks the request, and lets it go: in one place, since what lets it go goes by its kinds.
+fn ask_own<A: Asker>(
+    alloc: Global,
+    asker: &mut A,
+    number: u32,
+    request: Request,
+) -> Result<Verdict, NoMemory>
+    requires task { number ≡ (A.told asker.old).task }
+    requires ready { A.ready asker.old }
+    requires turn { turn_of (message_of request) ≡ Later }
+    requires fields { is_askable (message_of request) ≡ true }
+    requires file { names_in_line (message_of request) ≡ true }
+    requires name { is_said_in_line (name_of request) ≡ true }
+    ensures pairs { AskAdds (A.told asker.old).pairs (A.told asker.new).pairs (name_of request) (message_of request) result }
+    ensures named { IfOk result (IsNamed (message_of request)) }
+    ensures notes { (A.told asker.new).notes ≡ (A.told asker.old).notes }
+    ensures layouts { (A.told asker.new).current ≡ (A.told asker.old).current }
+    ensures same { IsSameTask (A.told asker.old) (A.told asker.new) }
+    ensures on { A.goes_on asker.old asker.new }
+{
+    let verdict = asker.ask(alloc, number, &request);
+    drop(request);
+    verdict
+}
 
 /// Whether the key is there.
 pub fn present<A: Asker>(
@@ -32,7 +59,7 @@ pub fn present<A: Asker>(
     ensures on { A.goes_on asker.old asker.new }
 {
     let key = Key::copy(alloc, key)?;
-    asker.ask(alloc, number, &Request::CheckPresent { key })
+    ask_own(alloc, asker, number, Request::CheckPresent { key })
 }
 
 /// That the key be removed.
@@ -53,7 +80,7 @@ pub fn remove<A: Asker>(
     ensures on { A.goes_on asker.old asker.new }
 {
     let key = Key::copy(alloc, key)?;
-    asker.ask(alloc, number, &Request::Remove { key })
+    ask_own(alloc, asker, number, Request::Remove { key })
 }
 
 /// That the file be stored as the key, or the key fetched into the file.
@@ -78,7 +105,7 @@ pub fn transfer<A: Asker>(
 {
     let key = Key::copy(alloc, key)?;
     let file = Text::copy(alloc, file)?;
-    asker.ask(alloc, number, &Request::Transfer { store, key, file })
+    ask_own(alloc, asker, number, Request::Transfer { store, key, file })
 }
 
 /// Whether the key is there under the name.
@@ -102,7 +129,7 @@ pub fn present_named<A: Asker>(
 {
     let key = Key::copy(alloc, key)?;
     let name = Text::copy(alloc, name)?;
-    asker.ask(alloc, number, &Request::CheckExport { key, name })
+    ask_own(alloc, asker, number, Request::CheckExport { key, name })
 }
 
 /// That what is there under the name, which is the key, be removed.
@@ -126,7 +153,7 @@ pub fn remove_named<A: Asker>(
 {
     let key = Key::copy(alloc, key)?;
     let name = Text::copy(alloc, name)?;
-    asker.ask(alloc, number, &Request::RemoveExport { key, name })
+    ask_own(alloc, asker, number, Request::RemoveExport { key, name })
 }
 
 /// That what is there under the name, which is the key, get another name.
@@ -153,7 +180,12 @@ pub fn rename_named<A: Asker>(
     let key = Key::copy(alloc, key)?;
     let name = Text::copy(alloc, name)?;
     let onto = Text::copy(alloc, onto)?;
-    asker.ask(alloc, number, &Request::RenameExport { key, name, onto })
+    ask_own(
+        alloc,
+        asker,
+        number,
+        Request::RenameExport { key, name, onto },
+    )
 }
 
 /// That the file be stored as the key under the name, or what is there under it fetched into the file.
@@ -181,10 +213,11 @@ pub fn transfer_named<A: Asker>(
     let key = Key::copy(alloc, key)?;
     let file = Text::copy(alloc, file)?;
     let name = Text::copy(alloc, name)?;
-    asker.ask(
+    ask_own(
         alloc,
+        asker,
         number,
-        &Request::TransferExport {
+        Request::TransferExport {
             store,
             key,
             file,
