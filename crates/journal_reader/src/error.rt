@@ -8,7 +8,7 @@ pub enum JournalError {
     #[error("line {line} can't follow")]
     BadLine { line: u64 },
     /// The last line is missing after this many.
-    #[error("no end behind line {line}")]
+    #[error("no end after line {line}")]
     Cut { line: u64 },
     #[error("no memory")]
     NoMemory,

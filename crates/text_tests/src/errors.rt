@@ -70,5 +70,5 @@ fn an_error_of_a_text_names_its_line(rt: HostRuntime) -> Result<(), Fail> {
     let alloc = rt.alloc();
     expect(&rt, alloc, &kept(alloc), "line 3 is none of a kept file")?;
     expect(&rt, alloc, &pushed(alloc), "line 1 can't follow")?;
-    expect(&rt, alloc, &finished(alloc), "no end behind line 0")
+    expect(&rt, alloc, &finished(alloc), "no end after line 0")
 }
