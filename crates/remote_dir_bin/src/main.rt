@@ -88,11 +88,11 @@ fn directories(rt: &HostRuntime) -> Result<Vec<Directory<'_>>, NoMemory>
     } else {
         OsDesks::unsynced(rt)
     };
-    let mut remotes = Vec::new(rt.alloc());
-    remotes.push(directory(rt, &mut desks, micros, 1)?)?;
-    remotes.push(directory(rt, &mut desks, micros, 2)?)?;
-    remotes.push(directory(rt, &mut desks, micros, 3)?)?;
-    remotes.push(directory(rt, &mut desks, micros, 4)?)?;
+    let mut remotes = Vec::with_capacity(rt.alloc(), 4)?;
+    remotes.push_reserved(directory(rt, &mut desks, micros, 1)?);
+    remotes.push_reserved(directory(rt, &mut desks, micros, 2)?);
+    remotes.push_reserved(directory(rt, &mut desks, micros, 3)?);
+    remotes.push_reserved(directory(rt, &mut desks, micros, 4)?);
     Ok(remotes)
 }
 
@@ -106,21 +106,25 @@ fn facts(alloc: Global) -> Result<Vec<Fact>, NoMemory> {
     Ok(facts)
 }
 
+// Serves the directory until the host is done. The status to end with.
+fn serve(rt: &HostRuntime) -> Result<u8, NoMemory> {
+    let facts = facts(rt.alloc())?;
+    let remotes = directories(rt)?;
+    let input = OsInput::new(rt.stdin());
+    let output = OsOutput::new(rt.stdout());
+    let end = serve_async_described(rt, rt.alloc(), remotes, facts, input, output);
+    let status = end.status;
+    drop(end);
+    Ok(status)
+}
+
 fn main(rt: HostRuntime) -> ExitCode {
-    let alloc = rt.alloc();
     let status = match read_wish(&rt) {
         None => 7,
         Some(Wish::Help) => print(&mut OsOutput::new(rt.stdout()), HELP, 0),
         Some(Wish::Version) => print(&mut OsOutput::new(rt.stdout()), VERSION, 0),
         Some(Wish::Refused) => print(&mut OsErrors::new(rt.stderr()), USAGE, 2),
-        Some(Wish::Serve) => match (directories(&rt), facts(alloc)) {
-            (Ok(remotes), Ok(facts)) => {
-                let input = OsInput::new(rt.stdin());
-                let output = OsOutput::new(rt.stdout());
-                serve_async_described(&rt, alloc, remotes, facts, input, output).status
-            }
-            _ => 7,
-        },
+        Some(Wish::Serve) => serve(&rt).unwrap_or(7),
     };
     ExitCode::from(status)
 }
