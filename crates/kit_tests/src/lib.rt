@@ -1,8 +1,6 @@
-//! Tests of the kit over public calls: a remote in memory whose calls fail, and kits as the children that a host starts.
+//! Tests of the kit over public calls: a remote that speaks while it is called, and kits as the children that a host starts.
 #![tactic(auto)]
 
-#[cfg(test)]
-mod disk;
 mod empty;
 #[cfg(test)]
 mod programs;
