@@ -27,7 +27,9 @@ fn tell(alloc: Global, out: &mut String, core: &mut KitCore, row: &str) -> Resul
     match events::event(alloc, rest)? {
         Some(event) => {
             let reply = core.step(by, event)?;
-            Ok(replies::tell(out, &reply)?)
+            let told = replies::tell(out, &reply);
+            drop(reply);
+            Ok(told?)
         }
         None => Ok(write!(out, " => no event")?),
     }
@@ -41,8 +43,8 @@ fn play(
     row: &str,
 ) -> Result<(), NoMemory> {
     match row {
-        "new" => *stage = Some(beginnings::silent(alloc)?),
-        "new told" => *stage = Some(beginnings::told(alloc)?),
+        "new" => drop(stage.replace(beginnings::silent(alloc)?)),
+        "new told" => drop(stage.replace(beginnings::told(alloc)?)),
         _ => {
             if let Some(core) = stage {
                 tell(alloc, out, core, row)?;
@@ -76,5 +78,8 @@ fn print_rows(
 
 fn main(rt: HostRuntime) -> io::Result<()> {
     let mut stage = None;
-    print_rows(&rt, &mut stage)
+    let printed = print_rows(&rt, &mut stage);
+    // (a call is proved once, and a drop in place at each way out)
+    drop(stage);
+    printed
 }

@@ -74,11 +74,13 @@ where
     let written = write_all(&mut inlet, says);
     assert!(rt; written.is_ok());
     inlet.close();
-    let bytes = heard(alloc, &mut outlet)?;
+    let bytes = heard(alloc, &mut outlet);
     outlet.close();
+    drop(inlet);
+    drop(outlet);
     let finished = programs.finish(stub);
     assert!(rt; finished.is_ok());
-    Ok(bytes)
+    Ok(bytes?)
 }
 
 // Whether the source gives just these bytes next.
@@ -144,9 +146,13 @@ fn a_child_hears_all_that_is_written(rt: HostRuntime) -> Result<(), Fail> {
     assert!(rt; gives(&mut outlet, b"VERSION 1\nPREPARE-SUCCESS\n"));
     assert!(rt; talks(&mut inlet, &mut outlet, says.as_slice(), hears.as_slice()));
     inlet.close();
-    assert!(rt; heard(alloc, &mut outlet)?.is_empty());
+    drop(inlet);
+    let rest = heard(alloc, &mut outlet);
     outlet.close();
+    drop(outlet);
     assert!(rt; programs.finish(stub).is_ok());
+    drop(programs);
+    assert!(rt; rest?.is_empty());
     Ok(())
 }
 
@@ -170,7 +176,9 @@ fn halves_of_a_child_are_settled(rt: HostRuntime) -> Result<(), Fail> {
     assert!(rt; outlet.read(&mut buf).is_ok());
     outlet.close();
     outlet.settle(&mut inlet);
+    drop(inlet);
     assert!(rt; programs.finish(stub).is_ok());
+    drop(programs);
     Ok(())
 }
 
@@ -202,8 +210,9 @@ fn a_child_says_what_its_kit_says(rt: HostRuntime) -> Result<(), Fail> {
     ];
     for (says, lines, heard) in rows {
         let mut programs = KitPrograms::with_progress(&rt, alloc, Empties, lines);
-        let left = said(&rt, alloc, &mut programs, says)?;
-        assert_eq!(rt; left.as_slice(), heard);
+        let left = said(&rt, alloc, &mut programs, says);
+        drop(programs);
+        assert!(rt; left?.as_slice() == heard);
     }
     Ok(())
 }
@@ -211,7 +220,8 @@ fn a_child_says_what_its_kit_says(rt: HostRuntime) -> Result<(), Fail> {
 #[test]
 fn no_child_is_started_where_its_remote_finds_no_memory(rt: HostRuntime) -> Result<(), Fail> {
     let mut programs = KitPrograms::new(&rt, rt.alloc(), NoRemotes);
-    let left = said(&rt, rt.alloc(), &mut programs, b"PREPARE\n")?;
-    assert!(rt; left.is_empty());
+    let left = said(&rt, rt.alloc(), &mut programs, b"PREPARE\n");
+    drop(programs);
+    assert!(rt; left?.is_empty());
     Ok(())
 }

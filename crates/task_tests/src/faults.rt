@@ -1,5 +1,5 @@
 // Each call of the desk failing in turn.
-use crate::trial::{Case, Files, tried, tried_in};
+use crate::trial::{Case, Files, Outcome, tried, tried_in};
 use std::alloc::Global;
 use std::process::Abort;
 use std::test::Fail;
@@ -226,18 +226,37 @@ static STORES: [Row; 4] = [
     },
 ];
 
+// Calls of their own keep what a failure prints out of the proof of the loops.
+fn expect(rt: &impl Abort, holds: bool, line: &str, call: u64) {
+    assert!(rt; holds, "{line}: call {call}");
+}
+
+// The task's answer, how many calls were made, and the word and the file of the last one.
+fn expect_end(
+    rt: &impl Abort,
+    came: Outcome,
+    line: &str,
+    answer: &str,
+    (count, word, name): (u64, &str, &str),
+) {
+    let holds = came.answer == answer && came.ends_with(count, word, name);
+    drop(came);
+    expect(rt, holds, line, count);
+}
+
 fn expect_row(rt: &impl Abort, alloc: Global, turn: u32, row: &Row) -> Result<(), Fail> {
     let line = row.case.line;
     for (at, (word, name, left)) in row.calls.iter().enumerate() {
         let number = at as u64 + 1;
         let came = tried_in(alloc, &row.case, turn, number)?;
-        assert_eq!(rt; came.answer, "filefault", "{line}: call {number}");
-        assert!(rt; came.ends_with(number, word, name), "{line}: call {number}");
-        assert_eq!(rt; came.other(left), "", "{line}: call {number}");
+        expect(rt, came.other(left).is_empty(), line, number);
+        expect_end(rt, came, line, "filefault", (number, *word, *name));
     }
     // no more calls are made
     let came = tried_in(alloc, &row.case, turn, row.calls.len() as u64 + 1)?;
-    assert_eq!(rt; came.answer, row.answer, "{line}");
+    let answer = came.answer;
+    drop(came);
+    expect(rt, answer == row.answer, line, 0);
     Ok(())
 }
 
@@ -319,8 +338,7 @@ fn names_are_checked_dropped_and_renamed(rt: HostRuntime) -> Result<(), Fail> {
             files: &[],
         };
         let came = tried(rt.alloc(), &case, 1)?;
-        assert_eq!(rt; came.answer, *answer, "{line}");
-        assert!(rt; came.ends_with(0, "", ""), "{line}");
+        expect_end(&rt, came, line, answer, (0, "", ""));
     }
     Ok(())
 }

@@ -79,8 +79,8 @@ impl Asker for DoneAsker {
     ghost goes_both = { λ a b d s r. tt };
 
     fn ask(&mut self, alloc: Global, number: u32, request: &Request) -> Result<Verdict, NoMemory> {
-        let request = request.copy(alloc)?;
         self.asked.reserve(1)?;
+        let request = request.copy(alloc)?;
         let verdict = verdict_of(&request);
         self.asked.push_reserved((request, verdict));
         Ok(verdict)

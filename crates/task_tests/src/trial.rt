@@ -84,6 +84,12 @@ fn setup_of(alloc: Global, chunk: u64) -> Result<Setup, NoMemory>
     })
 }
 
+fn outcome_of(answer: Answer, desk: MemDesk) -> Outcome {
+    let word = word_of(&answer);
+    drop(answer);
+    Outcome { answer: word, desk }
+}
+
 fn run(
     alloc: Global,
     task: &Task,
@@ -93,14 +99,26 @@ fn run(
 ) -> Result<Outcome, NoMemory>
     requires { IsTask task.now }
 {
-    let layouts = layouts_of(alloc, case.layouts)?;
     let setup = setup_of(alloc, case.chunk)?;
+    let layouts = layouts_of(alloc, case.layouts)?;
     let mut asker = DoneAsker::new(alloc, 1, may_note(task.work), layouts);
-    let answer = run_task(alloc, task, 1, turn, &setup, &mut asker, &mut desk)?;
-    Ok(Outcome {
-        answer: word_of(&answer),
-        desk,
-    })
+    let answer = run_task(alloc, task, 1, turn, &setup, &mut asker, &mut desk);
+    drop(asker);
+    drop(setup);
+    Ok(outcome_of(answer?, desk))
+}
+
+fn tried_task(
+    alloc: Global,
+    task: &Task,
+    case: &Case,
+    turn: u32,
+    fails: u64,
+) -> Result<Outcome, NoMemory>
+    requires { IsTask task.now }
+{
+    let desk = desk_of(alloc, case.files, fails)?;
+    run(alloc, task, case, turn, desk)
 }
 
 /// The case as task 1, where the desk's call of that number fails.
@@ -111,8 +129,9 @@ pub fn tried(alloc: Global, case: &Case, fails: u64) -> Result<Outcome, TaskErro
 /// The same in this turn of the task.
 pub fn tried_in(alloc: Global, case: &Case, turn: u32, fails: u64) -> Result<Outcome, TaskError> {
     let task = read_task(alloc, case.line.as_bytes())?;
-    let desk = desk_of(alloc, case.files, fails)?;
-    Ok(run(alloc, &task, case, turn, desk)?)
+    let outcome = tried_task(alloc, &task, case, turn, fails);
+    drop(task);
+    Ok(outcome?)
 }
 
 fn word_of(answer: &Answer) -> &'static str {
