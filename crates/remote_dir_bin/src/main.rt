@@ -106,16 +106,12 @@ fn facts(alloc: Global) -> Result<Vec<Fact>, NoMemory> {
     Ok(facts)
 }
 
-// Serves the directory until the host is done. The status to end with.
-fn serve(rt: &HostRuntime) -> Result<u8, NoMemory> {
+// What is served, and what is told of it.
+fn served(rt: &HostRuntime) -> Result<(Vec<Directory<'_>>, Vec<Fact>), NoMemory>
+    ensures { IfOk result (λ served. vec_len served.0 ≡ 4) }
+{
     let facts = facts(rt.alloc())?;
-    let remotes = directories(rt)?;
-    let input = OsInput::new(rt.stdin());
-    let output = OsOutput::new(rt.stdout());
-    let end = serve_async_described(rt, rt.alloc(), remotes, facts, input, output);
-    let status = end.status;
-    drop(end);
-    Ok(status)
+    Ok((directories(rt)?, facts))
 }
 
 fn main(rt: HostRuntime) -> ExitCode {
@@ -124,7 +120,17 @@ fn main(rt: HostRuntime) -> ExitCode {
         Some(Wish::Help) => print(&mut OsOutput::new(rt.stdout()), HELP, 0),
         Some(Wish::Version) => print(&mut OsOutput::new(rt.stdout()), VERSION, 0),
         Some(Wish::Refused) => print(&mut OsErrors::new(rt.stderr()), USAGE, 2),
-        Some(Wish::Serve) => serve(&rt).unwrap_or(7),
+        Some(Wish::Serve) => match served(&rt) {
+            Ok((remotes, facts)) => {
+                let input = OsInput::new(rt.stdin());
+                let output = OsOutput::new(rt.stdout());
+                let end = serve_async_described(&rt, rt.alloc(), remotes, facts, input, output);
+                let status = end.status;
+                drop(end);
+                status
+            }
+            Err(_) => 7,
+        },
     };
     ExitCode::from(status)
 }
