@@ -74,6 +74,12 @@ fn prepare_request(by_prepare: bool) -> HostMsg<'static>
     }
 }
 
+fn no_values(alloc: Global) -> Values
+    ensures { result ≡ [] }
+{
+    Values::new(Vec::new(alloc))
+}
+
 // The values, and this one behind them.
 fn one_more(alloc: Global, values: Values, value: &[u8]) -> Result<Values, NoMemory>
     ensures { IfOk result (λ more. more ≡ values ++ value.now ∷ []) }
@@ -274,8 +280,8 @@ impl<R: Remote> Kit<R> {
     {
         match message {
             HostMsg::Extensions(_) => self.say(RemoteMsg::Extensions(b"")),
-            HostMsg::Prepare => self.ready(true, Values::new(Vec::new(self.alloc))),
-            HostMsg::Initremote => self.ready(false, Values::new(Vec::new(self.alloc))),
+            HostMsg::Prepare => self.ready(true, no_values(self.alloc)),
+            HostMsg::Initremote => self.ready(false, no_values(self.alloc)),
             HostMsg::Transfer(store, key, file) => self.transfer(store, key, file),
             HostMsg::Checkpresent(key) => self.check(key),
             HostMsg::Remove(key) => self.remove(key),
