@@ -45,8 +45,9 @@ fn is_log(alloc: Global, log: &[u8]) -> Result<bool, NoMemory>
 {
     match chunk_in(alloc, log)? {
         Some(line) => {
-            let again = write_line(alloc, &line)?;
-            Ok(again.view() == log)
+            let again = write_line(alloc, &line);
+            drop(line);
+            Ok(again?.view() == log)
         }
         None => Ok(false),
     }
@@ -133,11 +134,26 @@ fn logs_cmp(alloc: Global, first: &[u8], second: &[u8]) -> Result<Ordering, NoMe
     ensures { IfOk result (λ order. order ≡ logs_cmp (chunk_in first.now) (chunk_in second.now)) }
 {
     let first = chunk_in(alloc, first)?;
-    let second = chunk_in(alloc, second)?;
-    match (&first, &second) {
-        (Some(a), Some(b)) => Ok(uuid_of(a).cmp(uuid_of(b)).then(a.chunk.cmp(&b.chunk))),
-        _ => Ok(Ordering::Equal),
+    match chunk_in(alloc, second) {
+        Ok(second) => Ok(lines_cmp(first, second)),
+        Err(error) => {
+            drop(first);
+            Err(error)
+        }
     }
+}
+
+// The order of two lines, which are let go by calls: what lets them go goes by their kinds.
+fn lines_cmp(first: Option<ChunkLine>, second: Option<ChunkLine>) -> Ordering
+    ensures { result ≡ logs_cmp first second }
+{
+    let order = match (&first, &second) {
+        (Some(a), Some(b)) => uuid_of(a).cmp(uuid_of(b)).then(a.chunk.cmp(&b.chunk)),
+        _ => Ordering::Equal,
+    };
+    drop(first);
+    drop(second);
+    order
 }
 
 fn uuid_of(line: &ChunkLine) -> &[u8]

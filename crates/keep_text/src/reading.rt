@@ -3,7 +3,7 @@ ghost use Rattle.std.specs.Prelude.{◌≡◌, ◌++◌, ◌∷◌, [], not, Non
 ghost use Rattle.std.specs.List.{cons_option};
 ghost use Rattle.ann_key.specs.KeyRefs.{text_of};
 ghost use Rattle.annex_model.specs.Lines.{has_newline};
-ghost use Rattle.reg_file.specs.Registers.{is_word};
+ghost use Rattle.reg_file.specs.Registers.{is_word, nothing_set};
 ghost use Rattle.reg_file.specs.RegLines.{set_by_lines};
 ghost use Rattle.keep_text.specs.KeptLines.{Chunks, KeptFits, chunk_in, is_kept_line, setting_of, note_of};
 ghost use Rattle.keep_text.specs.KeptFiles.{head, lines_in, first_bad, bad_line, settings_in, notes_in, registers_of, notes_of, CountsAs, IsFaultOf, IsLineFault, IsFirstFault};
@@ -25,15 +25,39 @@ pub fn read_keep(alloc: Global, text: &[u8]) -> Result<(Registers, NoteBook), Ke
 {
     let mut registers = Registers::new(alloc);
     let mut notes = NoteBook::new(alloc);
+    match take_text(alloc, &mut registers, &mut notes, text) {
+        Ok(()) => Ok((registers, notes)),
+        Err(error) => {
+            // By calls, since what lets them go goes by their kinds.
+            drop(registers);
+            drop(notes);
+            Err(error)
+        }
+    }
+}
+
+// Takes the text where nothing is taken yet.
+fn take_text(
+    alloc: Global,
+    registers: &mut Registers,
+    notes: &mut NoteBook,
+    text: &[u8],
+) -> Result<(), KeepError>
+    requires registers { registers.old ≡ nothing_set }
+    requires notes { notes.old ≡ [] }
+    ensures whole { OnOk result (bad_line text.now ≡ None) }
+    ensures registers { OnOk result (registers.new ≡ registers_of text.now) }
+    ensures notes { OnOk result (CountsAs notes.new (notes_of text.now)) }
+    ensures fault { IfErr result (λ fault. IsFaultOf text.now fault) }
+{
     if text.is_empty() {
-        return Ok((registers, notes));
+        return Ok(());
     }
     let (head, lines) = cut_at(text, b'\n');
     if !is_head(head) {
         return Err(KeepError::BadLine { line: 1 });
     }
-    take_lines(alloc, &mut registers, &mut notes, lines)?;
-    Ok((registers, notes))
+    take_lines(alloc, registers, notes, lines)
 }
 
 fn is_head(line: &[u8]) -> bool

@@ -81,9 +81,17 @@ fn push_one(text: &mut Vec<u8>, word: &[u8], field: &[u8]) -> Result<(), NoMemor
     ensures { OnOk result (text.new.items ≡ text.old.items ++ ((word.now ++ 32 ∷ field.now) ++ 10 ∷ [])) }
 {
     text.extend_from_slice(word)?;
+    push_field(text, field)?;
+    text.push(b'\n')?;
+    Ok(())
+}
+
+// A space, and the field.
+fn push_field(text: &mut Vec<u8>, field: &[u8]) -> Result<(), NoMemory>
+    ensures { OnOk result (text.new.items ≡ text.old.items ++ 32 ∷ field.now) }
+{
     text.push(b' ')?;
     text.extend_from_slice(field)?;
-    text.push(b'\n')?;
     Ok(())
 }
 
@@ -92,8 +100,10 @@ fn push_two(text: &mut Vec<u8>, word: &[u8], first: &[u8], second: &[u8]) -> Res
     ensures { OnOk result (text.new.items ≡ text.old.items ++ ((word.now ++ 32 ∷ (first.now ++ 32 ∷ second.now)) ++ 10 ∷ [])) }
 {
     text.extend_from_slice(word)?;
-    text.push(b' ')?;
-    push_one(text, first, second)
+    push_field(text, first)?;
+    push_field(text, second)?;
+    text.push(b'\n')?;
+    Ok(())
 }
 
 fn push_notes(alloc: Global, text: &mut Vec<u8>, notes: &NoteBook) -> Result<(), NoMemory>
@@ -116,9 +126,18 @@ fn noted_lines(alloc: Global, notes: &[&Note]) -> Result<Vec<Bytes>, NoMemory>
 {
     let mut lines = Vec::new(alloc);
     for note in notes {
-        lines.push(note_line(alloc, note.key(), note.line())?)?;
+        push_note(alloc, &mut lines, note)?;
     }
     Ok(lines)
+}
+
+fn push_note(alloc: Global, lines: &mut Vec<Bytes>, note: &Note) -> Result<(), NoMemory>
+    requires { IsNote note.now }
+    ensures { OnOk result (lines.new.items ≡ lines.old.items ++ written_note note.now ∷ []) }
+{
+    let line = note_line(alloc, note.key(), note.line())?;
+    lines.push(line)?;
+    Ok(())
 }
 
 /// The line of a key's note, without its end.
@@ -127,20 +146,23 @@ pub fn note_line(alloc: Global, key: KeyRef<'_>, line: &ChunkLine) -> Result<Byt
     ensures { IfOk result (λ bytes. bytes ≡ kept_line (Chunks (text_of key.entry) (line_text line.now))) }
 {
     let log = write_line(alloc, line)?;
-    let mut text = Vec::from_slice(alloc, b"chunks ")?;
-    text.extend_from_slice(key.text())?;
-    text.push(b' ')?;
-    text.extend_from_slice(log.view())?;
-    Ok(Bytes::from_vec(text))
+    written_two(alloc, b"chunks", key.text(), log.view())
 }
 
 fn push_lines(text: &mut Vec<u8>, lines: &[Bytes]) -> Result<(), NoMemory>
     ensures { OnOk result (text.new.items ≡ text.old.items ++ text_of_lines lines.now) }
 {
     for line in lines {
-        text.extend_from_slice(line.view())?;
-        text.push(b'\n')?;
+        push_line(text, line.view())?;
     }
+    Ok(())
+}
+
+fn push_line(text: &mut Vec<u8>, line: &[u8]) -> Result<(), NoMemory>
+    ensures { OnOk result (text.new.items ≡ (text.old.items ++ line.now) ++ 10 ∷ []) }
+{
+    text.extend_from_slice(line)?;
+    text.push(b'\n')?;
     Ok(())
 }
 
@@ -161,8 +183,7 @@ pub(crate) fn written_one(alloc: Global, word: &[u8], field: &[u8]) -> Result<By
     ensures { IfOk result (λ bytes. bytes ≡ word.now ++ 32 ∷ field.now) }
 {
     let mut line = Vec::from_slice(alloc, word)?;
-    line.push(b' ')?;
-    line.extend_from_slice(field)?;
+    push_field(&mut line, field)?;
     Ok(Bytes::from_vec(line))
 }
 
@@ -175,6 +196,8 @@ pub(crate) fn written_two(
 ) -> Result<Bytes, NoMemory>
     ensures { IfOk result (λ bytes. bytes ≡ word.now ++ 32 ∷ (first.now ++ 32 ∷ second.now)) }
 {
-    let behind = written_one(alloc, first, second)?;
-    written_one(alloc, word, behind.view())
+    let mut line = Vec::from_slice(alloc, word)?;
+    push_field(&mut line, first)?;
+    push_field(&mut line, second)?;
+    Ok(Bytes::from_vec(line))
 }

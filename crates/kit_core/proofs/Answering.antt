@@ -1,5 +1,5 @@
 -- What a private step of the kit does is what is due.
-use Rattle.std.proofs.Common.{ℕ, ◌≡◌, ◌&&◌, ◌||◌, Bool, true, false, List, [], ◌∷◌, Option, Some, None, Result, Ok, Err, IfOk, OnOk, OnErr, codes, if◌then◌else◌, map, refl, sym, ap, ◌∙◌, inl, inr}
+use Rattle.std.proofs.Common.{ℕ, ◌≡◌, ◌&&◌, ◌||◌, Bool, true, false, List, [], ◌∷◌, Option, Some, None, Result, Ok, Err, IfOk, OnOk, OnErr, codes, if◌then◌else◌, map, refl, sym, ap, subst, ◌∙◌, inl, inr}
 use Rattle.std.specs.Str.{IsUtf8, is_utf8}
 use Rattle.std.proofs.lemmas.Str.{IsUtf8-from_is_utf8, is_utf8-from_IsUtf8}
 use Rattle.annex_model.specs.Messages.{HostMessage, Transfer, RemoteMessage, remote_line}
@@ -7,9 +7,10 @@ use Rattle.kit_core.specs.declared.call.Said.{Said}
 use Rattle.kit_core.specs.declared.call.Asked.{Asked}
 use Rattle.kit_core.specs.declared.call.Call.{Call}
 use Rattle.kit_core.specs.declared.kit.Stage.{Stage}
+use Rattle.kit_core.specs.declared.kit.Stage.TheVariants.{Over}
 use Rattle.kit_core.specs.Calls.{called}
 use Rattle.kit_core.specs.Kits.{Due, Asks, Line, work_due, refusal, transfer_asked, asked_by, said_by, final_line, is_prepare, is_yes}
-use Rattle.kit_core.specs.Stages.{KitValue, Answers, Tries}
+use Rattle.kit_core.specs.Stages.{KitValue, Answers, Tries, AnswersAt, TriesAt}
 use Rattle.ann_key.proofs.Booleans.{never_true as is_false}
 
 -- a transfer of a prepared kit, by its file's name
@@ -94,3 +95,28 @@ tries_line calls old new due (Err e) same = (record { call = None; asks = inl re
 pub on_err : {T E : Type 0} {P : Type 0} (result : Result T E) → P → OnErr result P
 on_err (Ok x) holds = tt
 on_err (Err e) holds = holds
+
+-- what was done for where the kit stands, which was taken out meanwhile
+pub answers_at : {R E : Type 0} (calls : R → Option (List Call)) (settings : R → List (List ℕ)) (r : R) (p : Bool) (s meanwhile stage : Stage) (old new : KitValue R) (m : HostMessage) (result : Result (List (List ℕ)) E)
+    → record { remote = r; prepared = p; stage = s } ≡ old
+    → stage ≡ s
+    → IfOk result (AnswersAt calls settings stage m (record { remote = r; prepared = p; stage = meanwhile }) new)
+    → IfOk result (AnswersAt calls settings old.stage m old new)
+answers_at {R} calls settings r p s meanwhile stage old new m (Ok say) before at a =
+    subst (λ (k : KitValue R). AnswersAt calls settings k.stage m k new say) before
+    (subst (λ (t : Stage). AnswersAt calls settings t m (record { remote = r; prepared = p; stage = s }) new say) at
+    (record { call = a.call; asks = a.asks; says = a.says; gained = a.gained; prepared = a.prepared }))
+answers_at calls settings r p s meanwhile stage old new m (Err e) before at a = tt
+
+pub tries_at : {R E T : Type 0} (calls : R → Option (List Call)) (settings : R → List (List ℕ)) (r : R) (p : Bool) (s meanwhile stage : Stage) (old new : KitValue R) (m : HostMessage) (result : Result T E)
+    → record { remote = r; prepared = p; stage = s } ≡ old
+    → stage ≡ s
+    → OnErr result (TriesAt calls settings stage m (record { remote = r; prepared = p; stage = meanwhile }) new × (new.stage ≡ Over))
+    → OnErr result (TriesAt calls settings old.stage m old new × (new.stage ≡ Over))
+tries_at calls settings r p s meanwhile stage old new m (Ok say) before at a = tt
+tries_at {R} calls settings r p s meanwhile stage old new m (Err e) before at a = (
+  subst (λ (k : KitValue R). TriesAt calls settings k.stage m k new) before
+      (subst (λ (t : Stage). TriesAt calls settings t m (record { remote = r; prepared = p; stage = s }) new) at
+      (record { call = a.0.call; asks = a.0.asks; gained = a.0.gained })),
+  a.1,
+)

@@ -1,4 +1,4 @@
-ghost use Rattle.std.specs.Prelude.{◌≡◌, ◌&&◌, ◌||◌, ◌<◌, ◌^◌, ◌+◌, ◌∷◌, [], not, codes, List, Option, Some, None, false, length, slice_get, IsTrue, true, ℕ, IfOk, IsOkAnd, OnOk, OnErr};
+ghost use Rattle.std.specs.Prelude.{◌≡◌, ◌&&◌, ◌||◌, ◌<◌, ◌^◌, ◌+◌, ◌++◌, ◌∷◌, [], not, codes, List, Option, Some, None, false, length, slice_get, IsTrue, true, ℕ, IfOk, IsOkAnd, OnOk, OnErr};
 ghost use Rattle.annex_model.specs.Lines.{has_newline};
 ghost use Rattle.annex_model.specs.Messages.{Transfer, Checkpresent, Remove, Error, is_sent_key, IsAskable, IsSayable, remote_line};
 ghost use Rattle.ann_key.specs.KeyRefs.{text_of};
@@ -10,7 +10,7 @@ ghost use Rattle.kit_core.specs.declared.call.Asked.TheVariants.{Prepare as AskP
 ghost use Rattle.kit_core.specs.declared.kit.Stage.TheVariants.{Readying};
 ghost use Rattle.kit_core.specs.Calls.{are_lines, is_line_said};
 ghost use Rattle.kit_core.specs.Kits.{has_line_fields, readying, work_due, final_line, is_prepare, is_yes, Asks};
-ghost use Rattle.kit_core.specs.Stages.{Answers, AnswersAt, Tries, TriesAt, WorksOn, Follows, Steps, Stops};
+ghost use Rattle.kit_core.specs.Stages.{IsSound, Answers, AnswersAt, Tries, TriesAt, WorksOn, Follows, Steps, Stops};
 ghost use Rattle.kit_core.specs.Stages.{prepare_of, ready_stage, stage_after, stage_after_request, stage_after_value, is_free, is_last};
 
 use crate::call::Said;
@@ -74,6 +74,22 @@ fn prepare_request(by_prepare: bool) -> HostMsg<'static>
     }
 }
 
+fn no_values(alloc: Global) -> Values
+    ensures { result ≡ [] }
+{
+    Values::new(Vec::new(alloc))
+}
+
+// The values, and this one behind them.
+fn one_more(alloc: Global, values: Values, value: &[u8]) -> Result<Values, NoMemory>
+    ensures { IfOk result (λ more. more ≡ values ++ value.now ∷ []) }
+{
+    let copy = Bytes::copy(alloc, value)?;
+    let mut values = values;
+    values.push(copy)?;
+    Ok(values)
+}
+
 // No line.
 fn silence(alloc: Global) -> Lines
     ensures { result ≡ [] }
@@ -82,21 +98,33 @@ fn silence(alloc: Global) -> Lines
 }
 
 impl<R: Remote> Kit<R> {
-    // Says the line that the remote's word makes of the request. A yes to PREPARE leaves the kit prepared.
-    fn finish(&mut self, request: HostMsg<'_>, said: &Said) -> Result<Lines, NoMemory>
+    // What stood before is let go by a call, here for all: what lets a stage go goes by its kinds.
+    fn enter(&mut self, stage: Stage)
+        requires { IsSound stage }
+        ensures { self.new ≡ record self.old { stage = stage } }
+    {
+        drop(mem::replace(&mut self.stage, stage));
+    }
+
+    // Says the line that the remote's word makes of the request, and lets the word go, so that no caller has to. A yes to
+    // PREPARE leaves the kit prepared.
+    fn finish(&mut self, request: HostMsg<'_>, said: Said) -> Result<Lines, NoMemory>
         requires askable { IsAskable (host_shown request) }
         requires lines { IsTrue (has_line_fields (host_shown request)) }
-        requires text { IsTrue (is_line_said said.now) }
-        ensures ok { IfOk result (λ say. say ≡ remote_line (final_line (Some (host_shown request.entry)) said.now) ∷ []) }
-        ensures after { OnOk result (self.new ≡ record self.old { prepared = self.old.prepared || (is_prepare (Some (host_shown request.entry)) && is_yes said.now); stage = Stage.Waiting }) }
+        requires text { IsTrue (is_line_said said) }
+        ensures ok { IfOk result (λ say. say ≡ remote_line (final_line (Some (host_shown request.entry)) said) ∷ []) }
+        ensures after { OnOk result (self.new ≡ record self.old { prepared = self.old.prepared || (is_prepare (Some (host_shown request.entry)) && is_yes said); stage = Stage.Waiting }) }
         ensures err { OnErr result (self.new ≡ self.old) }
         ensures lines { IfOk result (λ say. IsTrue (are_lines say)) }
     {
-        let say = finals::one_line(self.alloc, &finals::final_message(request, said))?;
-        if matches!(request, HostMsg::Prepare) && matches!(said, Said::Yes) {
+        let line = finals::one_line(self.alloc, &finals::final_message(request, &said));
+        let prepares = matches!(request, HostMsg::Prepare) && matches!(said, Said::Yes);
+        drop(said);
+        let say = line?;
+        if prepares {
             self.prepared = true;
         }
-        self.stage = Stage::Waiting;
+        self.enter(Stage::Waiting);
         Ok(say)
     }
 
@@ -110,7 +138,7 @@ impl<R: Remote> Kit<R> {
         ensures lines { IfOk result (λ say. IsTrue (are_lines say)) }
     {
         let say = finals::one_line(self.alloc, &message)?;
-        self.stage = Stage::Waiting;
+        self.enter(Stage::Waiting);
         Ok(say)
     }
 
@@ -119,7 +147,7 @@ impl<R: Remote> Kit<R> {
         ensures nothing { result ≡ [] }
         ensures stage { self.new ≡ record self.old { stage = Stage.Waiting } }
     {
-        self.stage = Stage::Waiting;
+        self.enter(Stage::Waiting);
         silence(self.alloc)
     }
 
@@ -141,7 +169,7 @@ impl<R: Remote> Kit<R> {
         ensures lines { IfOk result (λ say. IsTrue (are_lines say)) }
     {
         let said = self.remote.prepare(values)?;
-        self.finish(prepare_request(by_prepare), &said)
+        self.finish(prepare_request(by_prepare), said)
     }
 
     // Asks for the next setting; after the last one the remote gets ready.
@@ -157,7 +185,7 @@ impl<R: Remote> Kit<R> {
         match self.remote.setting(values.len() as u32) {
             Some(name) => {
                 let say = finals::one_line(self.alloc, &RemoteMsg::Getconfig(name.as_bytes()))?;
-                self.stage = Stage::Readying { by_prepare, values };
+                self.enter(Stage::Readying { by_prepare, values });
                 Ok(say)
             }
             None => self.prepare(by_prepare, &values),
@@ -196,10 +224,10 @@ impl<R: Remote> Kit<R> {
         };
         if store {
             let said = self.remote.store(key, file)?;
-            self.finish(request, &said)
+            self.finish(request, said)
         } else {
             let said = self.remote.retrieve(key, file)?;
-            self.finish(request, &said)
+            self.finish(request, said)
         }
     }
 
@@ -217,7 +245,7 @@ impl<R: Remote> Kit<R> {
             return self.refuse(request, b"not prepared");
         }
         let said = self.remote.check(key)?;
-        self.finish(request, &said)
+        self.finish(request, said)
     }
 
     fn remove(&mut self, key: KeyRef<'_>) -> Result<Lines, NoMemory>
@@ -234,7 +262,7 @@ impl<R: Remote> Kit<R> {
             return self.refuse(request, b"not prepared");
         }
         let said = self.remote.remove(key)?;
-        self.finish(request, &said)
+        self.finish(request, said)
     }
 }
 
@@ -252,8 +280,8 @@ impl<R: Remote> Kit<R> {
     {
         match message {
             HostMsg::Extensions(_) => self.say(RemoteMsg::Extensions(b"")),
-            HostMsg::Prepare => self.ready(true, Values::new(Vec::new(self.alloc))),
-            HostMsg::Initremote => self.ready(false, Values::new(Vec::new(self.alloc))),
+            HostMsg::Prepare => self.ready(true, no_values(self.alloc)),
+            HostMsg::Initremote => self.ready(false, no_values(self.alloc)),
             HostMsg::Transfer(store, key, file) => self.transfer(store, key, file),
             HostMsg::Checkpresent(key) => self.check(key),
             HostMsg::Remove(key) => self.remove(key),
@@ -291,12 +319,17 @@ impl<R: Remote> Kit<R> {
     {
         match message {
             HostMsg::Value(value) => {
-                let mut values = values;
-                values.push(Bytes::copy(self.alloc, value)?)?;
+                let values = one_more(self.alloc, values, value)?;
                 self.ready(by_prepare, values)
             }
-            HostMsg::Error(_) => Ok(silence(self.alloc)),
-            _ => self.unexpected(),
+            HostMsg::Error(_) => {
+                drop(values);
+                Ok(silence(self.alloc))
+            }
+            _ => {
+                drop(values);
+                self.unexpected()
+            }
         }
     }
 

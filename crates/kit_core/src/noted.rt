@@ -63,16 +63,27 @@ impl<R: Remote> Noted<R> {
         remote
     }
 
-    // Keeps a call, and hands back what came of it.
-    fn keep(&mut self, asked: Asked, said: Said) -> Result<Said, NoMemory>
-        ensures ok { OnOk result (self.new.calls ≡ self.old.calls ++ record { asked = asked; said = said } ∷ []) }
-        ensures err { OnErr result (self.new.calls ≡ self.old.calls) }
-        ensures said { IfOk result (λ s. s ≡ said) }
+    // Keeps a call that found memory, and hands back what came of it. What isn't kept is let go here, by calls: what lets it
+    // go goes by its kinds.
+    fn keep(&mut self, asked: Asked, said: Result<Said, NoMemory>) -> Result<Said, NoMemory>
+        ensures calls { Some self.new.calls ≡ called (Some self.old.calls) asked result }
+        ensures said { IfOk result (λ s. said ≡ Ok s) }
         ensures remote { self.new.remote ≡ self.old.remote }
     {
-        let copy = said.copy(self.alloc)?;
-        self.calls.push(Call { asked, said: copy })?;
-        Ok(said)
+        let said = match said {
+            Ok(said) => said,
+            Err(e) => {
+                drop(asked);
+                return Err(e);
+            }
+        };
+        match add(self.alloc, &mut self.calls, asked, &said) {
+            Ok(()) => Ok(said),
+            Err(e) => {
+                drop(said);
+                Err(e)
+            }
+        }
     }
 }
 
@@ -93,7 +104,7 @@ impl<R: Remote> Remote for Noted<R> {
         ensures passed { OnOk result (R.calls self.new.remote ≡ called (R.calls self.old.remote) (Prepare values.now) result) }
     {
         let asked = Asked::Prepare(values.copy(self.alloc)?);
-        let said = self.remote.prepare(values)?;
+        let said = self.remote.prepare(values);
         self.keep(asked, said)
     }
 
@@ -107,7 +118,7 @@ impl<R: Remote> Remote for Noted<R> {
     {
         let (key_copy, file_copy) = both(self.alloc, key, file)?;
         let asked = Asked::Store(key_copy, file_copy);
-        let said = self.remote.store(key, file)?;
+        let said = self.remote.store(key, file);
         self.keep(asked, said)
     }
 
@@ -121,7 +132,7 @@ impl<R: Remote> Remote for Noted<R> {
     {
         let (key_copy, file_copy) = both(self.alloc, key, file)?;
         let asked = Asked::Retrieve(key_copy, file_copy);
-        let said = self.remote.retrieve(key, file)?;
+        let said = self.remote.retrieve(key, file);
         self.keep(asked, said)
     }
 
@@ -133,7 +144,7 @@ impl<R: Remote> Remote for Noted<R> {
         ensures passed { OnOk result (R.calls self.new.remote ≡ called (R.calls self.old.remote) (Check (text_of key.entry)) result) }
     {
         let asked = Asked::Check(Key::copy(self.alloc, key)?);
-        let said = self.remote.check(key)?;
+        let said = self.remote.check(key);
         self.keep(asked, said)
     }
 
@@ -145,7 +156,7 @@ impl<R: Remote> Remote for Noted<R> {
         ensures passed { OnOk result (R.calls self.new.remote ≡ called (R.calls self.old.remote) (Remove (text_of key.entry)) result) }
     {
         let asked = Asked::Remove(Key::copy(self.alloc, key)?);
-        let said = self.remote.remove(key)?;
+        let said = self.remote.remove(key);
         self.keep(asked, said)
     }
 }
@@ -157,4 +168,21 @@ fn both(alloc: Global, key: KeyRef<'_>, file: &str) -> Result<(Key, Text), NoMem
     let key = Key::copy(alloc, key)?;
     let file = Text::copy(alloc, file)?;
     Ok((key, file))
+}
+
+// Adds a call, with a copy of what was said.
+fn add(alloc: Global, calls: &mut Vec<Call>, asked: Asked, said: &Said) -> Result<(), NoMemory>
+    ensures ok { OnOk result (calls.new.items ≡ calls.old.items ++ record { asked = asked; said = said.now } ∷ []) }
+    ensures err { OnErr result (calls.new.items ≡ calls.old.items) }
+{
+    match said.copy(alloc) {
+        Ok(copy) => {
+            calls.push(Call { asked, said: copy })?;
+            Ok(())
+        }
+        Err(e) => {
+            drop(asked);
+            Err(e)
+        }
+    }
 }

@@ -110,8 +110,32 @@ fn offer_of(names: &[u8]) -> Option<bool>
     }
 }
 
-/// The request that transfers, where the file's name is text.
+// Copies of a key and a text. In one place, since what lets the key go, where no memory is left for the text, goes by its kind.
+fn both(alloc: Global, key: KeyRef<'_>, text: &str) -> Result<(Key, Text), NoMemory>
+    ensures { IfOk result (λ b. (b.0 ≡ text_of key.entry) × (b.1 ≡ text.now)) }
+{
+    let key = Key::copy(alloc, key)?;
+    let text = Text::copy(alloc, text)?;
+    Ok((key, text))
+}
+
+/// The key, and the text; None where the bytes are none.
 #[tactic(auto, using(crate::proofs::Reading::no_text))]
+fn key_and_text(
+    alloc: Global,
+    key: KeyRef<'_>,
+    bytes: &[u8],
+) -> Result<Option<(Key, Text)>, NoMemory>
+    ensures same { IfOk result (λ r. IfSome r (λ b. (b.0 ≡ text_of key.entry) × (b.1 ≡ bytes.now))) }
+    ensures none { IfOk result (λ r. IsNone r → is_utf8 bytes.now ≡ false) }
+{
+    match str::from_utf8(bytes) {
+        Ok(text) => Ok(Some(both(alloc, key, text)?)),
+        Err(_) => Ok(None),
+    }
+}
+
+/// The request that transfers, where the file's name is text.
 fn transfer(
     alloc: Global,
     store: bool,
@@ -121,25 +145,9 @@ fn transfer(
     ensures asks { IfOk result (λ r. IfSome r (λ r. message_of r ≡ Transfer store (text_of key.entry) file.now)) }
     ensures none { IfOk result (λ r. IsNone r → is_utf8 file.now ≡ false) }
 {
-    match str::from_utf8(file) {
-        Ok(file) => {
-            let key = Key::copy(alloc, key)?;
-            let file = Text::copy(alloc, file)?;
-            Ok(Some(Request::Transfer { store, key, file }))
-        }
-        Err(_) => Ok(None),
-    }
-}
-
-/// The text; None where the bytes are none.
-#[tactic(auto, using(crate::proofs::Reading::no_text))]
-fn text(alloc: Global, bytes: &[u8]) -> Result<Option<Text>, NoMemory>
-    ensures same { IfOk result (λ r. IfSome r (λ t. t ≡ bytes.now)) }
-    ensures none { IfOk result (λ r. IsNone r → is_utf8 bytes.now ≡ false) }
-{
-    match str::from_utf8(bytes) {
-        Ok(text) => Ok(Some(Text::copy(alloc, text)?)),
-        Err(_) => Ok(None),
+    match key_and_text(alloc, key, file)? {
+        Some((key, file)) => Ok(Some(Request::Transfer { store, key, file })),
+        None => Ok(None),
     }
 }
 
@@ -153,10 +161,10 @@ fn transfer_export(
     ensures asks { IfOk result (λ r. IfSome r (λ r. message_of r ≡ Transferexport store (text_of key.entry) file.now)) }
     ensures none { IfOk result (λ r. IsNone r → is_utf8 file.now ≡ false) }
 {
-    match text(alloc, file)? {
-        Some(file) => Ok(Some(Request::TransferExport {
+    match key_and_text(alloc, key, file)? {
+        Some((key, file)) => Ok(Some(Request::TransferExport {
             store,
-            key: Key::copy(alloc, key)?,
+            key,
             file,
             name: Text::from_string(String::new(alloc)),
         })),
@@ -169,9 +177,9 @@ fn rename_export(alloc: Global, key: KeyRef<'_>, onto: &[u8]) -> Result<Option<R
     ensures asks { IfOk result (λ r. IfSome r (λ r. message_of r ≡ Renameexport (text_of key.entry) onto.now)) }
     ensures none { IfOk result (λ r. IsNone r → is_utf8 onto.now ≡ false) }
 {
-    match text(alloc, onto)? {
-        Some(onto) => Ok(Some(Request::RenameExport {
-            key: Key::copy(alloc, key)?,
+    match key_and_text(alloc, key, onto)? {
+        Some((key, onto)) => Ok(Some(Request::RenameExport {
+            key,
             name: Text::from_string(String::new(alloc)),
             onto,
         })),
@@ -188,9 +196,8 @@ fn copy_transfer(
 ) -> Result<Request, NoMemory>
     ensures { IfOk result (λ r. r ≡ TransferExport store key.now file.now name.now) }
 {
-    let key = Key::copy(alloc, key.view())?;
-    let file = Text::copy(alloc, file.view())?;
     let name = Text::copy(alloc, name.view())?;
+    let (key, file) = both(alloc, key.view(), file.view())?;
     Ok(Request::TransferExport {
         store,
         key,
@@ -202,9 +209,8 @@ fn copy_transfer(
 fn copy_rename(alloc: Global, key: &Key, name: &Text, onto: &Text) -> Result<Request, NoMemory>
     ensures { IfOk result (λ r. r ≡ RenameExport key.now name.now onto.now) }
 {
-    let key = Key::copy(alloc, key.view())?;
-    let name = Text::copy(alloc, name.view())?;
     let onto = Text::copy(alloc, onto.view())?;
+    let (key, name) = both(alloc, key.view(), name.view())?;
     Ok(Request::RenameExport { key, name, onto })
 }
 
@@ -383,8 +389,7 @@ impl Request {
             Request::GetAvailability => Ok(Request::GetAvailability),
             Request::GetInfo => Ok(Request::GetInfo),
             Request::Transfer { store, key, file } => {
-                let key = Key::copy(alloc, key.view())?;
-                let file = Text::copy(alloc, file.view())?;
+                let (key, file) = both(alloc, key.view(), file.view())?;
                 Ok(Request::Transfer {
                     store: *store,
                     key,
@@ -411,13 +416,11 @@ impl Request {
                 name,
             } => copy_transfer(alloc, *store, key, file, name),
             Request::CheckExport { key, name } => {
-                let key = Key::copy(alloc, key.view())?;
-                let name = Text::copy(alloc, name.view())?;
+                let (key, name) = both(alloc, key.view(), name.view())?;
                 Ok(Request::CheckExport { key, name })
             }
             Request::RemoveExport { key, name } => {
-                let key = Key::copy(alloc, key.view())?;
-                let name = Text::copy(alloc, name.view())?;
+                let (key, name) = both(alloc, key.view(), name.view())?;
                 Ok(Request::RemoveExport { key, name })
             }
             Request::RenameExport { key, name, onto } => copy_rename(alloc, key, name, onto),

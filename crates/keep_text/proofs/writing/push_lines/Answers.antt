@@ -4,6 +4,6 @@ use Rattle.keep_text.proofs.writing.push_lines.Goals as goal
 
 pub loop-line-preserved : goal.loop-line-preserved
 loop-line-preserved c =
-    text_more c.args.lines.now c.loop-line.line-index c.line-item.result c.args.text.now.items c.loop-line.text.items c.push.new.self.items
+    text_more c.args.lines.now c.loop-line.line-index c.line-item.result c.args.text.now.items c.loop-line.text.items c.push_line.new.text.items
     (omega arith) c.line-item.is c.loop-line.invariant
-    (c.in_ok-push.ensures.items ∙ ap (λ (t : List ℕ). t ++ 10 ∷ []) (c.in_ok-extend_from_slice.ensures.items ∙ ap (λ (l : List ℕ). c.loop-line.text.items ++ l) c.view.ensures))
+    (c.in_ok-push_line.ensures ∙ ap (λ (l : List ℕ). (c.loop-line.text.items ++ l) ++ 10 ∷ []) c.view.ensures)

@@ -8,7 +8,9 @@ pub loop-pair-preserved : goal.loop-pair-preserved
 loop-pair-preserved c =
     let within : c.loop-pair.pair-index < length c.args.pairs.now = omega arith in
     let more = all_next config_message c.args.pairs.now c.loop-pair.pair-index c.pair-item.result within c.pair-item.is in
-    let said : remote_line (Config c.view.result.now c.view-in-loop-pair.result.now) ≡ remote_line (Config c.pair-item.result.name c.pair-item.result.text) = cc in
+    let said : remote_line (Config c.view.result.now c.view-in-loop-pair.result.now) ≡ remote_line (Config c.pair-item.result.name c.pair-item.result.text) =
+    ap (λ (name : List ℕ). remote_line (Config name c.view-in-loop-pair.result.now)) c.view.ensures
+    ∙ ap (λ (text : List ℕ). remote_line (Config c.pair-item.result.name text)) c.view-in-loop-pair.ensures in
     record {
       line = c.in_ok-push.ensures.line ∙ ap (λ (l : List ℕ). c.loop-pair.say.items ++ l ∷ []) said
           ∙ ap (λ (ls : List (List ℕ)). ls ++ remote_line (Config c.pair-item.result.name c.pair-item.result.text) ∷ []) c.loop-pair.invariant.line ∙ sym more;

@@ -5,7 +5,7 @@ use Rattle.wire_msg.specs.Shown.{host_shown}
 use Rattle.kit_core.proofs.Endless.{final_free}
 use Rattle.kit_core.proofs.kit.Kit.finish.Goals as goal
 
-pub one_line-requires-clause-line : goal.one_line-requires-clause-line
-one_line-requires-clause-line g c =
+pub one_line-line-requires-clause-line : goal.one_line-line-requires-clause-line
+one_line-line-requires-clause-line g c =
     ap (λ (m : RemoteMessage). has_newline (remote_line m)) c.final_message.ensures.line
-    ∙ final_free (host_shown c.args.request) c.args.said.now c.requires.lines c.requires.text
+    ∙ final_free (host_shown c.args.request) c.args.said c.requires.lines c.requires.text

@@ -8,8 +8,8 @@ one_line-requires-clause-line g c =
     ap has_newline c.as_bytes.ensures.value
     ∙ name_free (g.R.Remote.settings c.self.inside.remote) c.len.result c.in-Some.name.now (sym c.in-Some.ensures.name) c.in-Some.ensures.lines
 
-pub invariant_of-self : goal.invariant_of-self
-invariant_of-self g c =
+pub enter-requires : goal.enter-requires
+enter-requires g c =
     let within : c.len.result < length (g.R.Remote.settings c.self.inside.remote) =
     got_within (g.R.Remote.settings c.self.inside.remote) c.len.result c.in-Some.name.now (sym c.in-Some.ensures.name) in
     (omega (arith, within, c.in-Some.ensures.few, c.len.ensures), c.requires.lines)
