@@ -80,7 +80,7 @@ fn no_values(alloc: Global) -> Values
     Values::new(Vec::new(alloc))
 }
 
-// The values, and this one behind them.
+// The values, and this one after them.
 fn one_more(alloc: Global, values: Values, value: &[u8]) -> Result<Values, NoMemory>
     ensures { IfOk result (λ more. more ≡ values ++ value.now ∷ []) }
 {

@@ -5,7 +5,7 @@ ghost use Rattle.mirror_plan.specs.Settings.{names};
 use ann_key::{KeyRef, NoMemory};
 use ann_os::OsPrograms;
 use kit_core::{Availability, Describe, Pair, Remote, Said, Values, Where};
-use mirror_remote::MirrorRemote;
+use mirror_remote::{Ended, MirrorRemote};
 use std::alloc::{AllocGlobal, Global};
 use std::process::{Processes, SystemProcess};
 
@@ -27,7 +27,14 @@ impl<R: Processes<Started = SystemProcess> + AllocGlobal> Mirrored<R> {
         R: Drop,
     {
         let Mirrored { mirror } = self;
-        drop(mirror.finish());
+        let Ended {
+            programs,
+            journals,
+            wires,
+        } = mirror.finish();
+        drop(programs);
+        drop(journals);
+        drop(wires);
     }
 }
 
