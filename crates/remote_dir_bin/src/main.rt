@@ -106,22 +106,14 @@ fn facts(alloc: Global) -> Result<Vec<Fact>, NoMemory> {
     Ok(facts)
 }
 
-// What is served, and what is told of it.
-fn served(rt: &HostRuntime) -> Result<(Vec<Directory<'_>>, Vec<Fact>), NoMemory>
-    ensures { IfOk result (λ served. vec_len served.0 ≡ 4) }
-{
-    let facts = facts(rt.alloc())?;
-    Ok((directories(rt)?, facts))
-}
-
 fn main(rt: HostRuntime) -> ExitCode {
     let status = match read_wish(&rt) {
         None => 7,
         Some(Wish::Help) => print(&mut OsOutput::new(rt.stdout()), HELP, 0),
         Some(Wish::Version) => print(&mut OsOutput::new(rt.stdout()), VERSION, 0),
         Some(Wish::Refused) => print(&mut OsErrors::new(rt.stderr()), USAGE, 2),
-        Some(Wish::Serve) => match served(&rt) {
-            Ok((remotes, facts)) => {
+        Some(Wish::Serve) => match (directories(&rt), facts(rt.alloc())) {
+            (Ok(remotes), Ok(facts)) => {
                 let input = OsInput::new(rt.stdin());
                 let output = OsOutput::new(rt.stdout());
                 let end = serve_async_described(&rt, rt.alloc(), remotes, facts, input, output);
@@ -129,7 +121,7 @@ fn main(rt: HostRuntime) -> ExitCode {
                 drop(end);
                 status
             }
-            Err(_) => 7,
+            _ => 7,
         },
     };
     ExitCode::from(status)
