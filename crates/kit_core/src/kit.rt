@@ -8,8 +8,8 @@ ghost use Rattle.kit_core.specs.contracts.kit.Kit.{the_row};
 ghost use Rattle.kit_core.specs.declared.call.Said.TheVariants.{Failure};
 ghost use Rattle.kit_core.specs.declared.call.Asked.TheVariants.{Prepare as AskPrepare};
 ghost use Rattle.kit_core.specs.declared.kit.Stage.TheVariants.{Readying};
-ghost use Rattle.kit_core.specs.Calls.{are_lines, is_line_said};
-ghost use Rattle.kit_core.specs.Kits.{has_line_fields, readying, work_due, final_line, is_prepare, is_yes, Asks};
+ghost use Rattle.kit_core.specs.Calls.{called, are_lines, is_line_said};
+ghost use Rattle.kit_core.specs.Kits.{has_line_fields, readying, work_due, final_line, is_prepare, is_yes, transfer_asked, Asks};
 ghost use Rattle.kit_core.specs.Stages.{IsSound, Answers, AnswersAt, Tries, TriesAt, WorksOn, Follows, Steps, Stops};
 ghost use Rattle.kit_core.specs.Stages.{prepare_of, ready_stage, stage_after, stage_after_request, stage_after_value, is_free, is_last};
 
@@ -95,6 +95,25 @@ fn silence(alloc: Global) -> Lines
     ensures { result ≡ [] }
 {
     Lines::new(Vec::new(alloc))
+}
+
+fn ask_transfer<R: Remote>(
+    remote: &mut R,
+    store: bool,
+    key: KeyRef<'_>,
+    file: &str,
+) -> Result<Said, NoMemory>
+    requires key { IsTrue (is_sent_key (text_of key)) }
+    requires line { IsTrue (not (has_newline file.now)) }
+    ensures calls { R.calls remote.new ≡ called (R.calls remote.old) (transfer_asked store (text_of key.entry) file.now) result }
+    ensures settings { R.settings remote.new ≡ R.settings remote.old }
+    ensures text { IfOk result (λ said. IsTrue (is_line_said said)) }
+{
+    if store {
+        remote.store(key, file)
+    } else {
+        remote.retrieve(key, file)
+    }
 }
 
 impl<R: Remote> Kit<R> {
@@ -222,13 +241,8 @@ impl<R: Remote> Kit<R> {
         let Ok(file) = str::from_utf8(file) else {
             return self.refuse(request, b"not text");
         };
-        if store {
-            let said = self.remote.store(key, file)?;
-            self.finish(request, said)
-        } else {
-            let said = self.remote.retrieve(key, file)?;
-            self.finish(request, said)
-        }
+        let said = ask_transfer(&mut self.remote, store, key, file)?;
+        self.finish(request, said)
     }
 
     fn check(&mut self, key: KeyRef<'_>) -> Result<Lines, NoMemory>

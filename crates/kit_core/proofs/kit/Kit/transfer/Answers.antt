@@ -1,10 +1,9 @@
-use Rattle.std.proofs.Common.{◌≡◌, true, false, Some, None, [], codes, Bool, ap, ◌∙◌, refl, rules}
+use Rattle.std.proofs.Common.{◌≡◌, true, false, Some, None, [], codes, Bool, ap, refl, rules}
 use Rattle.ann_key.specs.KeyRefs.{text_of}
 use Rattle.annex_model.specs.Messages.{Transfer}
 use Rattle.kit_core.specs.declared.call.Said.TheVariants.{Failure}
-use Rattle.kit_core.specs.declared.call.Asked.TheVariants.{Store, Retrieve}
 use Rattle.kit_core.specs.declared.kit.Stage.TheVariants.{Waiting}
-use Rattle.kit_core.specs.Kits.{work_due, final_line}
+use Rattle.kit_core.specs.Kits.{work_due, final_line, transfer_asked}
 use Rattle.kit_core.proofs.Answering.{answers_asked, tries_asked, answers_line, tries_line, transfer_due, untold_due}
 use Rattle.kit_core.proofs.kit.Kit.transfer.Goals as goal
 
@@ -29,38 +28,18 @@ returns-in_default-clause-err g c =
     let k = c.args.self.now in
     tries_line g.R.Remote.calls k c.refuse-in_default.new.self _ c.refuse-in_default.result c.refuse-in_default.ensures.err
 
-pub returns-in_ok-said-clause-ok : goal.returns-in_ok-said-clause-ok
-returns-in_ok-said-clause-ok g c =
+pub returns-clause-ok : goal.returns-clause-ok
+returns-clause-ok g c =
     let prepared : c.args.self.now.prepared ≡ true = search rules in
-    answers_asked g.R.Remote.calls c.self.inside.remote c.store.new.self c.self.inside.prepared c.self.inside.stage Waiting c.args.self.now c.finish.new.self
-    _ (Store (text_of c.args.key) c.in-Ok.file.now) _ c.in_ok-said.said c.finish.result c.self.view_is
-    (ap (λ (s : Bool). work_due None [] c.args.self.now.prepared (Transfer s (text_of c.args.key) c.args.file.now)) c.if-store.true
-    ∙ transfer_due c.args.self.now.prepared true (text_of c.args.key) c.args.file.now c.in-Ok.file.now prepared c.in-Ok.ensures.cases.0 c.in-Ok.ensures.cases.1)
+    answers_asked g.R.Remote.calls c.self.inside.remote c.ask_transfer.new.remote c.self.inside.prepared c.self.inside.stage Waiting c.args.self.now c.finish.new.self
+    _ (transfer_asked c.args.store (text_of c.args.key) c.in-Ok.file.now) _ c.in_ok-said.said c.finish.result c.self.view_is
+    (transfer_due c.args.self.now.prepared c.args.store (text_of c.args.key) c.args.file.now c.in-Ok.file.now prepared c.in-Ok.ensures.cases.0 c.in-Ok.ensures.cases.1)
     c.in_ok-said.ensures.calls c.finish.ensures.after c.finish.ensures.ok
 
-pub returns-in_ok-said-clause-err : goal.returns-in_ok-said-clause-err
-returns-in_ok-said-clause-err g c =
+pub returns-clause-err : goal.returns-clause-err
+returns-clause-err g c =
     let prepared : c.args.self.now.prepared ≡ true = search rules in
-    tries_asked g.R.Remote.calls c.self.inside.remote c.store.new.self c.self.inside.prepared c.self.inside.stage c.args.self.now c.finish.new.self
-    _ (Store (text_of c.args.key) c.in-Ok.file.now) c.in_ok-said.said c.finish.result c.self.view_is
-    (ap (λ (s : Bool). work_due None [] c.args.self.now.prepared (Transfer s (text_of c.args.key) c.args.file.now)) c.if-store.true
-    ∙ transfer_due c.args.self.now.prepared true (text_of c.args.key) c.args.file.now c.in-Ok.file.now prepared c.in-Ok.ensures.cases.0 c.in-Ok.ensures.cases.1)
+    tries_asked g.R.Remote.calls c.self.inside.remote c.ask_transfer.new.remote c.self.inside.prepared c.self.inside.stage c.args.self.now c.finish.new.self
+    _ (transfer_asked c.args.store (text_of c.args.key) c.in-Ok.file.now) c.in_ok-said.said c.finish.result c.self.view_is
+    (transfer_due c.args.self.now.prepared c.args.store (text_of c.args.key) c.args.file.now c.in-Ok.file.now prepared c.in-Ok.ensures.cases.0 c.in-Ok.ensures.cases.1)
     c.in_ok-said.ensures.calls c.finish.ensures.err
-
-pub returns-in_ok-said-2-clause-ok : goal.returns-in_ok-said-2-clause-ok
-returns-in_ok-said-2-clause-ok g c =
-    let prepared : c.args.self.now.prepared ≡ true = search rules in
-    answers_asked g.R.Remote.calls c.self.inside.remote c.retrieve.new.self c.self.inside.prepared c.self.inside.stage Waiting c.args.self.now c.finish-else-store.new.self
-    _ (Retrieve (text_of c.args.key) c.in-Ok.file.now) _ c.in_ok-said-2.said c.finish-else-store.result c.self.view_is
-    (ap (λ (s : Bool). work_due None [] c.args.self.now.prepared (Transfer s (text_of c.args.key) c.args.file.now)) c.if-store.false
-    ∙ transfer_due c.args.self.now.prepared false (text_of c.args.key) c.args.file.now c.in-Ok.file.now prepared c.in-Ok.ensures.cases.0 c.in-Ok.ensures.cases.1)
-    c.in_ok-said-2.ensures.calls c.finish-else-store.ensures.after c.finish-else-store.ensures.ok
-
-pub returns-in_ok-said-2-clause-err : goal.returns-in_ok-said-2-clause-err
-returns-in_ok-said-2-clause-err g c =
-    let prepared : c.args.self.now.prepared ≡ true = search rules in
-    tries_asked g.R.Remote.calls c.self.inside.remote c.retrieve.new.self c.self.inside.prepared c.self.inside.stage c.args.self.now c.finish-else-store.new.self
-    _ (Retrieve (text_of c.args.key) c.in-Ok.file.now) c.in_ok-said-2.said c.finish-else-store.result c.self.view_is
-    (ap (λ (s : Bool). work_due None [] c.args.self.now.prepared (Transfer s (text_of c.args.key) c.args.file.now)) c.if-store.false
-    ∙ transfer_due c.args.self.now.prepared false (text_of c.args.key) c.args.file.now c.in-Ok.file.now prepared c.in-Ok.ensures.cases.0 c.in-Ok.ensures.cases.1)
-    c.in_ok-said-2.ensures.calls c.finish-else-store.ensures.err
