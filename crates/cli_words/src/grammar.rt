@@ -1,13 +1,12 @@
 // The options of `run`, as a command of clap.
-ghost use Rattle.std.specs.Prelude.{◌≡◌, IfOk, false};
+ghost use Rattle.std.specs.Prelude.{◌≡◌, IfOk, MatchResult, false};
 ghost use Rattle.clap.specs.Words.{app_of, rule_of, with_rule};
 ghost use Rattle.cli_words.specs.Grammar.{needed, optional, run_grammar, with_value};
 
-use ann_key::NoMemory;
 use clap::{Arg, Command};
-use std::alloc::Global;
+use std::alloc::{AllocError, Global};
 
-// An option with a value.
+// An option with a value, which may be given.
 fn optional<'a>(alloc: Global, name: &'a str) -> Arg<'a>
     ensures rule { rule_of result ≡ optional name.entry.now }
     ensures local { result.global ≡ false }
@@ -15,51 +14,45 @@ fn optional<'a>(alloc: Global, name: &'a str) -> Arg<'a>
     Arg::new(alloc, name).long(name)
 }
 
-fn with_optional<'a>(
-    alloc: Global,
-    command: Command<'a>,
-    name: &'a str,
-) -> Result<Command<'a>, NoMemory>
-    ensures { IfOk result (λ c. app_of c ≡ with_rule (app_of command.entry) (optional name.entry.now)) }
+fn needed<'a>(alloc: Global, name: &'a str) -> Arg<'a>
+    ensures rule { rule_of result ≡ needed name.entry.now }
+    ensures local { result.global ≡ false }
 {
-    Ok(command.arg(optional(alloc, name))?)
+    optional(alloc, name).required(true)
 }
 
-fn with_needed<'a>(
-    alloc: Global,
-    command: Command<'a>,
-    name: &'a str,
-) -> Result<Command<'a>, NoMemory>
-    ensures { IfOk result (λ c. app_of c ≡ with_rule (app_of command.entry) (needed name.entry.now)) }
+fn with_value<'a>(alloc: Global, name: &'a str, value: &'a str) -> Arg<'a>
+    ensures rule { rule_of result ≡ with_value name.entry.now value.entry.now }
+    ensures local { result.global ≡ false }
 {
-    Ok(command.arg(optional(alloc, name).required(true))?)
+    optional(alloc, name).default_value(value)
 }
 
-fn with_value<'a>(
-    alloc: Global,
-    command: Command<'a>,
-    name: &'a str,
-    value: &'a str,
-) -> Result<Command<'a>, NoMemory>
-    ensures { IfOk result (λ c. app_of c ≡ with_rule (app_of command.entry) (with_value name.entry.now value.entry.now)) }
+// The command with one more option, where there was memory for those before it.
+fn with<'a>(
+    command: Result<Command<'a>, AllocError>,
+    option: Arg<'a>,
+) -> Result<Command<'a>, AllocError>
+    requires { option.global ≡ false }
+    ensures { IfOk result (λ c. MatchResult command.entry (λ d. app_of c ≡ with_rule (app_of d) (rule_of option.entry)) (λ e. ⊥)) }
 {
-    Ok(command.arg(optional(alloc, name).default_value(value))?)
+    command?.arg(option)
 }
 
 /// The command whose options `run` takes. It takes no other words.
-pub(super) fn run_grammar<'a>(alloc: Global) -> Result<Command<'a>, NoMemory>
+pub(super) fn run_grammar<'a>(alloc: Global) -> Result<Command<'a>, AllocError>
     ensures { IfOk result (λ c. app_of c ≡ run_grammar) }
 {
-    let command = Command::new(alloc, "run");
-    let command = with_needed(alloc, command, "program")?;
-    let command = with_needed(alloc, command, "uuid")?;
-    let command = with_value(alloc, command, "jobs", "4")?;
-    let command = with_value(alloc, command, "chunk", "0")?;
-    let command = with_value(alloc, command, "name", "remote")?;
-    let command = with_value(alloc, command, "gitdir", ".git")?;
-    let command = with_optional(alloc, command, "keep")?;
-    let command = with_optional(alloc, command, "journal")?;
-    let command = with_value(alloc, command, "work", ".")?;
-    let command = with_value(alloc, command, "starts", "3")?;
-    with_value(alloc, command, "again", "0")
+    let command = Ok(Command::new(alloc, "run"));
+    let command = with(command, needed(alloc, "program"));
+    let command = with(command, needed(alloc, "uuid"));
+    let command = with(command, with_value(alloc, "jobs", "4"));
+    let command = with(command, with_value(alloc, "chunk", "0"));
+    let command = with(command, with_value(alloc, "name", "remote"));
+    let command = with(command, with_value(alloc, "gitdir", ".git"));
+    let command = with(command, optional(alloc, "keep"));
+    let command = with(command, optional(alloc, "journal"));
+    let command = with(command, with_value(alloc, "work", "."));
+    let command = with(command, with_value(alloc, "starts", "3"));
+    with(command, with_value(alloc, "again", "0"))
 }

@@ -59,32 +59,24 @@ fn show(page: Option<Page>) -> Option<Command>
 fn page_alone(word: &str) -> Option<Page>
     ensures { result ≡ page_alone word.now }
 {
-    if word == "--help" {
-        Some(Page::Overview)
-    } else if word == "--version" {
-        Some(Page::Version)
-    } else {
-        None
+    match word {
+        "--help" => Some(Page::Overview),
+        "--version" => Some(Page::Version),
+        _ => None,
     }
 }
 
 fn page_of(word: &str) -> Option<Page>
     ensures { result ≡ page_of word.now }
 {
-    if word == "check" {
-        Some(Page::Check)
-    } else if word == "info" {
-        Some(Page::Info)
-    } else if word == "init" {
-        Some(Page::Init)
-    } else if word == "run" {
-        Some(Page::Run)
-    } else if word == "audit" {
-        Some(Page::Audit)
-    } else if word == "rehearse" {
-        Some(Page::Rehearse)
-    } else {
-        None
+    match word {
+        "check" => Some(Page::Check),
+        "info" => Some(Page::Info),
+        "init" => Some(Page::Init),
+        "run" => Some(Page::Run),
+        "audit" => Some(Page::Audit),
+        "rehearse" => Some(Page::Rehearse),
+        _ => None,
     }
 }
 

@@ -1,10 +1,10 @@
 // The words of `run`.
-ghost use Rattle.std.specs.Prelude.{◌≡◌, IfOk, option_map, true};
+ghost use Rattle.std.specs.Prelude.{◌≡◌, IfOk, Some, option_map, true};
 ghost use Rattle.std.specs.Option.{option_map_or};
 ghost use Rattle.clap.specs.Words.{found_of, first_of, rows_of};
 ghost use Rattle.cli_words.specs.Grammar.{value_at};
 ghost use Rattle.cli_words.specs.Values.{is_text, texts_of};
-ghost use Rattle.cli_words.specs.Words.{are_texts, run_from, run_of};
+ghost use Rattle.cli_words.specs.Words.{are_texts, run_from, run_of, run_with};
 
 use crate::command::RunWords;
 use crate::grammar::run_grammar;
@@ -104,17 +104,41 @@ fn run_from(alloc: Global, matches: &ArgMatches<'_>) -> Result<Option<RunWords>,
     let Some(again) = number_in(value_at(matches, "again"), 0, 8) else {
         return Ok(None);
     };
-    Ok(Some(RunWords {
+    let run = run_words(
+        alloc,
+        matches,
+        uuid,
+        jobs as u32,
+        chunk,
+        starts as u32,
+        again as u32,
+    )?;
+    Ok(Some(run))
+}
+
+// The words of a run whose UUID and numbers are known.
+fn run_words(
+    alloc: Global,
+    matches: &ArgMatches<'_>,
+    uuid: Text,
+    jobs: u32,
+    chunk: u64,
+    starts: u32,
+    again: u32,
+) -> Result<RunWords, NoMemory>
+    ensures { IfOk result (λ run. Some run ≡ run_with (rows_of (found_of matches.now)) (Some uuid) (Some jobs) (Some chunk) (Some starts) (Some again)) }
+{
+    Ok(RunWords {
         program: copy_at(alloc, matches, "program")?,
         uuid,
-        jobs: jobs as u32,
+        jobs,
         chunk,
         name: copy_at(alloc, matches, "name")?,
         gitdir: copy_at(alloc, matches, "gitdir")?,
         keep: copy_given(alloc, matches, "keep")?,
         journal: copy_given(alloc, matches, "journal")?,
         work: copy_at(alloc, matches, "work")?,
-        starts: starts as u32,
-        again: again as u32,
-    }))
+        starts,
+        again,
+    })
 }

@@ -89,12 +89,12 @@ pub fn scope(field: Option<&[u8]>) -> Option<bool>
 {
     let field = field?;
     if is_word(field, b"GLOBAL") {
-        Some(true)
-    } else if is_word(field, b"LOCAL") {
-        Some(false)
-    } else {
-        None
+        return Some(true);
     }
+    if is_word(field, b"LOCAL") {
+        return Some(false);
+    }
+    None
 }
 
 // `STORE`, which is true, or `RETRIEVE`.
@@ -102,12 +102,12 @@ fn direction(word: &[u8]) -> Option<bool>
     ensures { result ≡ direction_of word.now }
 {
     if is_word(word, b"STORE") {
-        Some(true)
-    } else if is_word(word, b"RETRIEVE") {
-        Some(false)
-    } else {
-        None
+        return Some(true);
     }
+    if is_word(word, b"RETRIEVE") {
+        return Some(false);
+    }
+    None
 }
 
 /// A word, and the rest.

@@ -53,14 +53,15 @@ fn by_word<'a>(word: &'a [u8], field: Option<&'a [u8]>) -> Option<HostMsg<'a>>
     ensures { option_map host_shown result ≡ by_rows host_rows word.entry.now (option_copied field.entry) }
 {
     if fields::is_word(word, b"EXTENSIONS") {
-        Some(HostMsg::Extensions(fields::rest(field)))
-    } else if fields::is_word(word, b"PREPARE") {
-        bare(HostMsg::Prepare, field)
-    } else if fields::is_word(word, b"INITREMOTE") {
-        bare(HostMsg::Initremote, field)
-    } else {
-        key_request(word, field)
+        return Some(HostMsg::Extensions(fields::rest(field)));
     }
+    if fields::is_word(word, b"PREPARE") {
+        return bare(HostMsg::Prepare, field);
+    }
+    if fields::is_word(word, b"INITREMOTE") {
+        return bare(HostMsg::Initremote, field);
+    }
+    key_request(word, field)
 }
 
 // Those for a key.
@@ -69,14 +70,15 @@ fn key_request<'a>(word: &'a [u8], field: Option<&'a [u8]>) -> Option<HostMsg<'a
 {
     if fields::is_word(word, b"TRANSFER") {
         let (store, key, file) = fields::transfer_rest(field)?;
-        Some(HostMsg::Transfer(store, key, file))
-    } else if fields::is_word(word, b"CHECKPRESENT") {
-        Some(HostMsg::Checkpresent(fields::key(field)?))
-    } else if fields::is_word(word, b"REMOVE") {
-        Some(HostMsg::Remove(fields::key(field)?))
-    } else {
-        about_request(word, field)
+        return Some(HostMsg::Transfer(store, key, file));
     }
+    if fields::is_word(word, b"CHECKPRESENT") {
+        return Some(HostMsg::Checkpresent(fields::key(field)?));
+    }
+    if fields::is_word(word, b"REMOVE") {
+        return Some(HostMsg::Remove(fields::key(field)?));
+    }
+    about_request(word, field)
 }
 
 // Those about the remote itself, and where a key is.
@@ -84,18 +86,21 @@ fn about_request<'a>(word: &'a [u8], field: Option<&'a [u8]>) -> Option<HostMsg<
     ensures { option_map host_shown result ≡ by_rows (drop 6 host_rows) word.entry.now (option_copied field.entry) }
 {
     if fields::is_word(word, b"LISTCONFIGS") {
-        bare(HostMsg::Listconfigs, field)
-    } else if fields::is_word(word, b"GETCOST") {
-        bare(HostMsg::Getcost, field)
-    } else if fields::is_word(word, b"GETAVAILABILITY") {
-        bare(HostMsg::Getavailability, field)
-    } else if fields::is_word(word, b"GETINFO") {
-        bare(HostMsg::Getinfo, field)
-    } else if fields::is_word(word, b"WHEREIS") {
-        Some(HostMsg::Whereis(fields::key(field)?))
-    } else {
-        export(word, field)
+        return bare(HostMsg::Listconfigs, field);
     }
+    if fields::is_word(word, b"GETCOST") {
+        return bare(HostMsg::Getcost, field);
+    }
+    if fields::is_word(word, b"GETAVAILABILITY") {
+        return bare(HostMsg::Getavailability, field);
+    }
+    if fields::is_word(word, b"GETINFO") {
+        return bare(HostMsg::Getinfo, field);
+    }
+    if fields::is_word(word, b"WHEREIS") {
+        return Some(HostMsg::Whereis(fields::key(field)?));
+    }
+    export(word, field)
 }
 
 // What is said of exports.
@@ -103,12 +108,12 @@ fn export<'a>(word: &'a [u8], field: Option<&'a [u8]>) -> Option<HostMsg<'a>>
     ensures { option_map host_shown result ≡ by_rows (drop 11 host_rows) word.entry.now (option_copied field.entry) }
 {
     if fields::is_word(word, b"EXPORTSUPPORTED") {
-        bare(HostMsg::Exportsupported, field)
-    } else if fields::is_word(word, b"EXPORT") {
-        Some(HostMsg::Export(fields::rest(field)))
-    } else {
-        export_request(word, field)
+        return bare(HostMsg::Exportsupported, field);
     }
+    if fields::is_word(word, b"EXPORT") {
+        return Some(HostMsg::Export(fields::rest(field)));
+    }
+    export_request(word, field)
 }
 
 // The requests about the name that EXPORT said.
@@ -117,12 +122,12 @@ fn export_request<'a>(word: &'a [u8], field: Option<&'a [u8]>) -> Option<HostMsg
 {
     if fields::is_word(word, b"TRANSFEREXPORT") {
         let (store, key, file) = fields::transfer_rest(field)?;
-        Some(HostMsg::Transferexport(store, key, file))
-    } else if fields::is_word(word, b"CHECKPRESENTEXPORT") {
-        Some(HostMsg::Checkpresentexport(fields::key(field)?))
-    } else {
-        export_change(word, field)
+        return Some(HostMsg::Transferexport(store, key, file));
     }
+    if fields::is_word(word, b"CHECKPRESENTEXPORT") {
+        return Some(HostMsg::Checkpresentexport(fields::key(field)?));
+    }
+    export_change(word, field)
 }
 
 // Those that take the name away.
@@ -130,13 +135,13 @@ fn export_change<'a>(word: &'a [u8], field: Option<&'a [u8]>) -> Option<HostMsg<
     ensures { option_map host_shown result ≡ by_rows (drop 15 host_rows) word.entry.now (option_copied field.entry) }
 {
     if fields::is_word(word, b"REMOVEEXPORT") {
-        Some(HostMsg::Removeexport(fields::key(field)?))
-    } else if fields::is_word(word, b"RENAMEEXPORT") {
-        let (key, onto) = fields::key_rest(field)?;
-        Some(HostMsg::Renameexport(key, onto))
-    } else {
-        reply(word, field)
+        return Some(HostMsg::Removeexport(fields::key(field)?));
     }
+    if fields::is_word(word, b"RENAMEEXPORT") {
+        let (key, onto) = fields::key_rest(field)?;
+        return Some(HostMsg::Renameexport(key, onto));
+    }
+    reply(word, field)
 }
 
 // Replies.
@@ -144,15 +149,16 @@ fn reply<'a>(word: &'a [u8], field: Option<&'a [u8]>) -> Option<HostMsg<'a>>
     ensures { option_map host_shown result ≡ by_rows (drop 17 host_rows) word.entry.now (option_copied field.entry) }
 {
     if fields::is_word(word, b"VALUE") {
-        Some(HostMsg::Value(fields::rest(field)))
-    } else if fields::is_word(word, b"CREDS") {
-        let (user, password) = fields::word_rest(field)?;
-        Some(HostMsg::Creds(user, password))
-    } else if fields::is_word(word, b"ERROR") {
-        Some(HostMsg::Error(fields::rest(field)))
-    } else {
-        None
+        return Some(HostMsg::Value(fields::rest(field)));
     }
+    if fields::is_word(word, b"CREDS") {
+        let (user, password) = fields::word_rest(field)?;
+        return Some(HostMsg::Creds(user, password));
+    }
+    if fields::is_word(word, b"ERROR") {
+        return Some(HostMsg::Error(fields::rest(field)));
+    }
+    None
 }
 
 // The message has no parameters.

@@ -77,14 +77,15 @@ fn by_word<'a>(word: &'a [u8], field: Option<&'a [u8]>) -> Option<RemoteMsg<'a>>
     ensures { option_map remote_shown result ≡ remote_by_word word.entry.now (option_copied field.entry) }
 {
     if let Some(message) = opening(word, field) {
-        Some(message)
-    } else if let Some(message) = aside(word, field) {
-        Some(message)
-    } else if let Some(message) = task(word, field) {
-        Some(message)
-    } else {
-        about(word, field)
+        return Some(message);
     }
+    if let Some(message) = aside(word, field) {
+        return Some(message);
+    }
+    if let Some(message) = task(word, field) {
+        return Some(message);
+    }
+    about(word, field)
 }
 
 // The message has no parameters.
@@ -102,16 +103,18 @@ fn opening<'a>(word: &'a [u8], field: Option<&'a [u8]>) -> Option<RemoteMsg<'a>>
     ensures { option_map remote_shown result ≡ by_rows opening_rows word.entry.now (option_copied field.entry) }
 {
     if fields::is_word(word, b"VERSION") {
-        Some(RemoteMsg::Version(fields::number(field)?))
-    } else if fields::is_word(word, b"EXTENSIONS") {
-        Some(RemoteMsg::Extensions(fields::rest(field)))
-    } else if fields::is_word(word, b"UNSUPPORTED-REQUEST") {
-        bare(RemoteMsg::UnsupportedRequest, field)
-    } else if fields::is_word(word, b"ERROR") {
-        Some(RemoteMsg::Error(fields::rest(field)))
-    } else {
-        None
+        return Some(RemoteMsg::Version(fields::number(field)?));
     }
+    if fields::is_word(word, b"EXTENSIONS") {
+        return Some(RemoteMsg::Extensions(fields::rest(field)));
+    }
+    if fields::is_word(word, b"UNSUPPORTED-REQUEST") {
+        return bare(RemoteMsg::UnsupportedRequest, field);
+    }
+    if fields::is_word(word, b"ERROR") {
+        return Some(RemoteMsg::Error(fields::rest(field)));
+    }
+    None
 }
 
 // What a remote may say in any request.
@@ -119,18 +122,21 @@ fn aside<'a>(word: &'a [u8], field: Option<&'a [u8]>) -> Option<RemoteMsg<'a>>
     ensures { option_map remote_shown result ≡ by_rows aside_rows word.entry.now (option_copied field.entry) }
 {
     if fields::is_word(word, b"PROGRESS") {
-        Some(RemoteMsg::Progress(fields::number(field)?))
-    } else if fields::is_word(word, b"DEBUG") {
-        Some(RemoteMsg::Debug(fields::rest(field)))
-    } else if fields::is_word(word, b"INFO") {
-        Some(RemoteMsg::Info(fields::rest(field)))
-    } else if fields::is_word(word, b"DIRHASH") {
-        Some(RemoteMsg::Dirhash(fields::key(field)?))
-    } else if fields::is_word(word, b"DIRHASH-LOWER") {
-        Some(RemoteMsg::DirhashLower(fields::key(field)?))
-    } else {
-        setting(word, field)
+        return Some(RemoteMsg::Progress(fields::number(field)?));
     }
+    if fields::is_word(word, b"DEBUG") {
+        return Some(RemoteMsg::Debug(fields::rest(field)));
+    }
+    if fields::is_word(word, b"INFO") {
+        return Some(RemoteMsg::Info(fields::rest(field)));
+    }
+    if fields::is_word(word, b"DIRHASH") {
+        return Some(RemoteMsg::Dirhash(fields::key(field)?));
+    }
+    if fields::is_word(word, b"DIRHASH-LOWER") {
+        return Some(RemoteMsg::DirhashLower(fields::key(field)?));
+    }
+    setting(word, field)
 }
 
 // Those about its settings.
@@ -138,18 +144,20 @@ fn setting<'a>(word: &'a [u8], field: Option<&'a [u8]>) -> Option<RemoteMsg<'a>>
     ensures { option_map remote_shown result ≡ by_rows (drop 5 aside_rows) word.entry.now (option_copied field.entry) }
 {
     if fields::is_word(word, b"GETCONFIG") {
-        Some(RemoteMsg::Getconfig(fields::rest(field)))
-    } else if fields::is_word(word, b"SETCONFIG") {
-        let (name, value) = fields::word_rest(field)?;
-        Some(RemoteMsg::Setconfig(name, value))
-    } else if fields::is_word(word, b"GETCREDS") {
-        Some(RemoteMsg::Getcreds(fields::rest(field)))
-    } else if fields::is_word(word, b"SETCREDS") {
-        let (setting, user, password) = fields::words_rest(field)?;
-        Some(RemoteMsg::Setcreds(setting, user, password))
-    } else {
-        repository(word, field)
+        return Some(RemoteMsg::Getconfig(fields::rest(field)));
     }
+    if fields::is_word(word, b"SETCONFIG") {
+        let (name, value) = fields::word_rest(field)?;
+        return Some(RemoteMsg::Setconfig(name, value));
+    }
+    if fields::is_word(word, b"GETCREDS") {
+        return Some(RemoteMsg::Getcreds(fields::rest(field)));
+    }
+    if fields::is_word(word, b"SETCREDS") {
+        let (setting, user, password) = fields::words_rest(field)?;
+        return Some(RemoteMsg::Setcreds(setting, user, password));
+    }
+    repository(word, field)
 }
 
 // Those about the repository.
@@ -157,18 +165,21 @@ fn repository<'a>(word: &'a [u8], field: Option<&'a [u8]>) -> Option<RemoteMsg<'
     ensures { option_map remote_shown result ≡ by_rows (drop 9 aside_rows) word.entry.now (option_copied field.entry) }
 {
     if fields::is_word(word, b"GETUUID") {
-        bare(RemoteMsg::Getuuid, field)
-    } else if fields::is_word(word, b"GETGITDIR") {
-        bare(RemoteMsg::Getgitdir, field)
-    } else if fields::is_word(word, b"GETGITREMOTENAME") {
-        bare(RemoteMsg::Getgitremotename, field)
-    } else if fields::is_word(word, b"GETWANTED") {
-        bare(RemoteMsg::Getwanted, field)
-    } else if fields::is_word(word, b"SETWANTED") {
-        Some(RemoteMsg::Setwanted(fields::rest(field)))
-    } else {
-        state(word, field)
+        return bare(RemoteMsg::Getuuid, field);
     }
+    if fields::is_word(word, b"GETGITDIR") {
+        return bare(RemoteMsg::Getgitdir, field);
+    }
+    if fields::is_word(word, b"GETGITREMOTENAME") {
+        return bare(RemoteMsg::Getgitremotename, field);
+    }
+    if fields::is_word(word, b"GETWANTED") {
+        return bare(RemoteMsg::Getwanted, field);
+    }
+    if fields::is_word(word, b"SETWANTED") {
+        return Some(RemoteMsg::Setwanted(fields::rest(field)));
+    }
+    state(word, field)
 }
 
 // Those about what is kept for a key.
@@ -176,22 +187,25 @@ fn state<'a>(word: &'a [u8], field: Option<&'a [u8]>) -> Option<RemoteMsg<'a>>
     ensures { option_map remote_shown result ≡ by_rows (drop 14 aside_rows) word.entry.now (option_copied field.entry) }
 {
     if fields::is_word(word, b"GETSTATE") {
-        Some(RemoteMsg::Getstate(fields::key(field)?))
-    } else if fields::is_word(word, b"SETSTATE") {
-        let (key, value) = fields::key_rest(field)?;
-        Some(RemoteMsg::Setstate(key, value))
-    } else if fields::is_word(word, b"SETURLPRESENT") {
-        let (key, url) = fields::key_rest(field)?;
-        Some(RemoteMsg::Seturlpresent(key, url))
-    } else if fields::is_word(word, b"SETURLMISSING") {
-        let (key, url) = fields::key_rest(field)?;
-        Some(RemoteMsg::Seturlmissing(key, url))
-    } else if fields::is_word(word, b"GETURLS") {
-        let (key, prefix) = fields::key_rest(field)?;
-        Some(RemoteMsg::Geturls(key, prefix))
-    } else {
-        None
+        return Some(RemoteMsg::Getstate(fields::key(field)?));
     }
+    if fields::is_word(word, b"SETSTATE") {
+        let (key, value) = fields::key_rest(field)?;
+        return Some(RemoteMsg::Setstate(key, value));
+    }
+    if fields::is_word(word, b"SETURLPRESENT") {
+        let (key, url) = fields::key_rest(field)?;
+        return Some(RemoteMsg::Seturlpresent(key, url));
+    }
+    if fields::is_word(word, b"SETURLMISSING") {
+        let (key, url) = fields::key_rest(field)?;
+        return Some(RemoteMsg::Seturlmissing(key, url));
+    }
+    if fields::is_word(word, b"GETURLS") {
+        let (key, prefix) = fields::key_rest(field)?;
+        return Some(RemoteMsg::Geturls(key, prefix));
+    }
+    None
 }
 
 // The lines that answer a request of the greeting or for a key.
@@ -199,16 +213,18 @@ fn task<'a>(word: &'a [u8], field: Option<&'a [u8]>) -> Option<RemoteMsg<'a>>
     ensures { option_map remote_shown result ≡ by_rows task_rows word.entry.now (option_copied field.entry) }
 {
     if fields::is_word(word, b"PREPARE-SUCCESS") {
-        bare(RemoteMsg::PrepareSuccess, field)
-    } else if fields::is_word(word, b"PREPARE-FAILURE") {
-        Some(RemoteMsg::PrepareFailure(fields::rest(field)))
-    } else if fields::is_word(word, b"INITREMOTE-SUCCESS") {
-        bare(RemoteMsg::InitremoteSuccess, field)
-    } else if fields::is_word(word, b"INITREMOTE-FAILURE") {
-        Some(RemoteMsg::InitremoteFailure(fields::rest(field)))
-    } else {
-        transfer(word, field)
+        return bare(RemoteMsg::PrepareSuccess, field);
     }
+    if fields::is_word(word, b"PREPARE-FAILURE") {
+        return Some(RemoteMsg::PrepareFailure(fields::rest(field)));
+    }
+    if fields::is_word(word, b"INITREMOTE-SUCCESS") {
+        return bare(RemoteMsg::InitremoteSuccess, field);
+    }
+    if fields::is_word(word, b"INITREMOTE-FAILURE") {
+        return Some(RemoteMsg::InitremoteFailure(fields::rest(field)));
+    }
+    transfer(word, field)
 }
 
 // Those that answer `TRANSFER`.
@@ -217,13 +233,13 @@ fn transfer<'a>(word: &'a [u8], field: Option<&'a [u8]>) -> Option<RemoteMsg<'a>
 {
     if fields::is_word(word, b"TRANSFER-SUCCESS") {
         let (store, key) = fields::transfer(field)?;
-        Some(RemoteMsg::TransferSuccess(store, key))
-    } else if fields::is_word(word, b"TRANSFER-FAILURE") {
-        let (store, key, text) = fields::transfer_rest(field)?;
-        Some(RemoteMsg::TransferFailure(store, key, text))
-    } else {
-        checkpresent(word, field)
+        return Some(RemoteMsg::TransferSuccess(store, key));
     }
+    if fields::is_word(word, b"TRANSFER-FAILURE") {
+        let (store, key, text) = fields::transfer_rest(field)?;
+        return Some(RemoteMsg::TransferFailure(store, key, text));
+    }
+    checkpresent(word, field)
 }
 
 // Those that answer `CHECKPRESENT`.
@@ -231,15 +247,16 @@ fn checkpresent<'a>(word: &'a [u8], field: Option<&'a [u8]>) -> Option<RemoteMsg
     ensures { option_map remote_shown result ≡ by_rows (drop 6 task_rows) word.entry.now (option_copied field.entry) }
 {
     if fields::is_word(word, b"CHECKPRESENT-SUCCESS") {
-        Some(RemoteMsg::CheckpresentSuccess(fields::key(field)?))
-    } else if fields::is_word(word, b"CHECKPRESENT-FAILURE") {
-        Some(RemoteMsg::CheckpresentFailure(fields::key(field)?))
-    } else if fields::is_word(word, b"CHECKPRESENT-UNKNOWN") {
-        let (key, text) = fields::key_rest(field)?;
-        Some(RemoteMsg::CheckpresentUnknown(key, text))
-    } else {
-        remove(word, field)
+        return Some(RemoteMsg::CheckpresentSuccess(fields::key(field)?));
     }
+    if fields::is_word(word, b"CHECKPRESENT-FAILURE") {
+        return Some(RemoteMsg::CheckpresentFailure(fields::key(field)?));
+    }
+    if fields::is_word(word, b"CHECKPRESENT-UNKNOWN") {
+        let (key, text) = fields::key_rest(field)?;
+        return Some(RemoteMsg::CheckpresentUnknown(key, text));
+    }
+    remove(word, field)
 }
 
 // Those that answer `REMOVE`.
@@ -247,13 +264,13 @@ fn remove<'a>(word: &'a [u8], field: Option<&'a [u8]>) -> Option<RemoteMsg<'a>>
     ensures { option_map remote_shown result ≡ by_rows (drop 9 task_rows) word.entry.now (option_copied field.entry) }
 {
     if fields::is_word(word, b"REMOVE-SUCCESS") {
-        Some(RemoteMsg::RemoveSuccess(fields::key(field)?))
-    } else if fields::is_word(word, b"REMOVE-FAILURE") {
-        let (key, text) = fields::key_rest(field)?;
-        Some(RemoteMsg::RemoveFailure(key, text))
-    } else {
-        None
+        return Some(RemoteMsg::RemoveSuccess(fields::key(field)?));
     }
+    if fields::is_word(word, b"REMOVE-FAILURE") {
+        let (key, text) = fields::key_rest(field)?;
+        return Some(RemoteMsg::RemoveFailure(key, text));
+    }
+    None
 }
 
 // The lines that answer a request about the remote itself.
@@ -262,16 +279,18 @@ fn about<'a>(word: &'a [u8], field: Option<&'a [u8]>) -> Option<RemoteMsg<'a>>
 {
     if fields::is_word(word, b"CONFIG") {
         let (name, description) = fields::word_rest(field)?;
-        Some(RemoteMsg::Config(name, description))
-    } else if fields::is_word(word, b"CONFIGEND") {
-        bare(RemoteMsg::Configend, field)
-    } else if fields::is_word(word, b"COST") {
-        Some(RemoteMsg::Cost(fields::number(field)?))
-    } else if fields::is_word(word, b"AVAILABILITY") {
-        Some(RemoteMsg::Availability(fields::scope(field)?))
-    } else {
-        info(word, field)
+        return Some(RemoteMsg::Config(name, description));
     }
+    if fields::is_word(word, b"CONFIGEND") {
+        return bare(RemoteMsg::Configend, field);
+    }
+    if fields::is_word(word, b"COST") {
+        return Some(RemoteMsg::Cost(fields::number(field)?));
+    }
+    if fields::is_word(word, b"AVAILABILITY") {
+        return Some(RemoteMsg::Availability(fields::scope(field)?));
+    }
+    info(word, field)
 }
 
 // Those that answer `GETINFO` and `WHEREIS`.
@@ -279,18 +298,21 @@ fn info<'a>(word: &'a [u8], field: Option<&'a [u8]>) -> Option<RemoteMsg<'a>>
     ensures { option_map remote_shown result ≡ by_rows (drop 4 about_rows) word.entry.now (option_copied field.entry) }
 {
     if fields::is_word(word, b"INFOFIELD") {
-        Some(RemoteMsg::Infofield(fields::rest(field)))
-    } else if fields::is_word(word, b"INFOVALUE") {
-        Some(RemoteMsg::Infovalue(fields::rest(field)))
-    } else if fields::is_word(word, b"INFOEND") {
-        bare(RemoteMsg::Infoend, field)
-    } else if fields::is_word(word, b"WHEREIS-SUCCESS") {
-        Some(RemoteMsg::WhereisSuccess(fields::rest(field)))
-    } else if fields::is_word(word, b"WHEREIS-FAILURE") {
-        bare(RemoteMsg::WhereisFailure, field)
-    } else {
-        export(word, field)
+        return Some(RemoteMsg::Infofield(fields::rest(field)));
     }
+    if fields::is_word(word, b"INFOVALUE") {
+        return Some(RemoteMsg::Infovalue(fields::rest(field)));
+    }
+    if fields::is_word(word, b"INFOEND") {
+        return bare(RemoteMsg::Infoend, field);
+    }
+    if fields::is_word(word, b"WHEREIS-SUCCESS") {
+        return Some(RemoteMsg::WhereisSuccess(fields::rest(field)));
+    }
+    if fields::is_word(word, b"WHEREIS-FAILURE") {
+        return bare(RemoteMsg::WhereisFailure, field);
+    }
+    export(word, field)
 }
 
 // Those of exports that answer nothing else.
@@ -298,14 +320,16 @@ fn export<'a>(word: &'a [u8], field: Option<&'a [u8]>) -> Option<RemoteMsg<'a>>
     ensures { option_map remote_shown result ≡ by_rows (drop 9 about_rows) word.entry.now (option_copied field.entry) }
 {
     if fields::is_word(word, b"EXPORTSUPPORTED-SUCCESS") {
-        bare(RemoteMsg::ExportsupportedSuccess, field)
-    } else if fields::is_word(word, b"EXPORTSUPPORTED-FAILURE") {
-        bare(RemoteMsg::ExportsupportedFailure, field)
-    } else if fields::is_word(word, b"RENAMEEXPORT-SUCCESS") {
-        Some(RemoteMsg::RenameexportSuccess(fields::key(field)?))
-    } else if fields::is_word(word, b"RENAMEEXPORT-FAILURE") {
-        Some(RemoteMsg::RenameexportFailure(fields::key(field)?))
-    } else {
-        None
+        return bare(RemoteMsg::ExportsupportedSuccess, field);
     }
+    if fields::is_word(word, b"EXPORTSUPPORTED-FAILURE") {
+        return bare(RemoteMsg::ExportsupportedFailure, field);
+    }
+    if fields::is_word(word, b"RENAMEEXPORT-SUCCESS") {
+        return Some(RemoteMsg::RenameexportSuccess(fields::key(field)?));
+    }
+    if fields::is_word(word, b"RENAMEEXPORT-FAILURE") {
+        return Some(RemoteMsg::RenameexportFailure(fields::key(field)?));
+    }
+    None
 }
