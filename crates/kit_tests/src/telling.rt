@@ -155,28 +155,25 @@ static ROWS: [Row; 2] = [
     (4, 5, b"VERSION 1\n|PREPARE-SUCCESS\n|<PROGRESS 1\n|>"),
 ];
 
-// The status of a kit whose remote tells all in its call, over a sink of which that write fails.
-fn told<R: Wait>(rt: &R, alloc: Global, log: &Log, fails: u64) -> Result<u8, Fail> {
-    let mut source = asked(alloc)?;
-    let sink = LogSink::new(rt, Arc::try_clone(log)?, fails);
-    let log = Arc::try_clone(log)?;
-    let (mut half, teller) = share(rt, alloc, sink)?;
-    let served = serve(alloc, Talker { rt, log, teller }, &mut source, &mut half);
-    let status = served.status;
-    drop(served);
-    drop(half);
-    Ok(status)
-}
-
 #[test]
 fn what_is_told_goes_out_in_the_call_and_nothing_follows_a_failed_write(
     rt: HostRuntime,
 ) -> Result<(), Fail> {
     let alloc = rt.alloc();
     for (fails, status, noted) in &ROWS {
+        let mut source = asked(alloc)?;
         let log = Arc::new(alloc, Mutex::new(Vec::new(alloc)))?;
-        let served = told(&rt, alloc, &log, *fails)?;
-        assert_eq!(rt; served, *status);
+        let sink = LogSink::new(&rt, Arc::try_clone(&log)?, *fails);
+        let (mut half, teller) = share(&rt, alloc, sink)?;
+        let talker = Talker {
+            rt: &rt,
+            log: Arc::try_clone(&log)?,
+            teller,
+        };
+        let served = serve(alloc, talker, &mut source, &mut half);
+        assert_eq!(rt; served.status, *status);
+        drop(served);
+        drop(half);
         assert!(rt; log.lock(&rt).as_slice() == *noted);
     }
     Ok(())
