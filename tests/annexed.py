@@ -5,8 +5,10 @@ import random
 import shutil
 
 from harness import ANNEX_REMOTE_DIR, SPECIAL, TOP, as_text, require, run, skip
+from kits import SIGN
 
 ANNEX_SPECIAL = str(TOP / "contrib/annex-special")
+PLAIN = os.path.abspath(os.environ.get("ANNEX_REMOTE_PLAIN") or TOP / "crates/remote_plain_bin/out/remote_plain_bin")
 REMOTE = "folder"
 
 
@@ -24,8 +26,9 @@ class Annex:
         self.room = room
         self.top = room.mkdir("repository")
         bin = room.mkdir("bin")
-        for name, program in (("special", SPECIAL), ("git-annex-remote-milgroez", ANNEX_REMOTE_DIR)):
-            if not room.has(f"bin/{name}"):
+        programs = {"special": SPECIAL, "git-annex-remote-milgroez": ANNEX_REMOTE_DIR, "annex-remote-plain": PLAIN}
+        for name, program in programs.items():
+            if os.access(program, os.X_OK) and not room.has(f"bin/{name}"):
                 os.symlink(program, f"{bin}/{name}")
         room.write("home/.gitconfig", "[user]\n\tname = a\n\temail = a@example.org\n")
         self.env = {"HOME": room.path("home"), "PATH": f"{bin}:{os.environ['PATH']}", "GIT_CONFIG_NOSYSTEM": "1"}
@@ -62,7 +65,7 @@ class Annex:
 
     def stored(self):
         """The files of the remote's folder."""
-        return sorted(name for _, _, names in os.walk(self.room.path("directory")) for name in names)
+        return sorted(name for _, _, names in os.walk(self.room.path("directory")) for name in names if name != SIGN)
 
     def recorded(self):
         """What git-annex's log has in the remote: names, in order."""

@@ -5,11 +5,21 @@ import os
 from harness import ANNEX_REMOTE_DIR, Differs, as_bytes, as_text, start
 
 
+# What shows that an empty folder is a remote's, and not a mount point without its disk.
+SIGN = ".annex-remote-dir"
+
+
+def signed(directory):
+    """The folder, with the small file that INITREMOTE leaves in it."""
+    with open(os.path.join(directory, SIGN), "a", encoding="utf-8"):
+        return directory
+
+
 class Kit:
     """A remote that keeps contents in a folder, and is ready."""
 
     def __init__(self, directory, env=None):
-        self.directory = directory
+        self.directory = signed(directory)
         self.process = start([ANNEX_REMOTE_DIR], env=env, stderr=None)
         self.hear("VERSION 1")
         self.say("EXTENSIONS INFO")
@@ -77,7 +87,7 @@ def contents(directory):
     for path, folders, names in os.walk(directory):
         if path == directory and "tmp" in folders:
             folders.remove("tmp")
-        for name in names:
+        for name in names if path != directory else []:
             found[name] = os.path.join(path, name)
     return found
 

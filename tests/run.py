@@ -153,7 +153,13 @@ def remove(folder):
         for inner in (os.path.join(path, name) for name in names):
             if not os.path.islink(inner):
                 os.chmod(inner, 0o700)
-    shutil.rmtree(folder)
+    shutil.rmtree(folder, onerror=pass_over_vanished)
+
+
+def pass_over_vanished(_, path, why):
+    """What is ending, as gpg's agent, removes files of its own meanwhile."""
+    if not issubclass(why[0], FileNotFoundError):
+        raise why[1]
 
 
 class Runner:

@@ -6,7 +6,7 @@ import pty
 from annexed import ANNEX_SPECIAL, REMOTE, Annex, contents
 from harness import as_text, expect, limits, require, run, start, table
 
-NOT_KNOWN = f"git-annex's log does not have this yet: run `git annex fsck --from {REMOTE}`\n"
+NOT_KNOWN = f"git-annex's log does not have this yet: run `git annex fsck --fast --from {REMOTE}`\n"
 
 
 def expect_whole(annex, files):
@@ -92,7 +92,7 @@ def case_a_get_of_damaged_content_fails_with_key_and_file(room):
     expect(done.status, 1, "the status")
     # The SHA256 digest of `wrong`.
     digest = "8810ad581e59f2bc3928b261707a71308f7e139eb04820366dc4d5c18d980225"
-    lines = f"failed {damaged} a: hash {digest}\nget: 2 keys: 1 failed, 1 got\n"
+    lines = f"damaged {damaged} a: hash {digest}\nget: 2 keys: 1 damaged, 1 got\n"
     expect(done.out, lines, "what is printed")
     expect(annex.present(), ["b"], "what is here")
 
@@ -142,47 +142,21 @@ def case_a_drop_is_refused_where_git_annex_would_not_ask_again(room):
 
 
 @limits(300)
-@table([
-    ("shared encryption", ["encryption=shared"], "encryption=shared: only encryption=none is served here"),
-    (
-        "a tree of files",
-        ["encryption=none", "exporttree=yes"],
-        "exporttree=yes: it keeps files by their names and not by their keys",
-    ),
-])
-def a_remote_of_another_kind_is_refused_with_a_sentence(room, settings, sentence):
+def case_a_remote_that_others_write_to_is_refused(room):
     annex = Annex(room)
-    if "exporttree=yes" in settings:
-        room.script("bin/git-annex-remote-milgroez-exports", EXPORTS)
-        annex.add_remote("externaltype=milgroez-exports", *settings)
-    else:
-        annex.add_remote(*settings)
+    settings = ["type=directory", f"directory={room.mkdir('shared')}", "encryption=none", "importtree=yes", "exporttree=yes"]
+    annex.well("git", "annex", "initremote", "-q", "own", *settings)
+    said = "annex-special: own has importtree=yes: others write there too, and what they write is not known here\n"
     for command in ("check", "get", "copy", "drop"):
-        expect(annex.special(command), (2, "", f"annex-special: {REMOTE} has {sentence}\n"), command)
-
-
-# A remote that can export, and nothing else.
-EXPORTS = """
-echo "VERSION 1"
-while IFS= read -r line; do
-  case "$line" in
-    EXTENSIONS*) echo EXTENSIONS ;;
-    EXPORTSUPPORTED) echo EXPORTSUPPORTED-SUCCESS ;;
-    INITREMOTE) echo INITREMOTE-SUCCESS ;;
-    PREPARE) echo PREPARE-SUCCESS ;;
-    *) echo UNSUPPORTED-REQUEST ;;
-  esac
-done
-"""
+        expect(annex.run(ANNEX_SPECIAL, "own", command), (2, "", said), command)
 
 
 @limits(300)
-def case_a_remote_of_git_annex_s_own_is_refused(room):
+def case_a_remote_of_another_type_is_refused(room):
     annex = Annex(room)
-    directory = room.mkdir("directory")
-    annex.well("git", "annex", "initremote", "-q", "own", "type=directory", f"directory={directory}", "encryption=none")
-    said = "own has type=directory: only type=external speaks the protocol of external special remotes"
-    expect(annex.run(ANNEX_SPECIAL, "own", "check"), (2, "", f"annex-special: {said}\n"), "a directory remote")
+    annex.well("git", "annex", "initremote", "-q", "own", "type=rsync", f"rsyncurl={room.mkdir('rsync')}", "encryption=none")
+    said = "own has type=rsync: only type=external and type=directory are served here"
+    expect(annex.run(ANNEX_SPECIAL, "own", "check"), (2, "", f"annex-special: {said}\n"), "an rsync remote")
     said = "annex-special: git-annex knows no remote other here\n"
     expect(annex.run(ANNEX_SPECIAL, "other", "check"), (2, "", said), "no remote")
 
@@ -280,8 +254,9 @@ def case_journals_are_kept_where_they_are_asked_for(room):
     folder = room.mkdir("journals")
     expect(annex.special("check", "--journals", folder).status, 0, "the status")
     names = os.listdir(folder)
-    require(len(names) == 1, f"wanted one journal, got {names}")
-    expect(room.special("audit", input=room.read(f"journals/{names[0]}")), (0, "legal\n", ""), "its audit")
+    require(len(names) == 2, f"wanted that of the start that finds out the way, and that of the check, got {names}")
+    for name in names:
+        expect(room.special("audit", input=room.read(f"journals/{name}")), (0, "legal\n", ""), "its audit")
 
 
 @limits(300)

@@ -5,7 +5,7 @@ import random
 import threading
 
 import journal
-from harness import ANNEX_REMOTE_DIR, SPECIAL, UUID, Done, as_bytes, as_text, expect, limits, require, run, start, table
+from harness import ANNEX_REMOTE_DIR, SPECIAL, UUID, Done, as_bytes, as_text, expect, limits, preloaded, require, run, start, table
 
 # How many random sessions run, and whether on one processor.
 SESSIONS = int(os.environ.get("ASYNC_SESSIONS", "10"))
@@ -18,9 +18,9 @@ UNEXPECTED = "ERROR unexpected message\n"
 CONFIGS = ["CONFIG directory the folder in which the contents of keys are kept", "CONFIGEND"]
 
 
-def served(room, says):
+def served(room, says, env=None):
     """What the remote says to these lines, which are all there from the start."""
-    return room.run([ANNEX_REMOTE_DIR], input=says, env={"ANNEX_REMOTE_DIR_SYNC": "0"})
+    return room.run([ANNEX_REMOTE_DIR], input=says, env={"ANNEX_REMOTE_DIR_SYNC": "0", **(env or {})})
 
 
 # The host's lines, all that is said, and the status. No two requests are open at once that could be answered in two orders.
@@ -46,7 +46,7 @@ SESSION_ROWS = [
      TAGGED + "J 1 GETCONFIG directory\nJ 1 PREPARE-FAILURE no directory\n", 0),
     ("a value that never comes", "EXTENSIONS ASYNC\nJ 1 PREPARE\n", TAGGED + "J 1 GETCONFIG directory\n", 0),
     ("set up under a number", "EXTENSIONS ASYNC\nJ 3 INITREMOTE\nJ 3 VALUE d\n",
-     TAGGED + "J 3 GETCONFIG directory\nJ 3 INITREMOTE-SUCCESS\n", 0),
+     TAGGED + "J 3 GETCONFIG directory\nJ 3 INITREMOTE-FAILURE directory is relative: give the whole path, such as /home/me/backup\n", 0),
     ("a value that nobody asked for", "EXTENSIONS ASYNC\nJ 5 VALUE x\n", TAGGED + UNEXPECTED, 1),
     ("a request in the place of a value", "EXTENSIONS ASYNC\nJ 1 PREPARE\nJ 1 CHECKPRESENT WORM--a\n",
      TAGGED + "J 1 GETCONFIG directory\n" + UNEXPECTED, 1),
@@ -65,6 +65,56 @@ SESSION_ROWS = [
 @table(SESSION_ROWS)
 def a_session_with_tags(room, says, said, status):
     expect(served(room, says), Done(status, said, ""))
+
+
+@table([(f"{most} threads, {name}", most, *row) for most in (0, 1, 5) for name, *row in SESSION_ROWS])
+def a_session_with_tags_where_more_threads_are_refused(room, most, says, said, status):
+    few = {"LD_PRELOAD": preloaded(room, "tests/failing_calls.c"), "MOST_THREADS": most}
+    expect(served(room, says, few), Done(status, said, ""))
+
+
+def started_and_ready(room, tag):
+    """A remote that is ready, asked one request after the other under that tag."""
+    os.mkdir(room.path("d"))
+    remote = start([ANNEX_REMOTE_DIR], cwd=room.path())
+    for line in ["EXTENSIONS INFO ASYNC" if tag else "EXTENSIONS INFO", tag + "PREPARE", tag + "VALUE d"]:
+        require(remote.stdout.readline(), "it ended")
+        remote.stdin.write(as_bytes(line) + b"\n")
+        remote.stdin.flush()
+    require(remote.stdout.readline() == as_bytes(tag + "PREPARE-SUCCESS\n"), "it isn't ready")
+    return remote
+
+
+def asked(remote, line):
+    """What the remote answers to the line."""
+    remote.stdin.write(as_bytes(line) + b"\n")
+    remote.stdin.flush()
+    return as_text(remote.stdout.readline()).removesuffix("\n")
+
+
+def threads_of(remote):
+    """How many threads the process has."""
+    return len(os.listdir(f"/proc/{remote.pid}/task"))
+
+
+@table([("without tags", ""), ("with tags", "J 1 ")])
+def checks_that_come_one_by_one_start_no_thread(room, tag):
+    remote = started_and_ready(room, tag)
+    for number in range(20):
+        expect(asked(remote, f"{tag}CHECKPRESENT WORM--{number}"), f"{tag}CHECKPRESENT-FAILURE WORM--{number}", "an answer")
+        expect(asked(remote, f"{tag}REMOVE WORM--{number}"), f"{tag}REMOVE-SUCCESS WORM--{number}", "an answer")
+    expect(threads_of(remote), 1, "threads")
+    remote.stdin.close()
+    expect(remote.wait(), 0, "the status")
+
+
+def case_a_transfer_without_tags_starts_no_thread(room):
+    remote = started_and_ready(room, "")
+    room.write("f", "x")
+    expect(asked(remote, f"TRANSFER STORE WORM--a {room.path('f')}"), "TRANSFER-SUCCESS STORE WORM--a", "an answer")
+    expect(threads_of(remote), 1, "threads")
+    remote.stdin.close()
+    expect(remote.wait(), 0, "the status")
 
 
 def by_job(lines):

@@ -7,6 +7,7 @@ import os
 
 from annexed import Annex
 from harness import ANNEX_REMOTE_DIR, TOP, Done, audit, expect, limits, require, table
+from kits import SIGN, signed
 from runs import expect_run, status_of
 from test_inputs import given, refused
 from test_works import ABC, FOO, left
@@ -377,13 +378,13 @@ def case_a_child_with_tags_ends_after_one_answer(room):
 
 def case_a_kit_knows_no_exports(room):
     room.write("f", "hi")
-    room.write("keep", f"annex-keep 1\nconfig directory {room.mkdir('folder')}\n")
+    room.write("keep", f"annex-keep 1\nconfig directory {signed(room.mkdir('folder'))}\n")
     tasks = "xcheck WORM--a n\n" + FIVE_TASKS + "check WORM--a\n"
     for jobs in ("1", "5"):
         done = room.run_command(ANNEX_REMOTE_DIR, tasks, "--jobs", jobs, "--keep", "keep")
         expect(done, Done(1, "".join(f"{n} unsupported\n" for n in range(1, 7)) + "7 absent\n", ""), f"{jobs} jobs")
         expect(audit(room.text("journal")), Done(0, "legal\n", ""), "the audit")
-    expect(os.listdir(room.path("folder")), [], "the remote's files")
+    expect(os.listdir(room.path("folder")), [SIGN], "the remote's files")
 
 
 def export(room, tasks, jobs):

@@ -43,8 +43,9 @@ GETS_READY = [
     ("an empty directory, and one that is no text", "PREPARE\nVALUE \nPREPARE\nVALUE \udcff\nCHECKPRESENT WORM--a\n",
      "GETCONFIG directory\nPREPARE-FAILURE no directory\nGETCONFIG directory\nPREPARE-FAILURE not text\n"
      "CHECKPRESENT-UNKNOWN WORM--a not prepared\n", 0),
-    ("set up, which isn't ready", "INITREMOTE\nVALUE d\nCHECKPRESENT WORM--a\n",
-     "GETCONFIG directory\nINITREMOTE-SUCCESS\nCHECKPRESENT-UNKNOWN WORM--a not prepared\n", 0),
+    ("set up with a path that isn't whole", "INITREMOTE\nVALUE d\nCHECKPRESENT WORM--a\n",
+     "GETCONFIG directory\nINITREMOTE-FAILURE directory is relative: give the whole path, such as /home/me/backup\n"
+     "CHECKPRESENT-UNKNOWN WORM--a not prepared\n", 0),
     ("ready, and then no longer", READY + "PREPARE\nVALUE \nCHECKPRESENT WORM--a\n",
      IS_READY + "GETCONFIG directory\nPREPARE-FAILURE no directory\nCHECKPRESENT-UNKNOWN WORM--a not prepared\n", 0),
     ("ready, and then set up in vain", "PREPARE\nVALUE d e\nINITREMOTE\nVALUE \nREMOVE WORM--a\n",

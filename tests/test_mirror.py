@@ -5,6 +5,7 @@ import time
 
 from annexed import Annex, contents
 from harness import ANNEX_REMOTE_DIR, TOP, UUID, Done, as_bytes, expect, finish, limits, require, table
+from kits import SIGN, signed
 
 MIRROR = os.path.abspath(os.environ.get("ANNEX_REMOTE_MIRROR") or TOP / "crates/remote_mirror_bin/out/remote_mirror_bin")
 NAMES = [f"mirror{n}" for n in range(1, 9)]
@@ -25,8 +26,12 @@ def says(room, lines):
     return Done(done.status, done.out.removeprefix("VERSION 1\n"), done.err)
 
 
-def failure(text):
-    return Done(0, GETS + f"PREPARE-FAILURE {text}\n", "")
+def note(text):
+    return f"annex-remote-mirror: note: {text}\n" if text else ""
+
+
+def failure(text, why=""):
+    return Done(0, GETS + f"PREPARE-FAILURE {text}\n", note(why))
 
 
 def heard(room, name, start=1):
@@ -75,27 +80,28 @@ def a_setting_that_is_no_program_with_settings_is_refused(room, value):
     require(not room.has("good.1.log"), "no program is started")
 
 
+BROKEN = "its program ended, or broke the protocol"
 NOT_READY = [
-    ("there is no such program", None),
-    ("it fails to get ready", 'greet(ready="PREPARE-FAILURE no key")\nhear()\n'),
-    ("it doesn't know how to", 'greet(ready="UNSUPPORTED-REQUEST")\nhear()\n'),
-    ("it speaks another version", 'say("VERSION 2")\nhear()\n'),
-    ("it ends at once", ""),
-    ("it ends in place of its answer", 'say("VERSION 1")\nhear()\nsay("EXTENSIONS")\nhear()\n'),
-    ("it says what isn't asked", 'say("VERSION 1")\nhear()\nsay("COST 5")\nhear()\n'),
-    ("it says an error", 'greet(ready="ERROR no")\nhear()\n'),
+    ("there is no such program", None, "its program could not be started"),
+    ("it fails to get ready", 'greet(ready="PREPARE-FAILURE no key")\nhear()\n', "no key"),
+    ("it doesn't know how to", 'greet(ready="UNSUPPORTED-REQUEST")\nhear()\n', "it does not know PREPARE"),
+    ("it speaks another version", 'say("VERSION 2")\nhear()\n', BROKEN),
+    ("it ends at once", "", BROKEN),
+    ("it ends in place of its answer", 'say("VERSION 1")\nhear()\nsay("EXTENSIONS")\nhear()\n', BROKEN),
+    ("it says what isn't asked", 'say("VERSION 1")\nhear()\nsay("COST 5")\nhear()\n', BROKEN),
+    ("it says an error", 'greet(ready="ERROR no")\nhear()\n', "no"),
 ]
 
 
 @table(NOT_READY)
-def a_remote_that_is_not_ready_is_told(room, body):
+def a_remote_that_is_not_ready_is_told(room, body, why):
     if body is not None:
         room.child("bad", body)
     child(room, "good", WELL)
     child(room, "later", WELL)
-    expect(says(room, prepare("./bad")), failure("mirror1: not ready"), "alone")
+    expect(says(room, prepare("./bad")), failure("mirror1: not ready", f"mirror1: not ready: {why}"), "alone")
     expect(says(room, prepare("./good", "", "./bad", "./later") + "CHECKPRESENT WORM--a\n"),
-           Done(0, GETS + "PREPARE-FAILURE mirror3: not ready\nCHECKPRESENT-UNKNOWN WORM--a not prepared\n", ""), "between two")
+           Done(0, GETS + "PREPARE-FAILURE mirror3: not ready\nCHECKPRESENT-UNKNOWN WORM--a not prepared\n", note(f"mirror3: not ready: {why}")), "between two")
     expect(heard(room, "good"), [], "the one before it, which is asked nothing")
     require(not room.has("later.1.log"), "the one after it isn't started")
 
@@ -252,8 +258,8 @@ def mirrored(room):
     room.script("mirror", f"exec {MIRROR}\n")
     settings = [f"mirror1={ANNEX_REMOTE_DIR} directory={room.path('one')}", f"mirror2={ANNEX_REMOTE_DIR} directory={room.path('two')}",
                 f"mirror5={room.path('small')} folder={room.path('three')}"]
-    room.mkdir("one")
-    room.mkdir("two")
+    for folder in ("one", "two"):
+        signed(room.mkdir(folder))
     expect(room.special("init", "./mirror", UUID, "kept", *settings), Done(0, "initialized\n", ""), "the setup")
 
 
@@ -265,7 +271,7 @@ def tasks(room, words, answer):
 
 
 def stored_in(room, folder):
-    return sum(len(names) for path, _, names in os.walk(room.path(folder)) if not path.endswith("/tmp"))
+    return sum(name != SIGN for path, _, names in os.walk(room.path(folder)) if not path.endswith("/tmp") for name in names)
 
 
 @limits(120)
@@ -286,22 +292,23 @@ def case_200_keys_are_stored_checked_got_and_dropped_over_three_remotes(room):
 
 
 @limits(60)
-def case_a_folder_that_is_gone_is_told_by_check(room):
+def case_a_mirror_whose_folder_is_gone_is_not_ready(room):
     mirrored(room)
     room.write("f", "content")
     tasks(room, ["store WORM-s7--a f"], "stored")
     tasks(room, ["check WORM-s7--a"], "present")
     os.rename(room.path("two"), room.path("away"))
-    tasks(room, ["check WORM-s7--a"], "absent")
+    tasks(room, ["check WORM-s7--a", "get WORM-s7--a g"], "notprepared mirror2: not ready")
+    os.rename(room.path("away"), room.path("two"))
     tasks(room, ["get WORM-s7--a g"], "got")
-    expect(room.text("g"), "content", "the other still gives it")
+    expect(room.text("g"), "content", "it is given when the folder is back")
 
 
 @limits(600)
 def case_git_annex_copies_to_a_mirror_and_gets_it_back(room):
     annex = Annex(room)
     os.symlink(MIRROR, room.path("bin/git-annex-remote-mirror"))
-    folders = [room.mkdir(name) for name in ("one", "two")]
+    folders = [signed(room.mkdir(name)) for name in ("one", "two")]
     settings = [f"mirror{n}={ANNEX_REMOTE_DIR} directory={folder}" for n, folder in enumerate(folders, 1)]
     annex.well("git", "annex", "initremote", "-q", "both", "type=external", "externaltype=mirror", "encryption=none", *settings)
     files = contents(20, [1000, 70000])
@@ -313,7 +320,7 @@ def case_git_annex_copies_to_a_mirror_and_gets_it_back(room):
     annex.well("git", "annex", "get", "-q", ".")
     annex.well("git", "annex", "fsck", "-q")
     expect(annex.present(), sorted(files), "what is here")
-    gone = next(os.path.join(path, name) for path, _, names in os.walk(folders[1]) for name in names)
+    gone = next(os.path.join(path, name) for path, _, names in os.walk(folders[1]) for name in names if name != SIGN)
     os.remove(gone)
     require(annex.run("git", "annex", "fsck", "-q", "--fast", "--from", "both").status == 1, "a content that one of the two lost isn't found")
 

@@ -7,7 +7,7 @@ import subprocess
 import time
 
 from harness import ANNEX_REMOTE_DIR, SPECIAL, UUID, expect, finish, limits, require, run, skip, start, table
-from kits import Kit, contents, unfinished
+from kits import Kit, contents, signed, unfinished
 
 SMALL, MIDDLE, LARGE = 200_000, 5_000_000, 20_000_000
 
@@ -77,19 +77,46 @@ def case_a_store_that_fails_leaves_nothing_where_contents_are_put_together(room)
     expect(contents(directory), {}, "the contents")
 
 
-def case_what_was_left_a_day_ago_is_removed_and_what_is_new_is_not(room):
+# Names of files, and whether a store that is cut off leaves a file of such a name.
+LEFT = [
+    ("1.2.1-WORM--x", True), ("417.1764622432000000.4-SHA256E-s3--a&c%.b", True), ("0.0.2-WORM-s3-m4-S2-C1--x", True),
+    ("old", False), ("thesis.txt", False), ("notes-WORM--x", False), ("1.2-WORM--x", False), ("1.2.9-WORM--x", False),
+    ("1.2.0-WORM--x", False), ("01.2.3-WORM--x", False), ("1.2.3.4-WORM--x", False), ("WORM--x", False), ("1.2.3-thesis.txt", False),
+    ("1.2.3-WORM--a:b", False), ("1.2.3-WORM--a&b", False), ("1.2.3-WORM--x&", False), ("1.2.3-", False), ("-WORM--x", False),
+]
+
+
+def left_long_ago(room, name, hours=25):
+    """A file that nobody has written to for so long, in the folder of what is put together."""
+    path = room.write(f"directory/tmp/{name}", "left")
+    os.utime(path, (time.time() - hours * 3600,) * 2)
+
+
+def case_only_files_that_a_store_left_a_day_ago_are_removed(room):
     directory = room.mkdir("directory")
-    now = time.time()
-    for name, hours in [("old", 25), ("new", 23)]:
-        path = room.write(f"directory/tmp/{name}", "left")
-        os.utime(path, (now - hours * 3600, now - hours * 3600))
+    for name, _ in LEFT:
+        left_long_ago(room, name)
+    left_long_ago(room, "3.2.1-WORM--new", 23)
+    room.mkdir("directory/tmp/5.2.1-WORM--folder")
+    os.symlink(room.write("elsewhere"), room.path("directory/tmp/6.2.1-WORM--link"))
+    os.utime(room.path("directory/tmp/6.2.1-WORM--link"), (0, 0), follow_symlinks=False)
     Kit(directory).close()
-    expect(unfinished(directory), ["new"], "what is left")
+    stay = [name for name, is_left in LEFT if not is_left]
+    expect(unfinished(directory), sorted([*stay, "3.2.1-WORM--new", "5.2.1-WORM--folder", "6.2.1-WORM--link"]), "what is left")
+
+
+def case_files_of_another_folder_are_not_removed_through_a_link(room):
+    directory = room.mkdir("directory")
+    path = room.write("mine/1.2.1-WORM--x")
+    os.utime(path, (0, 0))
+    os.symlink(room.path("mine"), room.path("directory/tmp"))
+    Kit(directory).close()
+    expect(os.listdir(room.path("mine")), ["1.2.1-WORM--x"], "what is left")
 
 
 def run_words(room, directory, program=ANNEX_REMOTE_DIR, number=0):
     """The words of a run over the folder, with a kept file of its own for each number."""
-    kept = room.write(f"kept.{number}", f"annex-keep 1\nconfig directory {directory}\n")
+    kept = room.write(f"kept.{number}", f"annex-keep 1\nconfig directory {signed(directory)}\n")
     return [SPECIAL, "run", "--program", program, "--uuid", UUID, "--work", room.path(), "--keep", kept]
 
 

@@ -1,2 +1,3 @@
 pub use Rattle.ann_outside.specs.Causes
 pub use Rattle.ann_outside.specs.Fails
+pub mod RemoteWords

@@ -17,10 +17,11 @@ use std::rt::Files;
 use std::{fs, io};
 
 /// Files of this machine by their paths, which go from the folder that this process was started in. `create`, `create_new` and
-/// `rename` make the folders of the new name that are missing. A folder in the place of a file is a fault, and so is a rename
+/// `rename` make the folders of the new name that are missing, unless it is a desk without folders. A folder in the place of a file is a fault, and so is a rename
 /// onto a device.
 ///
-/// A file is on the disk when `rename` has given it its name, and so is the name.
+/// A file is on the disk when `rename` has given it its name, and so is the name; and when `sync` has answered. So are the names of
+/// the folders that were made.
 ///
 /// Desk 0 is that of the main thread of a run. It locks each file that it reads before the first read, and holds the lock as
 /// long as it lives; where another process holds it the read is a fault. The other desks lock nothing.
@@ -30,6 +31,8 @@ pub struct OsDesk<R> {
     // none where it locks nothing
     locks: Option<Locks>,
     syncs: bool,
+    // whether `create_new` and `rename` make folders
+    makes: bool,
     faults: u64,
     missing: u64,
 }
@@ -39,6 +42,7 @@ pub struct OsDesk<R> {
 pub struct OsDesks<R> {
     rt: R,
     syncs: bool,
+    makes: bool,
 }
 
 impl<R: Files<File = File> + AllocGlobal + Clone + Drop + Send> OsDesks<R> {
@@ -46,14 +50,32 @@ impl<R: Files<File = File> + AllocGlobal + Clone + Drop + Send> OsDesks<R> {
     pub fn new(rt: R) -> OsDesks<R>
         ensures { ⟦<OsDesks<R> as Desks>⟧.made result ≡ None }
     {
-        OsDesks { rt, syncs: true }
+        OsDesks {
+            rt,
+            syncs: true,
+            makes: true,
+        }
     }
 
     /// The files of that runtime, where no call waits for the disk: a loss of power may take what was said to be done.
     pub fn unsynced(rt: R) -> OsDesks<R>
         ensures { ⟦<OsDesks<R> as Desks>⟧.made result ≡ None }
     {
-        OsDesks { rt, syncs: false }
+        OsDesks {
+            rt,
+            syncs: false,
+            makes: true,
+        }
+    }
+
+    /// The same, but `create_new` and `rename` make no folders: one that is missing is a fault.
+    pub fn without_folders(self) -> OsDesks<R>
+        ensures { ⟦<OsDesks<R> as Desks>⟧.made result ≡ None }
+    {
+        OsDesks {
+            makes: false,
+            ..self
+        }
     }
 }
 
@@ -73,6 +95,7 @@ impl<R: Files<File = File> + AllocGlobal + Clone + Drop + Send> Desks for OsDesk
                 rt,
                 locks,
                 syncs: self.syncs,
+                makes: self.makes,
                 faults: 0,
                 missing: 0,
             }),
@@ -122,24 +145,52 @@ fn read_from<R: Files>(rt: &R, name: &str, from: u64, buf: &mut [u8]) -> Result<
     Ok(count)
 }
 
-pub(crate) fn make_folders(rt: &impl Files, name: &str) -> Result<(), DeskError> {
+// The folders of the file that are missing.
+pub(crate) fn make_folders(rt: &impl Files, name: &str, syncs: bool) -> Result<(), DeskError> {
     match Path::new(name).parent() {
-        Some(folder) if !folder.as_str().is_empty() => {
-            fs::create_dir_all(rt, folder).map_err(desk_error)
-        }
-        _ => Ok(()),
+        Some(folder) if folder.as_str().is_empty() || stands(rt, folder.as_str()) => Ok(()),
+        Some(folder) if syncs => make_synced(rt, folder.as_str()),
+        Some(folder) => fs::create_dir_all(rt, folder).map_err(desk_error),
+        None => Ok(()),
     }
 }
 
-fn make(rt: &impl Files, name: &str) -> Result<(), DeskError> {
-    make_folders(rt, name)?;
+fn stands(rt: &impl Files, folder: &str) -> bool {
+    match fs::metadata(rt, folder) {
+        Ok(metadata) => metadata.is_dir(),
+        Err(_) => false,
+    }
+}
+
+// Each folder in its turn; the name of one that is made is on the disk then.
+fn make_synced(rt: &impl Files, folder: &str) -> Result<(), DeskError> {
+    for (at, byte) in folder.as_bytes().iter().enumerate() {
+        if *byte == b'/' && at > 0 && folder.is_char_boundary(at) {
+            make_folder(rt, &folder[..at])?;
+        }
+    }
+    make_folder(rt, folder)
+}
+
+fn make_folder(rt: &impl Files, folder: &str) -> Result<(), DeskError> {
+    match fs::create_dir(rt, folder) {
+        Ok(()) => sync_folder(rt, folder),
+        Err(error) if matches!(error.kind(), ErrorKind::AlreadyExists) => Ok(()),
+        Err(error) => Err(desk_error(error)),
+    }
+}
+
+fn make(rt: &impl Files, name: &str, syncs: bool) -> Result<(), DeskError> {
+    make_folders(rt, name, syncs)?;
     let _ = File::create(rt, name).map_err(desk_error)?;
     Ok(())
 }
 
 // A name that stands is a fault.
-fn make_new(rt: &impl Files, name: &str) -> Result<(), DeskError> {
-    make_folders(rt, name)?;
+fn make_new(rt: &impl Files, name: &str, syncs: bool, makes: bool) -> Result<(), DeskError> {
+    if makes {
+        make_folders(rt, name, syncs)?;
+    }
     let _ = File::create_new(rt, name).map_err(desk_error)?;
     Ok(())
 }
@@ -176,6 +227,12 @@ fn sync_folder(rt: &impl Files, name: &str) -> Result<(), DeskError> {
     }
 }
 
+// The file and its name are on the disk then.
+fn sync_named(rt: &impl Files, name: &str) -> Result<(), DeskError> {
+    sync_file(rt, name)?;
+    sync_folder(rt, name).map_err(fault)
+}
+
 // A device or a folder in the place of a file isn't replaced.
 fn may_replace(rt: &impl Files, name: &str) -> Result<(), DeskError> {
     match fs::metadata(rt, name) {
@@ -185,10 +242,18 @@ fn may_replace(rt: &impl Files, name: &str) -> Result<(), DeskError> {
 }
 
 // Once the file was found, something else that is missing is a fault. Where only the last step fails the file has its new name.
-fn give_name(rt: &impl Files, from: &str, to: &str, syncs: bool) -> Result<(), DeskError> {
+fn give_name(
+    rt: &impl Files,
+    from: &str,
+    to: &str,
+    syncs: bool,
+    makes: bool,
+) -> Result<(), DeskError> {
     let _ = size_of(rt, from)?;
     may_replace(rt, to)?;
-    make_folders(rt, to).map_err(fault)?;
+    if makes {
+        make_folders(rt, to, syncs).map_err(fault)?;
+    }
     if syncs {
         sync_file(rt, from).map_err(fault)?;
     }
@@ -256,12 +321,12 @@ impl<R: Files<File = File>> Desk for OsDesk<R> {
     }
 
     fn create(&mut self, name: &str) -> Result<(), DeskError> {
-        let done = make(&self.rt, name).map_err(fault);
+        let done = make(&self.rt, name, self.syncs).map_err(fault);
         self.counted(done)
     }
 
     fn create_new(&mut self, name: &str) -> Result<(), DeskError> {
-        let done = make_new(&self.rt, name).map_err(fault);
+        let done = make_new(&self.rt, name, self.syncs, self.makes).map_err(fault);
         self.counted(done)
     }
 
@@ -276,7 +341,7 @@ impl<R: Files<File = File>> Desk for OsDesk<R> {
     }
 
     fn rename(&mut self, from: &str, to: &str) -> Result<(), DeskError> {
-        let done = give_name(&self.rt, from, to, self.syncs);
+        let done = give_name(&self.rt, from, to, self.syncs, self.makes);
         self.counted(done)
     }
 
@@ -287,7 +352,7 @@ impl<R: Files<File = File>> Desk for OsDesk<R> {
 
     fn sync(&mut self, name: &str) -> Result<(), DeskError> {
         let done = if self.syncs {
-            sync_file(&self.rt, name)
+            sync_named(&self.rt, name)
         } else {
             Ok(())
         };

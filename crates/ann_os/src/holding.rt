@@ -67,7 +67,7 @@ fn lock_beside<R: Files<File = File>>(
     let Ok(beside) = format!(in alloc; "{name}.lock") else {
         return Err(DeskError::NoMemory);
     };
-    super::disk::make_folders(rt, &beside).map_err(super::disk::fault)?;
+    super::disk::make_folders(rt, &beside, false).map_err(super::disk::fault)?;
     let mut options = OpenOptions::new();
     options.write(true).create(true);
     let lock = options

@@ -2,7 +2,7 @@
 use ann_key::{Bytes, NoMemory};
 use kit_async_core::KitCore;
 use kit_async_model::{About, Fact, Facts, Setup};
-use kit_core::{Lines, Values};
+use kit_serve::kit::{Lines, Values};
 use std::alloc::Global;
 
 fn begun(alloc: Global, about: Option<About>) -> Result<KitCore, NoMemory> {
@@ -12,6 +12,7 @@ fn begun(alloc: Global, about: Option<About>) -> Result<KitCore, NoMemory> {
     KitCore::new(
         alloc,
         Setup {
+            kept: false,
             settings,
             remotes: 2,
             about,

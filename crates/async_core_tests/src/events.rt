@@ -2,7 +2,7 @@
 use crate::cut;
 use ann_key::{Bytes, NoMemory};
 use kit_async_model::Event;
-use kit_core::Said;
+use kit_serve::kit::Said;
 use std::alloc::Global;
 
 /// The event that the text spells.

@@ -1,6 +1,6 @@
 // What is printed of a reply.
 use kit_async_model::Reply;
-use kit_core::Asked;
+use kit_serve::kit::{Asked, Values};
 use std::alloc::AllocError;
 use std::str;
 
@@ -24,15 +24,18 @@ pub(crate) fn tell(out: &mut String, reply: &Reply) -> Result<(), AllocError> {
     }
 }
 
+fn tell_values(out: &mut String, word: &str, values: &Values) -> Result<(), AllocError> {
+    write!(out, " => {word}")?;
+    for value in values.view() {
+        write!(out, " {}", text(value.view()))?;
+    }
+    Ok(())
+}
+
 fn tell_work(out: &mut String, asked: &Asked) -> Result<(), AllocError> {
     match asked {
-        Asked::Prepare(values) => {
-            write!(out, " => prepare")?;
-            for value in values.view() {
-                write!(out, " {}", text(value.view()))?;
-            }
-            Ok(())
-        }
+        Asked::Prepare(values) => tell_values(out, "prepare", values),
+        Asked::Initialize(values) => tell_values(out, "initialize", values),
         Asked::Store(key, file) => {
             let key = text(key.view().text());
             write!(out, " => store {key} {}", file.view())

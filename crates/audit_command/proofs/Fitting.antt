@@ -8,7 +8,7 @@ use Rattle.annex_model.specs.Lines.{has_newline}
 use Rattle.task_text.specs.declared.task.Task.{Task}
 use Rattle.journal_model.specs.declared.entry.Entry.{Entry}
 use Rattle.journal_model.specs.declared.opening.Opening.{Opening}
-use Rattle.chunk_log.specs.ChunkLines.{IsWrittenUuid}
+use Rattle.task_text.specs.ChunkLog.ChunkLines.{IsWrittenUuid}
 use Rattle.task_text.specs.TaskLines.{IsTask}
 use Rattle.journal_model.specs.Beginnings.{MayBegin}
 use Rattle.journal_model.specs.Limits.{most_again}

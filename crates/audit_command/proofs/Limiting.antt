@@ -4,8 +4,8 @@ use Rattle.std.specs.Prelude.{◌||◌, nat_lt}
 use Rattle.std.proofs.Math.Seq.{take-append-add, take-append_seam}
 use Rattle.std.proofs.lemmas.List.{take_all}
 use Rattle.annex_model.specs.Lines.{text, has_newline, Cut}
-use Rattle.task_input.specs.InputLines.{is_end, lines_of, with_byte, with_rest}
-use Rattle.task_input.proofs.Cuts.{behind, ended_lines, all_lines}
+use Rattle.cli_words.specs.TaskInput.InputLines.{is_end, lines_of, with_byte, with_rest}
+use Rattle.cli_words.proofs.TaskInputLemmas.Cuts.{behind, ended_lines, all_lines}
 use Rattle.audit_command.specs.Inputs.{is_large, passes, lines_within}
 use Rattle.audit_command.specs.declared.limits.Limits.{Limits}
 use Rattle.ann_key.proofs.Booleans.{or_true}

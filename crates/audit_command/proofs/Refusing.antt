@@ -1,8 +1,8 @@
 -- Which line is refused, and how lines are read one by one.
 use Rattle.std.proofs.Common.{◌≡◌, ℕ, ◌+◌, inl, inr, Bool, true, false, List, [], ◌∷◌, ◌++◌, Option, Some, None, length, refl, sym, ap, subst, ◌∙◌, append_assoc}
 use Rattle.std.proofs.lemmas.List.{append-nil}
-use Rattle.task_input.specs.InputLines.{with_rest}
-use Rattle.journal_lines.specs.JournalTexts.{Told}
+use Rattle.cli_words.specs.TaskInput.InputLines.{with_rest}
+use Rattle.journal_text.specs.Lines.JournalTexts.{Told}
 use Rattle.journal_reader.specs.Readings.{Reading, Goes, CannotGo, Follows, IsFault, RefusedAs, after_stamp, is_open, start}
 use Rattle.journal_reader.specs.RunTexts.{Begins}
 use Rattle.journal_reader.specs.Runs.{Reads}

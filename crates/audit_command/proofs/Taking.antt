@@ -8,7 +8,7 @@ use Rattle.std.proofs.lemmas.List.Folds.{list_any-append, list_all-append}
 use Rattle.annex_model.specs.Lines.{text, has_newline, Cut}
 use Rattle.journal_look.specs.declared.journal.Journal.{Journal}
 use Rattle.journal_model.specs.declared.opening.Opening.{Opening}
-use Rattle.task_input.specs.InputLines.{lines_of, with_rest}
+use Rattle.cli_words.specs.TaskInput.InputLines.{lines_of, with_rest}
 use Rattle.audit_command.specs.Inputs.{passes, lines_within, IsRefused}
 use Rattle.audit_command.specs.Intakes.{IsWithin, IsPast, Took, TookBy}
 use Rattle.audit_command.specs.Standing.{Stands}

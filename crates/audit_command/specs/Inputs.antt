@@ -2,12 +2,12 @@
 use Rattle.std.specs.Prelude.{ℕ, ◌≡◌, ◌+◌, ◌||◌, nat_lt, Bool, true, false, if◌then◌else◌, List, [], ◌∷◌, ◌++◌, length, take, Result, Ok, Err}
 use Rattle.journal_model.specs.declared.entry.Entry.{Entry}
 use Rattle.journal_model.specs.declared.opening.Opening.{Opening}
-use Rattle.journal_lines.specs.JournalTexts.{Told, told_lines}
+use Rattle.journal_text.specs.Lines.JournalTexts.{Told, told_lines}
 use Rattle.journal_reader.specs.RunTexts.{IsTold, IsWhole, Begins}
 use Rattle.journal_reader.specs.Runs.{IsOpeningOf}
 use Rattle.journal_audit.specs.Audits.{IsAudit}
 use Rattle.journal_audit.specs.declared.found.Audit.{Audit}
-use Rattle.task_input.specs.InputLines.{lines_of}
+use Rattle.cli_words.specs.TaskInput.InputLines.{lines_of}
 use Rattle.audit_command.specs.declared.limits.Limits.{Limits}
 use Rattle.audit_command.specs.declared.error.AuditError.{AuditError}
 use Rattle.audit_command.specs.declared.error.AuditError.TheVariants.{Entry as BadEntry, Cut}

@@ -3,7 +3,7 @@ use Rattle.std.specs.Prelude.{ℕ, ◌≡◌, ◌<◌, Bool, true, false, List, 
 use Rattle.std.specs.Io.KnownBytes.{IsAtEnd}
 use Rattle.journal_look.specs.declared.journal.Journal.{Journal}
 use Rattle.journal_model.specs.declared.opening.Opening.{Opening}
-use Rattle.task_input.specs.InputLines.{lines_of}
+use Rattle.cli_words.specs.TaskInput.InputLines.{lines_of}
 use Rattle.audit_command.specs.Inputs.{passes, lines_within, IsTextOf, IsRefused, IsUnfinished}
 use Rattle.audit_command.specs.Intakes.{Took}
 use Rattle.audit_command.specs.declared.intake.Intake.{Intake}

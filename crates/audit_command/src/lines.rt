@@ -1,6 +1,6 @@
 // The lines of an input, read as the text of a run one by one.
 ghost use Rattle.std.specs.Prelude.{ℕ, ◌≡◌, ◌+◌, List, [], ◌∷◌, ◌++◌, Some, None, Err, OnOk, length};
-ghost use Rattle.task_input.specs.InputLines.{with_rest};
+ghost use Rattle.cli_words.specs.TaskInput.InputLines.{with_rest};
 ghost use Rattle.journal_reader.specs.Readings.{start};
 ghost use Rattle.journal_reader.specs.Runs.{Reads};
 ghost use Rattle.audit_command.specs.Steps.{Ends, IsRefusedBehind};

@@ -3,7 +3,7 @@ ghost use Rattle.std.specs.Prelude.{◌≡◌, ◌≤◌, ℕ, List, IfOk, IfSom
 ghost use Rattle.journal_audit.specs.Audits.{IsAudit};
 ghost use Rattle.journal_model.specs.Beginnings.{MayBegin};
 ghost use Rattle.ann_outside.specs.Causes.{StaysUntold};
-ghost use Rattle.task_input.specs.Reads.{Gave};
+ghost use Rattle.cli_words.specs.TaskInput.Reads.{Gave};
 ghost use Rattle.audit_command.specs.Inputs.{AuditComesTo};
 ghost use Rattle.audit_command.specs.Reads.{IsCounted, IsRead};
 ghost use Rattle.audit_command.specs.Steps.{Holds, IsStep};

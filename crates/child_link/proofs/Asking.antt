@@ -24,8 +24,8 @@ use Rattle.journal_model.proofs.Looks.{each_of-append, unsettled, verdict_of-app
 use Rattle.journal_model.proofs.Verdicts.{unasked_none}
 use Rattle.std.specs.Option.{option_or}
 use Rattle.journal_model.proofs.Closing.{ended_settled}
-use Rattle.talk_serial.specs.declared.request.Request.{Request}
-use Rattle.talk_serial.specs.Requests.{message_of, name_of}
+use Rattle.host_talk.specs.declared.request.request.Request.{Request}
+use Rattle.host_talk.specs.Request.Requests.{message_of, name_of}
 use Rattle.host_core.specs.Steps.{asking, is_asked, may_request, next_job, next_on_wire}
 use Rattle.child_link.specs.declared.events.Asked.{Asked}
 use Rattle.child_link.specs.declared.events.Asked.TheVariants.{Job, Lost, Odd}

@@ -12,3 +12,4 @@ pub mod Solo
 pub mod Settling
 pub mod Writings
 pub mod Apart
+pub mod HallLemmas

@@ -15,8 +15,8 @@ use Rattle.journal_model.specs.Due.{made_by}
 use Rattle.journal_model.specs.Wires.{may_hear}
 use Rattle.journal_model.proofs.Looks.{any-append}
 use Rattle.journal_model.proofs.Linking.{unended}
-use Rattle.talk_serial.specs.declared.request.Request.{Request}
-use Rattle.talk_serial.specs.Requests.{message_of, name_of}
+use Rattle.host_talk.specs.declared.request.request.Request.{Request}
+use Rattle.host_talk.specs.Request.Requests.{message_of, name_of}
 use Rattle.host_core.specs.declared.event.Event.{Event}
 use Rattle.host_core.specs.declared.event.Event.TheVariants.{Look, Lookup, Listen, Fetch, Got, Ask, Stop, Sent, Mute}
 use Rattle.host_core.specs.declared.event.Reply.{Reply}

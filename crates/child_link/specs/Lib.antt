@@ -18,4 +18,5 @@ pub use Rattle.journal_model.specs.Legality
 pub use Rattle.journal_model.specs.Limits
 pub use Rattle.journal_model.specs.Projection
 pub use Rattle.journal_model.specs.Shares
-pub use Rattle.talk_serial.specs.Requests
+pub use Rattle.host_talk.specs.Request.Requests
+pub mod Hall

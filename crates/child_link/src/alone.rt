@@ -5,7 +5,7 @@ ghost use Rattle.journal_model.specs.Journal.{is_started, is_ended, why_of};
 ghost use Rattle.journal_model.specs.Legality.{Legal, said_version, may_stop};
 ghost use Rattle.journal_model.specs.Projection.{IsNamed};
 ghost use Rattle.host_core.specs.Steps.{is_named_well, may_request};
-ghost use Rattle.talk_serial.specs.Requests.{message_of, name_of};
+ghost use Rattle.host_talk.specs.Request.Requests.{message_of, name_of};
 ghost use Rattle.child_link.specs.Doors.{IsSameDoor};
 ghost use Rattle.child_link.specs.Alone.{GoesOn, Closes, AsksAlone, HearsLink, KeepsLink};
 
@@ -14,8 +14,8 @@ use crate::events;
 use crate::lone::Lone;
 use ann_key::NoMemory;
 use ann_outside::{Sink, Source};
+use host_talk::request::Request;
 use journal_model::{Verdict, Why};
-use talk_serial::Request;
 
 impl<I: Sink, O: Source> Lone<I, O> {
     /// Asks one request, as [`Lone::ask`] does.

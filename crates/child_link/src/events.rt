@@ -6,7 +6,7 @@ ghost use Rattle.journal_model.specs.Legality.{may_stop};
 ghost use Rattle.journal_model.specs.declared.verdict.Why.TheVariants.{Closed};
 ghost use Rattle.child_link.specs.Alone.{Closes};
 ghost use Rattle.host_core.specs.Steps.{is_asked, takes_no_memory};
-ghost use Rattle.talk_serial.specs.Requests.{message_of, name_of};
+ghost use Rattle.host_talk.specs.Request.Requests.{message_of, name_of};
 ghost use Rattle.child_link.specs.Doors.{Between, During, Stepped, Made, Passed, Ends, Sends, Mutes, Takes, IsSameDoor};
 ghost use Rattle.child_link.specs.Replies.{gone_why, is_done, settled_as, fetched_of, asked_of, listening_of};
 ghost use Rattle.child_link.specs.Events.{IsListening, IsFetched, IsAsked, can_end};
@@ -14,8 +14,8 @@ ghost use Rattle.child_link.specs.Events.{IsListening, IsFetched, IsAsked, can_e
 use crate::door::Door;
 use ann_key::{Bytes, NoMemory};
 use host_core::{Event, Reply};
+use host_talk::request::Request;
 use journal_model::{Verdict, Why};
-use talk_serial::Request;
 
 /// Makes one event.
 fn step<D: Door>(door: &mut D, event: Event) -> Result<Reply, NoMemory>

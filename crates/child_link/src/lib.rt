@@ -5,6 +5,7 @@ mod alone;
 mod door;
 mod ear;
 pub mod events;
+pub mod hall;
 pub mod laws;
 mod lone;
 mod mouth;

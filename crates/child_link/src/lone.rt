@@ -4,7 +4,7 @@ ghost use Rattle.journal_model.specs.Journal.{is_started, is_ended, why_of, verd
 ghost use Rattle.journal_model.specs.Legality.{Legal, said_version};
 ghost use Rattle.journal_model.specs.Projection.{IsNamed};
 ghost use Rattle.host_core.specs.Steps.{is_asked, is_named_well, may_request};
-ghost use Rattle.talk_serial.specs.Requests.{message_of, name_of};
+ghost use Rattle.host_talk.specs.Request.Requests.{message_of, name_of};
 ghost use Rattle.child_link.specs.Doors.{Between, During, IsSameDoor, Passed, Ends};
 ghost use Rattle.journal_model.specs.declared.verdict.Why.TheVariants.{Memory};
 ghost use Rattle.child_link.specs.Asks.{HasHeardOut, HeardNext, HeardOn, IsSettling, HasBegun};
@@ -20,9 +20,9 @@ use crate::mouth::Mouth;
 use crate::wire::Wire;
 use ann_key::NoMemory;
 use ann_outside::{Sink, Source};
+use host_talk::request::Request;
 use journal_model::{Verdict, Why};
 use std::alloc::Global;
-use talk_serial::Request;
 
 /// The link to one child: an ear and a mouth of one thread.
 #[derive(Drop)]

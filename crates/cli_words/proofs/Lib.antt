@@ -4,3 +4,4 @@ pub mod Spelt
 pub mod Fits
 pub mod Ranging
 pub mod Numerals
+pub mod TaskInputLemmas

@@ -8,4 +8,5 @@ pub mod Pages
 pub mod Refusals
 pub mod Texts
 pub mod Rows
-pub use Rattle.reg_file.specs.Registers
+pub use Rattle.registers.specs.Registers
+pub mod TaskInput

@@ -1,7 +1,7 @@
 -- The settings of `init`.
 use Rattle.std.specs.Prelude.{ℕ, ◌==◌, ◌&&◌, nat_lt, Bool, if◌then◌else◌, List, length, fold, map, Option, Some, None}
 use Rattle.std.specs.List.{list_all, list_any, before_first, after_first}
-use Rattle.reg_file.specs.Registers.{RegisterFile, with_config, is_line, is_word}
+use Rattle.registers.specs.Registers.{RegisterFile, with_config, is_line, is_word}
 use Rattle.cli_words.specs.declared.settings.Setting.{Setting}
 
 -- a name that isn't empty and holds no space, and a value, neither with a line's end

@@ -1,6 +1,6 @@
 // Laws over the definitions, each the contract of a function with nothing to do.
 ghost use Rattle.std.specs.Prelude.{◌≡◌, ℕ, ◌++◌, ◌∷◌, [], List, Some, None, codes};
-ghost use Rattle.reg_file.specs.Registers.{nothing_set, config_of};
+ghost use Rattle.registers.specs.Registers.{nothing_set, config_of};
 ghost use Rattle.cli_words.specs.Rows.{braced_uuid, init_words, least_run, plain_uuid, rehearse_words, run_words, sample_uuid, upper_uuid, world_words};
 ghost use Rattle.cli_words.specs.Settings.{set_all, settings_in};
 ghost use Rattle.cli_words.specs.Values.{number_in, uuid_in, IsNumberIn};

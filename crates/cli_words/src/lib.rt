@@ -11,6 +11,7 @@ mod reading;
 mod refusals;
 mod run;
 mod settings;
+pub mod task_input;
 mod texts;
 mod uuids;
 mod values;

@@ -34,8 +34,12 @@ const OVERVIEW: &str = "special asks external special remotes of git-annex.\n\
     3  special: line N: REASON. Line N of the input can't be taken\n\
     4  special: input failed. The input couldn't be read\n\
     5  a write to the output failed\n\
-    6  special: keep .. or special: file failed. KEEP or the journal file can't be read or written, or KEEP is in use\n\
-    7  special: memory. There wasn't enough memory\n";
+    6  special: keep .. or special: file failed. KEEP or the journal file can't be read or written, KEEP is in use, or\n\
+    \x20  the folder of --work can't be made\n\
+    7  special: memory. There wasn't enough memory\n\
+    \n\
+    At 2, 3, 4, 6 and 7 a second line on standard error says what is wrong. Lines that begin special: note: say what to\n\
+    do next, such as why PROGRAM couldn't be started, and change no status.\n";
 
 const CHECK: &str = "special check PROGRAM KEY\n\
     \n\
@@ -81,7 +85,7 @@ const RUN: &str = "special run --program PROGRAM --uuid UUID [OPTIONS]\n\
     --keep FILE        the kept file, which is read before the tasks and written after them (default: none)\n\
     --journal FILE     the file in which the journal of the run is written after the tasks; what it held is lost\n\
     \x20                  (default: none)\n\
-    --work FOLDER      the folder for files that the run makes, which must exist (default .)\n\
+    --work FOLDER      the folder for files in transit, which is made where the folder that it is in is there (default .)\n\
     --starts NUMBER    how often a child may be started in the first place, 1 to 16 (default 3)\n\
     --again NUMBER     how often a task whose child ends under it may be run again on another one, 0 to 8 (default 0)\n\
     \n\
@@ -104,7 +108,7 @@ const RUN: &str = "special run --program PROGRAM --uuid UUID [OPTIONS]\n\
     nofile, filefault         there is no such file, or it couldn't be read or written\n\
     unsupported               the remote doesn't know the request\n\
     notprepared TEXT          the remote can't get ready\n\
-    startfault                PROGRAM couldn't be started. Mostly it is a script without ./ or without leave to be run\n\
+    startfault                PROGRAM couldn't be started; special: note: on standard error says why\n\
     nochild                   all starts are used up, and no child has ended under the task\n\
     ended WHY, foul LINE      the child ended, or said LINE where it may not stand\n\
     unsent, memory            a write to the child failed, or there wasn't enough memory\n\

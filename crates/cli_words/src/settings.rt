@@ -1,12 +1,12 @@
 // The settings of `init`.
 ghost use Rattle.std.specs.Prelude.{◌≡◌, IfOk, IsTrue};
 ghost use Rattle.std.specs.List.{list_all};
-ghost use Rattle.reg_file.specs.Registers.{is_line, is_word};
+ghost use Rattle.registers.specs.Registers.{is_line, is_word};
 ghost use Rattle.cli_words.specs.Values.{texts_of};
 ghost use Rattle.cli_words.specs.Settings.{is_setting, setting_in, settings_in, set_all};
 
 use ann_key::{NoMemory, Text};
-use reg_file::Registers;
+use registers::Registers;
 use std::alloc::Global;
 use std::marker::Model;
 

@@ -1,11 +1,11 @@
 // A core that is told events by a number, of a child, or of a task.
+use crate::entry_text::{said, text_of};
 use crate::openings::{CHECK, opening};
 use crate::{ends, requests, words};
 use ann_key::{Bytes, NoMemory};
-use chunk_log::Layouts;
 use host_core::{Core, Event, Reply};
 use std::alloc::{AllocError, Global};
-use test_entry_text::{said, text_of};
+use task_text::chunk_log::Layouts;
 
 /// Who tells the events that come, and of what.
 #[derive(Clone, Copy)]

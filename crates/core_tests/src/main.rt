@@ -3,6 +3,7 @@
 
 mod cores;
 mod ends;
+mod entry_text;
 mod openings;
 mod requests;
 mod talks;

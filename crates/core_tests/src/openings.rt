@@ -1,16 +1,16 @@
 // What runs begin with: tasks as their lines say, how often they may be run again, and the remote without a UUID.
 ghost use Rattle.std.specs.Prelude.{◌≤◌, All, IfOk, OnOk, length};
 ghost use Rattle.task_text.specs.TaskLines.{IsTask};
-ghost use Rattle.chunk_log.specs.ChunkLines.{IsWrittenUuid};
+ghost use Rattle.task_text.specs.ChunkLog.ChunkLines.{IsWrittenUuid};
 ghost use Rattle.journal_model.specs.Limits.{most_tasks};
 ghost use Rattle.journal_model.specs.Replies.{IsLineIdentity};
 ghost use Rattle.journal_model.specs.Beginnings.{MayBegin};
 
 use ann_key::{NoMemory, Text};
-use chunk_log::NoteBook;
 use journal_model::{Identity, Opening};
-use reg_file::Registers;
+use registers::Registers;
 use std::alloc::Global;
+use task_text::chunk_log::NoteBook;
 use task_text::{Task, TaskError, Tasks, read_task};
 
 pub(crate) const CHECK: &str =
@@ -32,7 +32,7 @@ pub(crate) fn opening(alloc: Global, lines: &[String], again: u32) -> Result<Ope
     })
 }
 
-#[tactic(auto, using(chunk_log::proofs::Uuids::nil_written))]
+#[tactic(auto, using(task_text::proofs::ChunkLogLemmas::Uuids::nil_written))]
 fn identity(alloc: Global) -> Result<Identity, NoMemory>
     ensures lines { IfOk result IsLineIdentity }
     ensures uuid { IfOk result (λ i. IsWrittenUuid i.uuid) }

@@ -1,8 +1,8 @@
 // Requests, each from its command word in lower case and what stands after it.
 use crate::words;
 use ann_key::{Key, KeyRef, NoMemory, Text};
+use host_talk::request::Request;
 use std::alloc::Global;
-use talk_serial::Request;
 
 /// The request. Its key stands after the word; the file of a transfer is `f`, and so is the new name of an exported file, the name of
 /// which is `x y`.

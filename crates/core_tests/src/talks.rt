@@ -1,9 +1,9 @@
 // What remotes answer to each request, and what can't follow.
 use crate::{requests, words};
 use ann_key::NoMemory;
+use host_talk::request::{Request, Talk};
 use std::alloc::Global;
 use std::mem;
-use talk_serial::{Request, Talk};
 use wire_msg::read_remote;
 
 /// A talk that goes on from row to row.

@@ -4,6 +4,8 @@ pub mod FileNameLaws
 pub mod Mixture
 pub mod Mixing
 pub mod PlaceLaws
+pub mod SpareLaws
 pub mod Telling
 pub mod TraceLaws
 pub mod WorkLaws
+pub mod GuardLemmas

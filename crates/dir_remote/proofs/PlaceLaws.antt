@@ -134,14 +134,20 @@ all_below (x ∷ xs) e =
 lower_digits_ascii : IsAscii lower_digits
 lower_digits_ascii = all_below lower_digits refl
 
-pub lower_text : (base : List ℕ) → IsUtf8 (lower_of base)
-lower_text base =
+lower_ascii : (base : List ℕ) → IsAscii (lower_of base)
+lower_ascii base =
     let hex = encode_lower (md5 base) in
     let ascii : IsAscii hex = IsAscii-encode_with lower_digits (md5 base) lower_digits_ascii in
-    IsUtf8-from_ascii (lower_of base)
     (IsAscii-append (take 3 hex ++ codes "/") (take 3 (drop 3 hex))
     (IsAscii-append (take 3 hex) (codes "/") (IsAscii-take hex 3 ascii) (IsAscii-cons 47 [] (omega arith) IsAscii-nil))
     (IsAscii-take (drop 3 hex) 3 (IsAscii-drop hex 3 ascii)))
+
+pub lower_text : (base : List ℕ) → IsUtf8 (lower_of base)
+lower_text base = IsUtf8-from_ascii (lower_of base) (lower_ascii base)
+
+-- so is the outer one
+pub outer_text : (base : List ℕ) → IsUtf8 (take 3 (lower_of base))
+outer_text base = IsUtf8-from_ascii (take 3 (lower_of base)) (IsAscii-take (lower_of base) 3 (lower_ascii base))
 
 -- the base of a key that was read
 pub base_of : (key : KeyRef) → (base : List ℕ) × IsKey base (without_chunk (parts_of key))

@@ -6,7 +6,7 @@ use Rattle.ann_key.specs.declared.bytes.NoMemory.{NoMemory as WithoutMemory}
 use Rattle.ann_outside.specs.DeskCauses.{Counts}
 use Rattle.ann_outside.specs.Files.{Files, content, OthersStay, AllStay, WhereTold}
 use Rattle.ann_outside.specs.Told.{DeskTold}
-use Rattle.kit_core.specs.declared.call.Said.{Said}
+use Rattle.kit_serve.specs.declared.kit.call.Said.{Said}
 use Rattle.dir_remote.specs.Contents.{IsContentName, IsOutside, OutsideStays, OtherKeysStay, KeysStay}
 use Rattle.ann_outside.specs.declared.file_desk.Call.{Call}
 use Rattle.dir_remote.specs.Traces.{Traced}

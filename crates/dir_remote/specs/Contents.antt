@@ -1,10 +1,10 @@
 -- Where the content of a key stands in a directory.
-use Rattle.std.specs.Prelude.{ℕ, ◌≡◌, ◌≢◌, ◌==◌, false, codes, List, [], ◌∷◌, ◌++◌, Option, Some, None}
+use Rattle.std.specs.Prelude.{ℕ, ◌≡◌, ◌≢◌, ◌==◌, ⊤, false, codes, List, [], ◌∷◌, ◌++◌, Option, Some, None}
 use Rattle.std.specs.List.{list_any}
 use Rattle.ann_key.specs.Keys.{Parts, IsKey, key_reading, without_chunk}
 use Rattle.ann_key.specs.FileNames.{file_name_of}
 use Rattle.ann_digest.specs.Directories.{lower_of}
-use Rattle.ann_outside.specs.Files.{Files, content}
+use Rattle.ann_outside.specs.Files.{Files, content, WhereTold}
 
 -- DIRECTORY/FOLDER/FILE
 abbrev pub place_of : List ℕ → List ℕ → List ℕ → List ℕ
@@ -32,6 +32,15 @@ marked (Some mark) file = mark ++ 45 ∷ file
 -- where the content is put together before it gets its name
 abbrev pub temporary_name : Option (List ℕ) → List ℕ → List ℕ → List ℕ
 temporary_name mark directory text = place_of directory (codes "tmp") (marked mark (file_name_of text))
+
+-- With a mark a file that stands where the content is put together is as before: it is neither written over nor removed.
+abbrev pub LeavesInTransit : Option (List ℕ) → Option (List ℕ) → List ℕ → Option Files → Option Files → Type 0
+LeavesInTransit None directory key old new = ⊤
+LeavesInTransit (Some mark) None key old new = ⊤
+LeavesInTransit (Some mark) (Some directory) key old new =
+    WhereTold old new (λ before after.
+    content (temporary_name (Some mark) directory key) before ≢ None
+    → content (temporary_name (Some mark) directory key) after ≡ content (temporary_name (Some mark) directory key) before)
 
 -- the file's name doesn't begin with the directory's name and a slash
 abbrev pub IsOutside : List ℕ → List ℕ → Type 0

@@ -1,5 +1,5 @@
 -- What a copy of a file does to the files of a desk.
-use Rattle.std.specs.Prelude.{ℕ, ◌≡◌, ◌≢◌, ◌≤◌, ⊤, Bool, false, List, ◌++◌, take, drop, length, option_map, Some, None, Result, Ok, Err, OnOk}
+use Rattle.std.specs.Prelude.{ℕ, ◌≡◌, ◌≢◌, ◌≤◌, ⊤, Bool, false, List, ◌++◌, take, drop, length, option_map, Option, Some, None, Result, Ok, Err, OnOk}
 use Rattle.ann_outside.specs.Causes.{Rose}
 use Rattle.ann_outside.specs.DeskCauses.{Counts}
 use Rattle.ann_outside.specs.Files.{Files, content, OthersStay}
@@ -28,6 +28,11 @@ CopyDoes from to (Ok done) old new = (content from old ≢ None) × (content to 
 CopyDoes from to (Err Missing) old new = content from old ≡ None
 CopyDoes from to (Err Failed) old new = ⊤
 CopyDoes from to (Err NoMemory) old new = ⊤
+
+-- The other was made in this copy, so no file of its name was there. If it wasn't, one that was there is as before.
+abbrev pub Spares : List ℕ → Result (Unit {0}) DeskError → Files → Files → Type 0
+Spares name (Ok done) old new = content name old ≡ None
+Spares name (Err e) old new = content name old ≢ None → content name new ≡ content name old
 
 -- The counts haven't fallen, and Failed and Missing come only where theirs rose. Done leaves both as they were, and any answer but
 -- Failed that of the faults, where a copy that failed isn't cleared away.

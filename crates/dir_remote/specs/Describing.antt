@@ -1,6 +1,6 @@
 -- What a directory remote says of itself.
 use Rattle.std.specs.Prelude.{ℕ, List, [], ◌∷◌, Option, Some, None, codes}
-use Rattle.kit_core.specs.declared.describe.Pair.{Pair}
+use Rattle.kit_serve.specs.declared.kit.describe.Pair.{Pair}
 
 -- its one setting
 abbrev pub configs : List Pair

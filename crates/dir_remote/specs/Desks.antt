@@ -2,7 +2,7 @@
 use Rattle.std.specs.Prelude.{ℕ, false, List, Option, Result, is_some}
 use Rattle.ann_key.specs.declared.bytes.NoMemory.{NoMemory as WithoutMemory}
 use Rattle.ann_outside.specs.Told.{DeskTold}
-use Rattle.kit_core.specs.declared.call.Said.{Said}
+use Rattle.kit_serve.specs.declared.kit.call.Said.{Said}
 use Rattle.dir_remote.specs.Answers.{Answers, StoreDoes, RetrieveDoes, CheckDoes, RemoveDoes, is_of_transfer, is_of_check, is_of_removal}
 use Rattle.dir_remote.specs.Traces.{Each, IsCheckCall, IsRemoveCall, IsRetrieveCall, StoreTraces}
 

@@ -11,4 +11,5 @@ pub use Rattle.ann_key.specs.KeyRefs
 pub use Rattle.ann_outside.specs.Files
 pub use Rattle.annex_model.specs.Lines
 pub use Rattle.annex_model.specs.Messages
-pub use Rattle.kit_core.specs.Calls
+pub use Rattle.kit_serve.specs.Kit.Calls
+pub mod Guard

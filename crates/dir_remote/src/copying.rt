@@ -4,7 +4,7 @@ ghost use Rattle.ann_outside.specs.Calls.{logged};
 ghost use Rattle.ann_outside.specs.DeskCauses.{HasCauses, LeavesOther};
 ghost use Rattle.ann_outside.specs.Files.{WhereTold, OthersStay, CreateDoes, CreateNewDoes};
 ghost use Rattle.ann_outside.specs.declared.file_desk.Call.TheVariants.{Create};
-ghost use Rattle.dir_remote.specs.Copies.{PieceDoes, CopyDoes, HasCopyCauses};
+ghost use Rattle.dir_remote.specs.Copies.{PieceDoes, CopyDoes, HasCopyCauses, Spares};
 ghost use Rattle.dir_remote.specs.Traces.{Traced, Each, IsClearing, PieceTraces, CopyTraces};
 
 use ann_outside::{Desk, DeskError};
@@ -83,6 +83,7 @@ pub fn copy<D: Desk>(
     ensures causes { HasCopyCauses alone (D.told desk.old).counts (D.told desk.new).counts result }
     ensures others { WhereTold (D.told desk.old).files (D.told desk.new).files (OthersStay (λ other. other ≡ to.now)) }
     ensures copied { WhereTold (D.told desk.old).files (D.told desk.new).files (λ old new. from.now ≢ to.now → CopyDoes from.now to.now result old new) }
+    ensures spared { IsTrue alone → WhereTold (D.told desk.old).files (D.told desk.new).files (Spares to.now result) }
     ensures traced { Traced (CopyTraces alone from.now to.now result) (D.told desk.old).log (D.told desk.new).log }
 {
     let Ok(mut buffer) = vec![in alloc; 0; STEP] else {

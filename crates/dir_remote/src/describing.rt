@@ -1,15 +1,15 @@
 // What a directory remote says of itself.
 ghost use Rattle.std.specs.Prelude.{◌≡◌, [], IsTrue, IfOk};
 ghost use Rattle.std.specs.List.{list_all};
-ghost use Rattle.kit_core.specs.Descriptions.{is_config, is_pair};
+ghost use Rattle.kit_serve.specs.Kit.Descriptions.{is_config, is_pair};
 ghost use Rattle.dir_remote.specs.Describing.{configs, info_of};
-ghost use Rattle.kit_core.specs.declared.describe.Availability.TheVariants.{Local};
-ghost use Rattle.kit_core.specs.declared.describe.Where.TheVariants.{Untold};
+ghost use Rattle.kit_serve.specs.declared.kit.describe.Availability.TheVariants.{Local};
+ghost use Rattle.kit_serve.specs.declared.kit.describe.Where.TheVariants.{Untold};
 
 use crate::remote::DirRemote;
 use ann_key::{Bytes, KeyRef, NoMemory};
 use ann_outside::Desk;
-use kit_core::{Availability, Describe, Pair, Where};
+use kit_serve::kit::{Availability, Describe, Pair, Where};
 use std::alloc::Global;
 
 const MEANING: &[u8] = b"the folder in which the contents of keys are kept";

@@ -3,6 +3,7 @@
 
 mod copying;
 mod describing;
+pub mod guard;
 pub mod laws;
 mod outcome;
 mod places;

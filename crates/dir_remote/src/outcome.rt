@@ -1,11 +1,11 @@
 // How a call went, and the word for it.
 ghost use Rattle.std.specs.Prelude.{◌≡◌, IsTrue, IfOk};
-ghost use Rattle.kit_core.specs.Calls.{is_line_said};
+ghost use Rattle.kit_serve.specs.Kit.Calls.{is_line_said};
 ghost use Rattle.dir_remote.specs.Outcomes.{Says, refusal_of};
 
 use ann_key::NoMemory;
 use ann_outside::DeskError;
-use kit_core::Said;
+use kit_serve::kit::Said;
 use std::alloc::Global;
 
 #[derive(Clone, Copy)]

@@ -4,17 +4,17 @@ ghost use Rattle.std.specs.Option.{option_copied};
 ghost use Rattle.ann_key.specs.KeyRefs.{text_of};
 ghost use Rattle.annex_model.specs.Lines.{has_newline};
 ghost use Rattle.annex_model.specs.Messages.{is_sent_key};
-ghost use Rattle.kit_core.specs.declared.call.Asked.TheVariants.{Prepare, Store, Retrieve, Check, Remove};
-ghost use Rattle.kit_core.specs.Calls.{called, are_lines, is_line_said};
+ghost use Rattle.kit_serve.specs.declared.kit.call.Asked.TheVariants.{Prepare, Store, Retrieve, Check, Remove};
+ghost use Rattle.kit_serve.specs.Kit.Calls.{called, are_lines, is_line_said};
 ghost use Rattle.dir_remote.specs.Answers.{Prepares, PreparedBy, first_of};
-ghost use Rattle.dir_remote.specs.Contents.{IsMark};
+ghost use Rattle.dir_remote.specs.Contents.{IsMark, LeavesInTransit};
 ghost use Rattle.dir_remote.specs.Desks.{CheckAnswers, RemoveAnswers, RetrieveAnswers, StoreAnswers};
 
 use crate::outcome::{Outcome, say};
 use crate::works;
 use ann_key::{KeyRef, NoMemory, Text};
 use ann_outside::Desk;
-use kit_core::{Remote, Said, Values};
+use kit_serve::kit::{Remote, Said, Values};
 use std::alloc::Global;
 use std::marker::Model;
 use std::str;
@@ -76,8 +76,8 @@ impl<D: Desk> DirRemote<D> {
         }
     }
 
-    /// The directory that it was given, if it was.
-    pub(super) fn directory(&self) -> Option<&str>
+    /// The directory that it was given, if it was. It takes no memory.
+    pub fn directory(&self) -> Option<&str>
         ensures directory { option_copied result ≡ self.now.directory }
         ensures line { IfSome self.now.directory (λ directory. has_newline directory ≡ false) }
     {
@@ -160,6 +160,7 @@ impl<D: Desk> Remote for DirRemote<D> {
         ensures settings { ⟦<DirRemote<D> as Remote>⟧.settings self.new ≡ ⟦<DirRemote<D> as Remote>⟧.settings self.old }
         ensures text { IfOk result (λ said. IsTrue (is_line_said said)) }
         ensures stored { StoreAnswers (D.told self.old.desk) (D.told self.new.desk) self.old.mark self.old.directory (text_of key.entry) file.now result }
+        ensures spared { LeavesInTransit self.old.mark self.old.directory (text_of key.entry) (D.told self.old.desk).files (D.told self.new.desk).files }
         ensures mark { self.new.mark ≡ self.old.mark }
         ensures directory { self.new.directory ≡ self.old.directory }
     {

@@ -1,8 +1,8 @@
 // The work of a remote in a directory that is known.
-ghost use Rattle.std.specs.Prelude.{false, is_some, IfSome};
+ghost use Rattle.std.specs.Prelude.{false, is_some, IfSome, Some};
 ghost use Rattle.ann_key.specs.KeyRefs.{text_of};
 ghost use Rattle.dir_remote.specs.Answers.{IsCalm, Works, StoreDoes, RetrieveDoes, CheckDoes, RemoveDoes, is_of_transfer, is_of_check, is_of_removal};
-ghost use Rattle.dir_remote.specs.Contents.{IsMark};
+ghost use Rattle.dir_remote.specs.Contents.{IsMark, LeavesInTransit};
 ghost use Rattle.dir_remote.specs.Traces.{Each, IsCheckCall, IsRemoveCall, IsRetrieveCall, StoreTraces, Traced};
 
 use crate::copying::{copy, give_up};
@@ -24,6 +24,7 @@ pub fn store<D: Desk>(
     requires { IfSome mark.now IsMark }
     ensures works { Works is_of_transfer (StoreDoes directory.now (text_of key.entry) file.now) (text_of key.entry) (D.told desk.old) (D.told desk.new) result }
     ensures traced { Traced (StoreTraces mark.now directory.now (text_of key.entry) file.now result) (D.told desk.old).log (D.told desk.new).log }
+    ensures spared { LeavesInTransit mark.now (Some directory.now) (text_of key.entry) (D.told desk.old).files (D.told desk.new).files }
     ensures calm { IsCalm (is_some mark.now) (D.told desk.old).counts (D.told desk.new).counts result }
 {
     let content = match content_place(alloc, directory, key) {

@@ -11,7 +11,7 @@ use Rattle.annex_model.specs.Hearings.{Aside, by_answer, hearing, hearing_of, re
 use Rattle.annex_model.specs.Messages.{HostMessage, RemoteMessage, remote_reading, Setconfig, Setcreds, Setwanted, Setstate, Seturlpresent, Seturlmissing}
 use Rattle.annex_model.specs.Tags.{untag, Tagged}
 use Rattle.annex_model.proofs.TagReadings.{tagged_of_read}
-use Rattle.reg_file.specs.Registers.{RegisterFile}
+use Rattle.registers.specs.Registers.{RegisterFile}
 use Rattle.journal_model.specs.declared.entry.What.{What}
 use Rattle.journal_model.specs.declared.entry.What.TheVariants.{Put}
 use Rattle.journal_model.specs.declared.entry.Entry.{Entry}

@@ -15,15 +15,15 @@ use Rattle.journal_model.specs.Journal.{any, each_of, offers, is_started, is_end
 use Rattle.journal_model.specs.Legality.{is_empty, count, is_start, least_free, is_prepared, is_in_turn, may_ask, may_stop, may_come, may_lead, MayStand, IsGroup, needs_lead, is_led, says_name, is_text, claimed_for, is_number, asks_in_turn, is_run_again, offered_names}
 use Rattle.annex_model.proofs.Classes.{askable_test}
 use Rattle.journal_model.proofs.Asking.{read_askable}
-use Rattle.talk_serial.specs.declared.request.Request.{Request}
-use Rattle.talk_serial.specs.declared.request.Request.TheVariants.{Extensions, Prepare as PrepareRequest, InitRemote as InitRemoteRequest, ListConfigs, GetCost, GetAvailability, GetInfo, Transfer as TransferRequest, CheckPresent, Remove as RemoveRequest, WhereIs, ExportSupported, CheckExport}
+use Rattle.host_talk.specs.declared.request.request.Request.{Request}
+use Rattle.host_talk.specs.declared.request.request.Request.TheVariants.{Extensions, Prepare as PrepareRequest, InitRemote as InitRemoteRequest, ListConfigs, GetCost, GetAvailability, GetInfo, Transfer as TransferRequest, CheckPresent, Remove as RemoveRequest, WhereIs, ExportSupported, CheckExport}
 use Rattle.annex_model.specs.Extensions.{names_of}
 use Rattle.annex_model.specs.Talks.{has_lead}
 use Rattle.annex_model.specs.Turns.{is_at}
 use Rattle.annex_model.specs.declared.turn.Turn.TheVariants.{Later}
 use Rattle.journal_model.specs.Due.{due_after, made_by}
 use Rattle.journal_model.proofs.Growing.{is_lead}
-use Rattle.talk_serial.specs.Requests.{message_of, name_of}
+use Rattle.host_talk.specs.Request.Requests.{message_of, name_of}
 use Rattle.host_core.specs.declared.event.Event.{Event}
 use Rattle.host_core.specs.declared.event.Event.TheVariants.{Claim as ClaimEvent, Start as StartEvent, NoStart as NoStartEvent, Ask as AskEvent, Got as GotEvent, Stop, Sent as SentEvent, Mute as MuteEvent, Answer as AnswerEvent, Note as NoteEvent}
 use Rattle.host_core.specs.declared.event.Reply.TheVariants.{Job}

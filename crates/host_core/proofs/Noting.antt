@@ -5,11 +5,11 @@ use Rattle.std.specs.List.{cons_option}
 use Rattle.std.proofs.lemmas.Bool.Decides.{nat_tests}
 use Rattle.ann_key.specs.declared.bytes.NoMemory.{NoMemory}
 use Rattle.annex_model.specs.Messages.{RemoteMessage}
-use Rattle.chunk_log.specs.Current.{layouts_of, IsCurrent}
-use Rattle.chunk_log.specs.NoteBooks.{in_order, inserted}
-use Rattle.chunk_log.specs.declared.note.Note.{Note}
-use Rattle.chunk_log.proofs.Newest.{layouts_current}
-use Rattle.reg_file.specs.Registers.{RegisterFile}
+use Rattle.task_text.specs.ChunkLog.Current.{layouts_of, IsCurrent}
+use Rattle.task_text.specs.ChunkLog.NoteBooks.{in_order, inserted}
+use Rattle.task_text.specs.declared.chunk_log.note.Note.{Note}
+use Rattle.task_text.proofs.ChunkLogLemmas.Newest.{layouts_current}
+use Rattle.registers.specs.Registers.{RegisterFile}
 use Rattle.task_text.specs.declared.task.Task.{Task}
 use Rattle.journal_model.specs.declared.verdict.Verdict.TheVariants.{Ended, Unsent}
 use Rattle.journal_model.specs.declared.entry.What.{What}

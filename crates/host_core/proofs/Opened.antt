@@ -30,10 +30,10 @@ use Rattle.journal_model.proofs.Keeping.{in_turn_of, named_text, plain_lead}
 use Rattle.journal_model.proofs.Looks.{is_asked, each_of-append, entry, unasked_closed, open_unsettled, settled_none}
 use Rattle.journal_model.proofs.PartsGrow.{part-group}
 use Rattle.journal_model.proofs.Projecting.{parts_fit, asked_parts}
-use Rattle.talk_serial.specs.declared.talk.Heard.TheVariants.{Aside as HeardAside}
-use Rattle.talk_serial.specs.Hearings.{heard, heard_as}
+use Rattle.host_talk.specs.declared.request.talk.Heard.TheVariants.{Aside as HeardAside}
+use Rattle.host_talk.specs.Request.Hearings.{heard, heard_as}
 use Rattle.journal_scan.specs.Looks.{asked_at, hosts_line, is_hosts, request_text, text_after}
-use Rattle.talk_serial.specs.Requests.{is_request}
+use Rattle.host_talk.specs.Request.Requests.{is_request}
 use Rattle.std.proofs.lemmas.Bool.{not-true as not_true, and_parts as both, eqb-true as same_number}
 use Rattle.ann_key.proofs.Numbers.{same_number as same}
 use Rattle.ann_key.proofs.Lists.{get_after as slice_get-here, slice_get-left}

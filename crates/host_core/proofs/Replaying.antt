@@ -8,8 +8,8 @@ use Rattle.annex_model.specs.Messages.{RemoteMessage, HostMessage, remote_readin
 use Rattle.annex_model.specs.Talks.{Item, Shape, OneLine, Configs, Infos, shape_of, may_go_on, awaits, said, item_is_aside, spells_aside, is_remote, is_nothing, is_config, is_infofield, is_infovalue, are_pairs}
 use Rattle.journal_model.specs.declared.entry.Entry.{Entry}
 use Rattle.journal_model.specs.Parts.{item_of, part_from, part, item_at}
-use Rattle.talk_serial.specs.Talked.{Talked}
-use Rattle.talk_serial.specs.Hearings.{Follows}
+use Rattle.host_talk.specs.Request.Talked.{Talked}
+use Rattle.host_talk.specs.Request.Hearings.{Follows}
 use Rattle.journal_scan.specs.Looks.{remote_text}
 use Rattle.host_core.specs.Moves.{EndsIn, takes_lines, said_by, said_before, said_there}
 use Rattle.ann_key.proofs.Lists.{get_after, range_next}

@@ -7,7 +7,7 @@ use Rattle.annex_model.specs.Messages.{RemoteMessage, remote_reading, Version, E
 use Rattle.annex_model.specs.Talks.{is_aside}
 use Rattle.annex_model.specs.Hearings.{Hearing, Aside, hearing, hearing_of, request_in}
 use Rattle.annex_model.specs.declared.final_line.Final.{Final}
-use Rattle.reg_file.specs.Registers.{RegisterFile}
+use Rattle.registers.specs.Registers.{RegisterFile}
 use Rattle.journal_model.specs.declared.verdict.Verdict.TheVariants.{Ended, Unsent}
 use Rattle.journal_model.specs.declared.verdict.Why.{Why}
 use Rattle.journal_model.specs.declared.verdict.Why.TheVariants.{Error as ErrorAt, Version as VersionFault}

@@ -29,9 +29,9 @@ use Rattle.host_core.specs.declared.event.Event.{Event}
 use Rattle.host_core.specs.declared.event.Event.TheVariants.{Claim as ClaimEvent, Start as StartEvent, NoStart as NoStartEvent, Ask as AskEvent, Lookup, Look, Listen, Fetch, Got as GotEvent, Stop, Sent as SentEvent, Mute as MuteEvent, Answer as AnswerEvent, Note as NoteEvent, Layouts as LayoutsEvent, Shut}
 use Rattle.host_core.specs.declared.event.Reply.TheVariants.{Child, Job, Over, Done, Gone}
 use Rattle.host_core.specs.Steps.{Step, step_of, group_of, append, odd, only, gone, is_gone, claim, next_job, next_on_wire, asking, is_named_well, may_request, may_answer, may_add_note, may_end, is_full_why, is_asked, settled_so, next_line, listening, resting, layouts_for, Comes}
-use Rattle.talk_serial.specs.declared.request.Request.{Request}
-use Rattle.talk_serial.specs.declared.request.Request.TheVariants.{TransferExport, CheckExport, RemoveExport, RenameExport}
-use Rattle.talk_serial.specs.Requests.{message_of, name_of}
+use Rattle.host_talk.specs.declared.request.request.Request.{Request}
+use Rattle.host_talk.specs.declared.request.request.Request.TheVariants.{TransferExport, CheckExport, RemoveExport, RenameExport}
+use Rattle.host_talk.specs.Request.Requests.{message_of, name_of}
 use Rattle.host_core.proofs.Wiring.{wired_text, wired_turn, few_jobs}
 use Rattle.std.proofs.lemmas.Bool.{not-true as not_true, and_parts as both}
 use Rattle.ann_key.proofs.Numbers.{same_number as same}

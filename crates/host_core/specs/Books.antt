@@ -1,7 +1,7 @@
 -- The book of notes after a journal, and what a group notes in it.
 use Rattle.std.specs.Prelude.{ℕ, ◌≡◌, ◌<◌, Bool, true, false, List, Option, Some, None, IsTrue}
-use Rattle.chunk_log.specs.declared.note.Note.{Note}
-use Rattle.chunk_log.specs.NoteBooks.{in_order}
+use Rattle.task_text.specs.declared.chunk_log.note.Note.{Note}
+use Rattle.task_text.specs.ChunkLog.NoteBooks.{in_order}
 use Rattle.journal_model.specs.declared.entry.What.{What}
 use Rattle.journal_model.specs.declared.entry.What.TheVariants.{Note as Noted}
 use Rattle.journal_model.specs.declared.entry.Entry.{Entry}

@@ -1,6 +1,6 @@
 use Rattle.std.specs.Prelude.{List, Bool}
-use Rattle.chunk_log.specs.declared.note.Note.{Note}
-use Rattle.reg_file.specs.Registers.{RegisterFile}
+use Rattle.task_text.specs.declared.chunk_log.note.Note.{Note}
+use Rattle.registers.specs.Registers.{RegisterFile}
 use Rattle.journal_model.specs.declared.entry.Entry.{Entry}
 use Rattle.journal_model.specs.declared.opening.Opening.{Opening}
 

@@ -16,8 +16,8 @@ use Rattle.journal_model.specs.Parts.{item_at}
 use Rattle.journal_model.specs.Room.{room_for}
 use Rattle.journal_model.specs.Due.{ending, ended_jobs, made_by, is_version_one, is_error, after_line, after_hearing, replies, replying}
 use Rattle.journal_scan.specs.Looks.{due_jobs}
-use Rattle.talk_serial.specs.Hearings.{heard_as}
-use Rattle.talk_serial.specs.declared.talk.Heard.{Heard}
+use Rattle.host_talk.specs.Request.Hearings.{heard_as}
+use Rattle.host_talk.specs.declared.request.talk.Heard.{Heard}
 use Rattle.host_core.specs.declared.due.Due.{Due}
 use Rattle.host_core.specs.declared.due.Due.TheVariants.{Nothing, Settle, Request, Replies, EndOf, EndedJobs, UnsentJobs}
 use Rattle.host_core.specs.declared.moves.Move.{Move}

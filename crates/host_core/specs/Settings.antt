@@ -4,7 +4,7 @@ use Rattle.annex_model.specs.Lines.{has_newline}
 use Rattle.annex_model.specs.Messages.{RemoteMessage, remote_reading}
 use Rattle.annex_model.specs.Talks.{is_aside}
 use Rattle.annex_model.specs.Hearings.{Hearing, Aside}
-use Rattle.reg_file.specs.Registers.{RegisterFile, IsKept}
+use Rattle.registers.specs.Registers.{RegisterFile, IsKept}
 use Rattle.journal_model.specs.declared.entry.What.{What}
 use Rattle.journal_model.specs.declared.entry.What.TheVariants.{Got}
 use Rattle.journal_model.specs.declared.entry.Entry.{Entry}

@@ -5,7 +5,7 @@ use Rattle.journal_model.specs.declared.answer.Answer.{Answer}
 use Rattle.journal_model.specs.declared.verdict.Why.{Why}
 use Rattle.journal_model.specs.declared.verdict.Why.TheVariants.{Full}
 use Rattle.journal_model.specs.declared.verdict.Verdict.{Verdict}
-use Rattle.chunk_log.specs.Current.{layouts_of}
+use Rattle.task_text.specs.ChunkLog.Current.{layouts_of}
 use Rattle.task_text.specs.declared.task.Task.{Task}
 use Rattle.annex_model.specs.Lines.{has_newline}
 use Rattle.annex_model.specs.Messages.{HostMessage, Export, host_line, is_askable}
@@ -17,7 +17,7 @@ use Rattle.journal_model.specs.Journal.{is_started, is_ended, is_mute, asked_job
 use Rattle.journal_model.specs.Room.{room_for}
 use Rattle.journal_model.specs.Due.{due_after, made_by}
 use Rattle.journal_model.specs.Legality.{IsGroup, is_empty, is_text, count, is_start, is_claimed, numbers_of, least_free, is_prepared, is_in_turn, may_ask, may_stop, is_claimed_by, is_run_again, has_open_job, has_busy_task, task_of, may_note, turn_of_task}
-use Rattle.talk_serial.specs.Requests.{message_of, name_of}
+use Rattle.host_talk.specs.Request.Requests.{message_of, name_of}
 use Rattle.host_core.specs.Books.{notes_after}
 use Rattle.host_core.specs.declared.event.Event.{Event}
 use Rattle.host_core.specs.declared.event.Event.TheVariants.{Claim as ClaimEvent, Start as StartEvent, NoStart as NoStartEvent, Ask as AskEvent, Lookup, Look, Listen, Fetch, Got as GotEvent, Stop, Sent as SentEvent, Mute as MuteEvent, Answer as AnswerEvent, Note as NoteEvent, Layouts as LayoutsEvent, Shut}

@@ -3,7 +3,7 @@ ghost use Rattle.std.specs.Prelude.{◌≡◌, length, true, false, Some, IfOk};
 ghost use Rattle.annex_model.specs.Messages.{remote_reading};
 ghost use Rattle.annex_model.specs.Talks.{is_talk};
 ghost use Rattle.wire_msg.specs.Shown.{remote_shown};
-ghost use Rattle.talk_serial.specs.Hearings.{heard_as};
+ghost use Rattle.host_talk.specs.Request.Hearings.{heard_as};
 ghost use Rattle.journal_model.specs.Journal.{is_open, addressed};
 ghost use Rattle.journal_model.specs.Parts.{part};
 ghost use Rattle.journal_model.specs.Due.{due_by_got, after_line, after_message, after_late, was_open, is_passed, foul, verdict_at};
@@ -16,10 +16,10 @@ use crate::serving::Past;
 use crate::talks::hear;
 use crate::{lines, serving};
 use ann_key::{Bytes, NoMemory};
+use host_talk::request::Heard;
 use journal_look::{Journal, addressed, has_spoken, is_asked, is_open, is_tagged, is_version_one};
 use journal_model::{Final, Verdict, Why};
 use std::alloc::Global;
-use talk_serial::Heard;
 use wire_msg::{RemoteMsg, read_remote};
 
 /// What is due after an entry, in few words.

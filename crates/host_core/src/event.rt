@@ -1,7 +1,7 @@
 use ann_key::Bytes;
-use chunk_log::Layouts;
+use host_talk::request::Request;
 use journal_model::{Answer, Verdict, Why};
-use talk_serial::Request;
+use task_text::chunk_log::Layouts;
 
 /// What is asked of the core, or told to it.
 #[derive(Drop)]

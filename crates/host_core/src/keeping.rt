@@ -1,8 +1,8 @@
 // What the core keeps of a group beside its entries: what is set, and what is noted.
 ghost use Rattle.std.specs.Prelude.{◌≡◌, ◌<◌, [], true, IfOk, OnOk, OnErr, IsOk};
 ghost use Rattle.std.specs.List.{cons_option, list_any};
-ghost use Rattle.chunk_log.specs.ChunkLines.{is_space, IsWritable, IsWrittenUuid};
-ghost use Rattle.chunk_log.specs.NoteBooks.{inserted};
+ghost use Rattle.task_text.specs.ChunkLog.ChunkLines.{is_space, IsWritable, IsWrittenUuid};
+ghost use Rattle.task_text.specs.ChunkLog.NoteBooks.{inserted};
 ghost use Rattle.journal_model.specs.Beginnings.{MayBegin};
 ghost use Rattle.journal_model.specs.Notes.{note_of, stamp_of, with_notes};
 ghost use Rattle.journal_model.specs.Replies.{set_by_all};
@@ -13,12 +13,12 @@ ghost use Rattle.host_core.specs.Settings.{IsLine, set_in};
 use crate::due::Due;
 use crate::serving::set_by_group;
 use ann_key::{NoMemory, Text};
-use chunk_log::{ChunkLine, NoteBook, Stamp};
 use journal_look::{Journal, task_of};
 use journal_model::{Opening, What};
-use reg_file::Registers;
+use registers::Registers;
 use std::alloc::Global;
 use task_text::Task;
+use task_text::chunk_log::{ChunkLine, NoteBook, Stamp};
 
 fn stamp_of(micros: u64) -> Stamp
     ensures { result ≡ stamp_of micros }

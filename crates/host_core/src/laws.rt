@@ -1,6 +1,6 @@
 // Laws over the table of events, each the contract of a function with nothing to do.
 ghost use Rattle.std.specs.Prelude.{◌≡◌, ◌<◌, ◌^◌, ◌++◌, ◌∷◌, [], ◌↔◌, ℕ, List, Some, true, length, IsTrue};
-ghost use Rattle.chunk_log.specs.NoteBooks.{in_order};
+ghost use Rattle.task_text.specs.ChunkLog.NoteBooks.{in_order};
 ghost use Rattle.journal_model.specs.declared.entry.What.{What};
 ghost use Rattle.journal_model.specs.declared.entry.Entry.{Entry};
 ghost use Rattle.journal_model.specs.declared.opening.Opening.{Opening};
@@ -34,7 +34,7 @@ pub fn layouts_are_current()
 {}
 
 /// Layouts are answered to the number that holds the task, of any work, and to no other.
-#[tactic(auto, unfolding(chunk_log::specs::Current::layouts_of))]
+#[tactic(auto, unfolding(task_text::specs::ChunkLog::Current::layouts_of))]
 pub fn worked_layouts()
     ensures none { (step_of (to_do Store) stored 0 (AskLayouts 1)).reply ≡ Known [] }
     ensures noted { (step_of (to_do Store) (noting 2) 0 (AskLayouts 1)).reply ≡ Known ((100, 2) ∷ []) }

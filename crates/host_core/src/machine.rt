@@ -1,6 +1,6 @@
 ghost use Rattle.std.specs.Prelude.{◌≡◌, ◌<◌, ◌≤◌, ◌+◌, ◌*◌, ◌^◌, ◌++◌, [], length, true, false, All, List, IfOk, IsOk, IsTrue, OnOk, OnErr};
 ghost use Rattle.std.specs.List.{cons_option};
-ghost use Rattle.chunk_log.specs.NoteBooks.{in_order};
+ghost use Rattle.task_text.specs.ChunkLog.NoteBooks.{in_order};
 ghost use Rattle.journal_model.specs.Beginnings.{MayBegin};
 ghost use Rattle.journal_model.specs.declared.entry.Entry.{Entry};
 ghost use Rattle.journal_model.specs.declared.opening.Opening.{Opening};
@@ -26,13 +26,13 @@ use crate::serving::Past;
 use crate::waits::{Turn, Waits};
 use crate::{group, keeping, moves, queued};
 use ann_key::NoMemory;
-use chunk_log::NoteBook;
 use journal_look::{Journal, is_tagged, unclaimed};
 use journal_model::{Opening, What};
-use reg_file::Registers;
+use registers::Registers;
 use std::alloc::Global;
 use std::marker::Model;
 use task_queue::Queue;
+use task_text::chunk_log::NoteBook;
 
 /// The core of a run: what it began with, the journal so far, which is legal, and the registers and the notes after it; and
 /// whether it is shut. It keeps room for all that can come of the entries so far.

@@ -6,7 +6,7 @@ ghost use Rattle.journal_model.specs.Limits.{most_tasks};
 ghost use Rattle.journal_model.specs.Journal.{is_ended, is_full, is_started, on_wire};
 ghost use Rattle.journal_model.specs.Legality.{Legal, least_free};
 ghost use Rattle.journal_model.specs.Due.{made_by};
-ghost use Rattle.talk_serial.specs.Requests.{message_of, name_of};
+ghost use Rattle.host_talk.specs.Request.Requests.{message_of, name_of};
 ghost use Rattle.wire_msg.specs.Shown.{host_shown};
 ghost use Rattle.host_core.specs.Steps.{step_of, claim, asking, next_job, next_on_wire, gone, may_request, is_named_well, closing, told, unless_shut, shut_by, shut_for, listening, resting, next_line};
 ghost use Rattle.host_core.specs.Steps.{is_free, is_gone, is_awaited, is_idle, may_end, may_answer, may_add_note};
@@ -27,6 +27,7 @@ use crate::runs::{self, Run};
 use crate::serving::Past;
 use crate::{lines, requests};
 use ann_key::{Bytes, NoMemory, has_byte};
+use host_talk::request::Request;
 use journal_look::{
     Journal, are_all_claimed, has_busy_task, has_no_open_job, has_open_job, has_spoken,
     is_all_sent, is_asked, is_claimed_by, is_ended, is_full, is_live, is_mute, is_prepared,
@@ -34,7 +35,6 @@ use journal_look::{
 };
 use journal_model::{Answer, Opening, What, Why};
 use std::alloc::Global;
-use talk_serial::Request;
 use wire_msg::{HostMsg, write_host};
 
 /// The answer to an event, the entry that it appends first, if it appends one, and what is due after that.

@@ -3,13 +3,13 @@ ghost use Rattle.std.specs.Prelude.{◌≡◌, bytes_eq};
 ghost use Rattle.annex_model.specs.Extensions.{names_of};
 ghost use Rattle.annex_model.specs.Messages.{is_sent_key, is_askable};
 ghost use Rattle.journal_model.specs.Legality.{suits_child, is_in_turn, is_text};
-ghost use Rattle.talk_serial.specs.Requests.{message_of, name_of};
+ghost use Rattle.host_talk.specs.Request.Requests.{message_of, name_of};
 ghost use Rattle.host_core.specs.Steps.{may_request, is_named_well};
 
 use ann_key::{Key, has_byte};
+use host_talk::request::Request;
 use journal_look::{Journal, is_offered, is_started, may_ask, next_job};
 use std::str;
-use talk_serial::Request;
 
 // Whether the names of an EXTENSIONS that offers ASYNC or not are those that the child is told.
 fn are_offered(offer: bool, offered: bool) -> bool

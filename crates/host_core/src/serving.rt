@@ -13,12 +13,12 @@ ghost use Rattle.host_core.specs.Settings.{IsServed, IsLine, is_reply, set_in};
 use crate::due::Due;
 use crate::runs::Run;
 use ann_key::{Bytes, NoMemory};
-use ask_serve::replies_to;
-use chunk_log::NoteBook;
+use host_talk::asks::replies_to;
 use journal_look::{Journal, addressed, on_wire};
 use journal_model::{Opening, What};
-use reg_file::Registers;
+use registers::Registers;
 use std::alloc::Global;
+use task_text::chunk_log::NoteBook;
 use wire_msg::{RemoteMsg, read_remote};
 
 /// What stands so far: what the run began with, the journal, and after it the registers, the notes, and what is kept of each task;
@@ -90,7 +90,7 @@ fn set_by_text(registers: &mut Registers, text: &[u8]) -> Result<(), NoMemory>
     ensures err { OnErr result (registers.new ≡ registers.old) }
 {
     match read_remote(text) {
-        Some(message) => ask_serve::set(registers, &message),
+        Some(message) => host_talk::asks::set(registers, &message),
         None => Ok(()),
     }
 }

@@ -5,8 +5,8 @@ use crate::event::{Event, Reply};
 use crate::machine::Core;
 use crate::waits::Turn;
 use ann_key::NoMemory;
-use hall::Held;
 use journal_model::{Entry, Opening};
+use threads::Held;
 
 impl Held for Core {
     ghost use Rattle.host_core.specs.Mays.{MayStep, IsMadeBy, IsFree};

@@ -4,9 +4,9 @@ ghost use Rattle.annex_model.specs.Messages.{RemoteMessage, remote_reading};
 ghost use Rattle.annex_model.specs.Talks.{said, awaits, shape_of, spells_aside};
 ghost use Rattle.annex_model.specs.Hearings.{request_in, hearing};
 ghost use Rattle.wire_msg.specs.Shown.{remote_shown, host_shown};
-ghost use Rattle.talk_serial.specs.Requests.{message_of, is_request};
-ghost use Rattle.talk_serial.specs.Talked.{is_over};
-ghost use Rattle.talk_serial.specs.Hearings.{heard, heard_as, Follows};
+ghost use Rattle.host_talk.specs.Request.Requests.{message_of, is_request};
+ghost use Rattle.host_talk.specs.Request.Talked.{is_over};
+ghost use Rattle.host_talk.specs.Request.Hearings.{heard, heard_as, Follows};
 ghost use Rattle.journal_model.specs.Journal.{is_open};
 ghost use Rattle.journal_model.specs.Parts.{part};
 ghost use Rattle.journal_model.specs.Legality.{Legal};
@@ -14,10 +14,10 @@ ghost use Rattle.journal_scan.specs.Spans.{IsSpan};
 ghost use Rattle.host_core.specs.Moves.{EndsIn, said_before, said_there, takes_lines};
 
 use ann_key::NoMemory;
+use host_talk::request::{Heard, Request, Talk, is_aside};
 use journal_look::{Journal, Span, open_span, request_text, said_within};
 use journal_model::Opening;
 use std::alloc::Global;
-use talk_serial::{Heard, Request, Talk, is_aside};
 use wire_msg::{HostMsg, RemoteMsg, read_host, read_remote};
 
 /// The request that asks the message.

@@ -23,10 +23,10 @@ use Rattle.journal_model.proofs.Named.{same_addressed, same_ask}
 use Rattle.annex_model.proofs.Classes.{askable_test}
 use Rattle.journal_model.proofs.Asking.{read_askable}
 use Rattle.host_core.proofs.Opened.{turn_asks}
-use Rattle.talk_serial.specs.declared.request.Request.{Request}
-use Rattle.talk_serial.specs.declared.request.Request.TheVariants.{CheckExport}
-use Rattle.talk_serial.specs.Requests.{message_of, name_of, is_request}
-use Rattle.talk_serial.proofs.Reading.{unnamed}
+use Rattle.host_talk.specs.declared.request.request.Request.{Request}
+use Rattle.host_talk.specs.declared.request.request.Request.TheVariants.{CheckExport}
+use Rattle.host_talk.specs.Request.Requests.{message_of, name_of, is_request}
+use Rattle.host_talk.proofs.RequestLemmas.Reading.{unnamed}
 use Rattle.host_core.specs.declared.event.Event.TheVariants.{Claim as ClaimEvent, Ask as AskEvent, Got as GotEvent, Answer as AnswerEvent}
 use Rattle.host_core.specs.declared.event.Reply.TheVariants.{Job}
 use Rattle.host_core.specs.Steps.{Step, step_of, group_of, append, asking, odd, gone, is_named_well, next_job, next_on_wire, may_request}

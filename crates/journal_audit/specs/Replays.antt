@@ -2,8 +2,8 @@
 use Rattle.std.specs.Prelude.{ℕ, ◌≡◌, ◌⊎◌, ◌&&◌, Bool, true, false, List, [], ◌∷◌, ◌++◌, length, Option, Some, None}
 use Rattle.annex_model.specs.Messages.{HostMessage, Export, host_reading, is_askable}
 use Rattle.annex_model.specs.Talks.{has_lead}
-use Rattle.talk_serial.specs.declared.request.Request.{Request}
-use Rattle.talk_serial.specs.Requests.{is_request, message_of, name_of}
+use Rattle.host_talk.specs.declared.request.request.Request.{Request}
+use Rattle.host_talk.specs.Request.Requests.{is_request, message_of, name_of}
 use Rattle.journal_model.specs.declared.entry.What.{What}
 use Rattle.journal_model.specs.declared.entry.What.TheVariants.{Lead, Ask}
 use Rattle.journal_model.specs.declared.entry.Entry.{Entry}

@@ -8,10 +8,10 @@ ghost use Rattle.journal_audit.specs.Replays.{PairsName, Says, SaysName, Suits, 
 use crate::requests;
 use ann_key::{Bytes, NoMemory, Text};
 use host_core::{Core, Event};
+use host_talk::request::Request;
 use journal_look::{EntryRef, WhatRef, asking_task};
 use journal_model::Why;
 use std::alloc::Global;
-use talk_serial::Request;
 use wire_msg::read_host;
 
 fn ask_event(

@@ -10,10 +10,10 @@ ghost use Rattle.journal_audit.specs.Replays.{AsksAfter, MayBeNext, Says, name_i
 
 use ann_key::{Key, KeyRef, NoMemory, Text};
 use host_core::Core;
+use host_talk::request::Request;
 use journal_look::{Journal, is_offered, next_job};
 use std::alloc::Global;
 use std::str;
-use talk_serial::Request;
 use wire_msg::{HostMsg, read_host, untag};
 
 /// The text of a line of the child, without its tag.
@@ -50,7 +50,7 @@ fn name_said<'a>(core: &Core, child: u32, line: &'a [u8]) -> Option<&'a [u8]>
 }
 
 /// The text; None where the bytes are none.
-#[tactic(auto, using(talk_serial::proofs::Reading::no_text))]
+#[tactic(auto, using(host_talk::proofs::RequestLemmas::Reading::no_text))]
 fn text(alloc: Global, bytes: &[u8]) -> Result<Option<Text>, NoMemory>
     ensures same { IfOk result (λ r. IfSome r (λ t. t ≡ bytes.now)) }
     ensures none { IfOk result (λ r. IsNone r → is_utf8 bytes.now ≡ false) }

@@ -10,8 +10,8 @@ use Rattle.ann_key.specs.Keys.{is_key, is_sendable}
 use Rattle.task_text.specs.TaskLines.{has_chunk, IsTask}
 use Rattle.task_text.specs.declared.task.Task.{Task}
 use Rattle.task_text.specs.declared.task.Work.TheVariants.{Store, Check}
-use Rattle.chunk_log.specs.ChunkLines.{is_space}
-use Rattle.chunk_log.proofs.Uuids.{nil_written, upper_not_written}
+use Rattle.task_text.specs.ChunkLog.ChunkLines.{is_space}
+use Rattle.task_text.proofs.ChunkLogLemmas.Uuids.{nil_written, upper_not_written}
 use Rattle.journal_model.specs.declared.opening.Opening.{Opening}
 use Rattle.journal_model.specs.AgainRows.{one_check_again}
 use Rattle.journal_model.specs.Beginnings.{MayBegin}

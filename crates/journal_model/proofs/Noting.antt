@@ -5,14 +5,14 @@ use Rattle.std.specs.Ordering.{is_lt, ordering_reverse}
 use Rattle.std.specs.declared.cmp.Ordering.{Ordering}
 use Rattle.std.specs.declared.cmp.Ordering.TheVariants.{Less, Equal, Greater}
 use Rattle.std.proofs.lemmas.Slice.Eq.{bytes_eq-Decides}
-use Rattle.chunk_log.specs.ChunkLines.{IsWritable, IsWrittenUuid}
-use Rattle.chunk_log.specs.NoteBooks.{counting, in_order, inserted, is_before, is_of, newer, place_cmp}
-use Rattle.chunk_log.specs.Current.{IsCurrent}
-use Rattle.chunk_log.specs.declared.note.Note.{Note}
-use Rattle.chunk_log.specs.declared.line.ChunkLine.{ChunkLine}
-use Rattle.chunk_log.proofs.Counting.{inserted_counts, pushed}
-use Rattle.chunk_log.proofs.InOrder.{in_order-inserted}
-use Rattle.chunk_log.proofs.Places.{place_total, same_place, is_of-same, same-is_of}
+use Rattle.task_text.specs.ChunkLog.ChunkLines.{IsWritable, IsWrittenUuid}
+use Rattle.task_text.specs.ChunkLog.NoteBooks.{counting, in_order, inserted, is_before, is_of, newer, place_cmp}
+use Rattle.task_text.specs.ChunkLog.Current.{IsCurrent}
+use Rattle.task_text.specs.declared.chunk_log.note.Note.{Note}
+use Rattle.task_text.specs.declared.chunk_log.line.ChunkLine.{ChunkLine}
+use Rattle.task_text.proofs.ChunkLogLemmas.Counting.{inserted_counts, pushed}
+use Rattle.task_text.proofs.ChunkLogLemmas.InOrder.{in_order-inserted}
+use Rattle.task_text.proofs.ChunkLogLemmas.Places.{place_total, same_place, is_of-same, same-is_of}
 use Rattle.task_text.specs.declared.task.Task.{Task}
 use Rattle.journal_model.specs.declared.entry.What.{What}
 use Rattle.journal_model.specs.declared.entry.What.TheVariants.{Lead}

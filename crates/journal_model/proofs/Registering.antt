@@ -5,12 +5,12 @@ use Rattle.std.specs.Prelude.{filter_map}
 use Rattle.std.specs.List.{cons_option, last_or, list_all}
 use Rattle.std.proofs.lemmas.List.{append-nil}
 use Rattle.annex_model.specs.Messages.{RemoteMessage, Setconfig, Setcreds, Setwanted, Setstate, Seturlpresent, Seturlmissing, Getconfig, Getcreds, Getstate, Geturls, Getwanted, Getuuid, Getgitdir, Getgitremotename, remote_reading}
-use Rattle.reg_file.specs.Links.{is_link, LinksRise}
-use Rattle.reg_file.specs.Registers.{RegisterFile, config_of, creds_of, state_of, has_url}
-use Rattle.reg_file.proofs.Orders.{sorted-insert_key, sorted-filter_keys}
-use Rattle.reg_file.specs.Links.{by_link}
-use Rattle.reg_file.proofs.Readings.{text_at-put, pair_at-put, state_of-with_state, has_url-with_url}
-use Rattle.reg_file.proofs.Settings.{links_total}
+use Rattle.registers.specs.Links.{is_link, LinksRise}
+use Rattle.registers.specs.Registers.{RegisterFile, config_of, creds_of, state_of, has_url}
+use Rattle.registers.proofs.Orders.{sorted-insert_key, sorted-filter_keys}
+use Rattle.registers.specs.Links.{by_link}
+use Rattle.registers.proofs.Readings.{text_at-put, pair_at-put, state_of-with_state, has_url-with_url}
+use Rattle.registers.proofs.Settings.{links_total}
 use Rattle.journal_model.specs.declared.entry.What.{What}
 use Rattle.journal_model.specs.declared.entry.What.TheVariants.{Got}
 use Rattle.journal_model.specs.declared.entry.Entry.{Entry}

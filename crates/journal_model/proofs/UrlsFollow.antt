@@ -11,12 +11,12 @@ use Rattle.std.proofs.lemmas.Cmp.{nat_list_cmp_total}
 use Rattle.std.proofs.lemmas.Map.Keys.{sorted_head, sorted_tail}
 use Rattle.std.proofs.lemmas.List.Folds.{list_any-append}
 use Rattle.annex_model.specs.Messages.{RemoteMessage, Seturlpresent, Seturlmissing}
-use Rattle.reg_file.specs.Tables.{by_bytes}
-use Rattle.reg_file.specs.Links.{LinksRise}
-use Rattle.reg_file.specs.Registers.{RegisterFile, IsKept, has_url, urls_of, config_of, creds_of, state_of}
-use Rattle.reg_file.proofs.Orders.{sorted-insert_key}
-use Rattle.reg_file.proofs.Tables.{is_eq-by_bytes, alike}
-use Rattle.reg_file.proofs.Readings.{any_url, urls_rise}
+use Rattle.registers.specs.Tables.{by_bytes}
+use Rattle.registers.specs.Links.{LinksRise}
+use Rattle.registers.specs.Registers.{RegisterFile, IsKept, has_url, urls_of, config_of, creds_of, state_of}
+use Rattle.registers.proofs.Orders.{sorted-insert_key}
+use Rattle.registers.proofs.Tables.{is_eq-by_bytes, alike}
+use Rattle.registers.proofs.Readings.{any_url, urls_rise}
 use Rattle.journal_model.specs.declared.entry.Entry.{Entry}
 use Rattle.journal_model.specs.declared.opening.Identity.{Identity}
 use Rattle.journal_model.specs.Replies.{SameValues, values_of, set_by_all}

@@ -1,7 +1,7 @@
 -- What a run may begin with.
 use Rattle.std.specs.Prelude.{◌≤◌, All, length}
 use Rattle.task_text.specs.TaskLines.{IsTask}
-use Rattle.chunk_log.specs.ChunkLines.{IsWrittenUuid}
+use Rattle.task_text.specs.ChunkLog.ChunkLines.{IsWrittenUuid}
 use Rattle.journal_model.specs.declared.opening.Opening.{Opening}
 use Rattle.journal_model.specs.Limits.{most_again, most_tasks}
 use Rattle.journal_model.specs.Replies.{IsLineIdentity}

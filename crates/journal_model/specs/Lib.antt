@@ -25,6 +25,6 @@ pub use Rattle.ann_key.specs.Keys
 pub use Rattle.annex_model.specs.Lines
 pub use Rattle.annex_model.specs.Messages
 pub use Rattle.annex_model.specs.Talks
-pub use Rattle.chunk_log.specs.ChunkLines
-pub use Rattle.chunk_log.specs.NoteBooks
-pub use Rattle.reg_file.specs.Tables
+pub use Rattle.task_text.specs.ChunkLog.ChunkLines
+pub use Rattle.task_text.specs.ChunkLog.NoteBooks
+pub use Rattle.registers.specs.Tables

@@ -1,7 +1,7 @@
 -- Worked journals with notes of chunks.
 use Rattle.std.specs.Prelude.{ℕ, List, [], ◌∷◌, ◌++◌, codes}
 use Rattle.task_text.specs.declared.task.Work.{Work}
-use Rattle.chunk_log.specs.declared.line.ChunkLine.{ChunkLine}
+use Rattle.task_text.specs.declared.chunk_log.line.ChunkLine.{ChunkLine}
 use Rattle.journal_model.specs.declared.verdict.Verdict.TheVariants.{Done}
 use Rattle.journal_model.specs.declared.answer.Answer.TheVariants.{Stored}
 use Rattle.journal_model.specs.declared.entry.What.TheVariants.{Claim, Ask, Sent, Got, Verdict as Settled, Answer as Answered, Note as Noted}

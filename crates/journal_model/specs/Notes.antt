@@ -1,9 +1,9 @@
 -- Which chunks the remote is known to have at a place of the journal: what the run began with, and then what was noted.
 use Rattle.std.specs.Prelude.{ℕ, ◌≡◌, ◌*◌, ◌/◌, ◌%◌, List, ◌++◌, Option, None, option_map, fold, IsTrue}
-use Rattle.chunk_log.specs.declared.note.Note.{Note}
-use Rattle.chunk_log.specs.declared.stamp.Stamp.{Stamp}
-use Rattle.chunk_log.specs.NoteBooks.{counting, in_order, inserted}
-use Rattle.chunk_log.specs.Current.{IsCurrent}
+use Rattle.task_text.specs.declared.chunk_log.note.Note.{Note}
+use Rattle.task_text.specs.declared.chunk_log.stamp.Stamp.{Stamp}
+use Rattle.task_text.specs.ChunkLog.NoteBooks.{counting, in_order, inserted}
+use Rattle.task_text.specs.ChunkLog.Current.{IsCurrent}
 use Rattle.task_text.specs.declared.task.Task.{Task}
 use Rattle.journal_model.specs.declared.entry.What.{What}
 use Rattle.journal_model.specs.declared.entry.What.TheVariants.{Note as Noted}

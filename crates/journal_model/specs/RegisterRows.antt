@@ -2,7 +2,7 @@
 use Rattle.std.specs.Prelude.{ℕ, true, false, List, [], ◌∷◌, ◌++◌, map, codes}
 use Rattle.journal_model.specs.declared.verdict.Why.TheVariants.{Foul}
 use Rattle.annex_model.specs.Messages.{RemoteMessage}
-use Rattle.reg_file.specs.Registers.{RegisterFile, nothing_set, with_config, with_url}
+use Rattle.registers.specs.Registers.{RegisterFile, nothing_set, with_config, with_url}
 use Rattle.journal_model.specs.declared.entry.What.TheVariants.{Start, Ask, Got, End}
 use Rattle.journal_model.specs.declared.entry.Entry.{Entry}
 use Rattle.journal_model.specs.Replies.{replies_by}

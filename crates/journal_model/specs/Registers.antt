@@ -4,8 +4,8 @@ use Rattle.std.specs.Prelude.{ℕ, ◌≡◌, ◌&&◌, not, IsTrue, Bool, true,
 use Rattle.std.specs.List.{cons_option, last_or, list_all, starts_with}
 use Rattle.std.specs.BTreeSet.{insert_key}
 use Rattle.annex_model.specs.Messages.{RemoteMessage, Setconfig, Setcreds, Setwanted, Setstate, Seturlpresent, Seturlmissing, remote_reading}
-use Rattle.reg_file.specs.Tables.{by_bytes}
-use Rattle.reg_file.specs.Registers.{RegisterFile, config_of, creds_of, state_of, urls_of, has_url}
+use Rattle.registers.specs.Tables.{by_bytes}
+use Rattle.registers.specs.Registers.{RegisterFile, config_of, creds_of, state_of, urls_of, has_url}
 use Rattle.journal_model.specs.declared.entry.What.{What}
 use Rattle.journal_model.specs.declared.entry.What.TheVariants.{Got}
 use Rattle.journal_model.specs.declared.entry.Entry.{Entry}

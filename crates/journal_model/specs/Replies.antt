@@ -7,7 +7,7 @@ use Rattle.ann_key.specs.Keys.{Parts, key_reading}
 use Rattle.ann_digest.specs.Directories.{lower_of, mixed_of}
 use Rattle.annex_model.specs.Lines.{has_newline}
 use Rattle.annex_model.specs.Messages.{RemoteMessage, Dirhash, DirhashLower, Getconfig, Setconfig, Getcreds, Setcreds, Getuuid, Getgitdir, Getgitremotename, Getwanted, Setwanted, Getstate, Setstate, Seturlpresent, Seturlmissing, Geturls, remote_row, Value, Creds, host_line, field_text}
-use Rattle.reg_file.specs.Registers.{RegisterFile, config_of, creds_of, state_of, urls_of, with_config, with_creds, with_wanted, with_state, with_url}
+use Rattle.registers.specs.Registers.{RegisterFile, config_of, creds_of, state_of, urls_of, with_config, with_creds, with_wanted, with_state, with_url}
 use Rattle.journal_model.specs.declared.opening.Identity.{Identity}
 
 -- ---- the directories of a key

@@ -2,10 +2,10 @@
 ghost use Rattle.std.specs.Prelude.{ℕ, ◌≡◌, ◌<◌, ◌++◌, List, [], ◌∷◌, true, false, Some, IsTrue};
 ghost use Rattle.task_text.specs.declared.task.Task.{Task};
 ghost use Rattle.task_text.specs.declared.task.Work.TheVariants.{Store, Get, Check, Drop};
-ghost use Rattle.chunk_log.specs.ChunkLines.{IsWritable, IsWrittenUuid};
-ghost use Rattle.chunk_log.specs.NoteBooks.{counting, in_order};
-ghost use Rattle.chunk_log.specs.Current.{IsCurrent};
-ghost use Rattle.chunk_log.specs.declared.note.Note.{Note};
+ghost use Rattle.task_text.specs.ChunkLog.ChunkLines.{IsWritable, IsWrittenUuid};
+ghost use Rattle.task_text.specs.ChunkLog.NoteBooks.{counting, in_order};
+ghost use Rattle.task_text.specs.ChunkLog.Current.{IsCurrent};
+ghost use Rattle.task_text.specs.declared.chunk_log.note.Note.{Note};
 ghost use Rattle.journal_model.specs.declared.answer.Answer.TheVariants.{Stored};
 ghost use Rattle.journal_model.specs.declared.entry.What.TheVariants.{Answer as Answered, Note as Noted};
 ghost use Rattle.journal_model.specs.declared.entry.Entry.{Entry};

@@ -1,10 +1,10 @@
 ghost use Rattle.std.specs.Prelude.{◌≡◌, IfOk};
 
 use ann_key::{NoMemory, Text};
-use chunk_log::NoteBook;
-use reg_file::Registers;
+use registers::Registers;
 use std::alloc::Global;
 use task_text::Tasks;
+use task_text::chunk_log::NoteBook;
 
 /// Who the remote is, to a child that asks: its UUID in lower case with hyphens, its name, and the git directory.
 #[derive(Drop)]

@@ -3,7 +3,7 @@ ghost use Rattle.std.specs.Prelude.{◌≡◌, ◌++◌, ◌∷◌, [], List, �
 ghost use Rattle.std.specs.List.{list_any};
 ghost use Rattle.task_text.specs.declared.task.Task.{Task};
 ghost use Rattle.task_text.specs.declared.task.Work.TheVariants.{Store, Check};
-ghost use Rattle.chunk_log.specs.ChunkLines.{is_space};
+ghost use Rattle.task_text.specs.ChunkLog.ChunkLines.{is_space};
 ghost use Rattle.journal_model.specs.declared.opening.Opening.{Opening};
 ghost use Rattle.journal_model.specs.AgainRows.{one_check_again};
 ghost use Rattle.journal_model.specs.Beginnings.{MayBegin};

@@ -5,9 +5,9 @@ use Rattle.task_text.specs.TaskLines.{line_of, IsTask}
 use Rattle.task_text.specs.declared.task.Task.{Task}
 use Rattle.task_text.proofs.Spelled.{at_most_one}
 use Rattle.journal_model.specs.declared.entry.Entry.{Entry}
-use Rattle.journal_entries.specs.Entries.{entry_line, entry_at, IsEntry}
-use Rattle.journal_entries.proofs.EntryBack.{entry_back}
-use Rattle.journal_lines.specs.JournalTexts.{Told, worded, head, task_line, end_line}
+use Rattle.journal_text.specs.Entries.Entries.{entry_line, entry_at, IsEntry}
+use Rattle.journal_text.proofs.EntriesLemmas.EntryBack.{entry_back}
+use Rattle.journal_text.specs.Lines.JournalTexts.{Told, worded, head, task_line, end_line}
 use Rattle.journal_reader.specs.Readings.{Reading, Goes, Follows, after_stamp}
 use Rattle.journal_reader.specs.Runs.{Reads}
 use Rattle.journal_reader.specs.declared.place.Place.{Place}
@@ -15,7 +15,7 @@ use Rattle.journal_reader.specs.declared.place.Place.TheVariants.{Head, Uuid, Na
 use Rattle.journal_reader.proofs.Going.{task_begin, keep_begin, task_keep}
 use Rattle.journal_reader.proofs.LineFields.{worded_same}
 use Rattle.ann_key.specs.Numbers.{number_of}
-use Rattle.chunk_log.proofs.ReadBack.{number_back as number_read}
+use Rattle.task_text.proofs.ChunkLogLemmas.ReadBack.{number_back as number_read}
 
 abbrev Same : Place → Place → Told → Told → Type 0
 Same p q u v = (p ≡ q) × (u ≡ v)

@@ -6,8 +6,8 @@ use Rattle.std.specs.Str.{is_utf8, chars}
 use Rattle.std.proofs.lemmas.List.{append-nil}
 use Rattle.uuid.specs.Text.{by_index}
 use Rattle.journal_model.specs.declared.entry.Entry.{Entry}
-use Rattle.journal_entries.specs.Entries.{entry_line}
-use Rattle.journal_lines.specs.JournalTexts.{Told, worded, head, begin, stamp_line, again_line, again_lines, task_line, keep_line, end_line, first_lines, last_lines, told_lines}
+use Rattle.journal_text.specs.Entries.Entries.{entry_line}
+use Rattle.journal_text.specs.Lines.JournalTexts.{Told, worded, head, begin, stamp_line, again_line, again_lines, task_line, keep_line, end_line, first_lines, last_lines, told_lines}
 use Rattle.journal_reader.specs.RunTexts.{is_uuid, IsTold, IsAgain, Begins, NoneKept}
 use Rattle.journal_reader.specs.Readings.{Reading, CannotGo, Follows, start, nothing_told}
 use Rattle.journal_reader.specs.Runs.{Reads, lines_told, IsSoFar}

@@ -5,8 +5,8 @@ use Rattle.std.specs.Prelude.{codes}
 use Rattle.task_text.specs.TaskLines.{IsTask, line_of}
 use Rattle.task_text.specs.declared.task.Task.{Task}
 use Rattle.journal_model.specs.declared.entry.Entry.{Entry}
-use Rattle.journal_entries.specs.Entries.{entry_line, IsEntry}
-use Rattle.journal_lines.specs.JournalTexts.{Told, worded, begin, end_line}
+use Rattle.journal_text.specs.Entries.Entries.{entry_line, IsEntry}
+use Rattle.journal_text.specs.Lines.JournalTexts.{Told, worded, begin, end_line}
 use Rattle.journal_reader.specs.RunTexts.{may_be_kept, may_stand}
 use Rattle.journal_reader.specs.Readings.{Reading, Goes, CannotGo, Took, RefusedAs, is_open}
 use Rattle.journal_reader.specs.declared.place.Place.{Place}

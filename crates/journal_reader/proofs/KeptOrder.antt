@@ -9,19 +9,19 @@ use Rattle.std.specs.declared.cmp.Ordering.{Ordering}
 use Rattle.std.specs.declared.cmp.Ordering.TheVariants.{Less, Equal, Greater}
 use Rattle.std.proofs.lemmas.Bool.{and_parts, and_from as both_true}
 use Rattle.std.proofs.lemmas.Bool.Decides.{nat_tests}
-use Rattle.reg_file.specs.Links.{by_link}
-use Rattle.reg_file.specs.Registers.{RegisterFile, IsKept}
-use Rattle.reg_file.specs.RegLines.{Line, ConfigLine, StateLine, UrlLine, lines_of, later_lines_of, keyed_lines_of, wanted_lines}
-use Rattle.reg_file.specs.Tables.{Texts, by_bytes}
-use Rattle.chunk_log.specs.ChunkLines.{line_text}
-use Rattle.chunk_log.specs.NoteBooks.{place_cmp, is_before, in_order}
-use Rattle.chunk_log.specs.declared.note.Note.{Note}
-use Rattle.keep_text.specs.KeptFiles.{kept_of, kept_note, cut_note, IsKeepable}
-use Rattle.keep_text.specs.KeptLines.{KeptLine, Setting, Expression, State, Url, chunk_in}
-use Rattle.keep_text.specs.Orders.{rank, kept_cmp, fields_cmp, logs_cmp}
+use Rattle.registers.specs.Links.{by_link}
+use Rattle.registers.specs.Registers.{RegisterFile, IsKept}
+use Rattle.registers.specs.RegLines.{Line, ConfigLine, StateLine, UrlLine, lines_of, later_lines_of, keyed_lines_of, wanted_lines}
+use Rattle.registers.specs.Tables.{Texts, by_bytes}
+use Rattle.task_text.specs.ChunkLog.ChunkLines.{line_text}
+use Rattle.task_text.specs.ChunkLog.NoteBooks.{place_cmp, is_before, in_order}
+use Rattle.task_text.specs.declared.chunk_log.note.Note.{Note}
+use Rattle.kept_file.specs.Text.KeptFiles.{kept_of, kept_note, cut_note, IsKeepable}
+use Rattle.kept_file.specs.Text.KeptLines.{KeptLine, Setting, Expression, State, Url, chunk_in}
+use Rattle.kept_file.specs.Text.Orders.{rank, kept_cmp, fields_cmp, logs_cmp}
 use Rattle.std.proofs.lemmas.List.{append_assoc as joined, map-append as mapped-append}
 use Rattle.ann_key.proofs.Lists.{mapped}
-use Rattle.keep_text.proofs.WrittenLines.{note_chunk}
+use Rattle.kept_file.proofs.TextLemmas.WrittenLines.{note_chunk}
 
 -- ---- lines in order, one after the other
 

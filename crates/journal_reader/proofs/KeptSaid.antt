@@ -4,11 +4,11 @@ use Rattle.std.specs.Prelude.{is_some, bytes_eq}
 use Rattle.std.specs.List.{list_all}
 use Rattle.std.proofs.lemmas.Bool.{and_parts, and_from as both_true}
 use Rattle.annex_model.specs.Lines.{text, has_newline}
-use Rattle.chunk_log.specs.declared.line.ChunkLine.{ChunkLine}
-use Rattle.keep_text.specs.KeptLines.{KeptLine, Setting, Expression, State, Url, Chunks, kept_reading, chunk_in, is_kept_line, is_right, line_of}
-use Rattle.keep_text.specs.KeptFiles.{head, lines_in, bad_line, bad_among, are_lines}
-use Rattle.keep_text.specs.Orders.{is_log_of, is_written_as, is_written_line}
-use Rattle.keep_text.proofs.WrittenLines.{lines_back, none_bad, are_kept}
+use Rattle.task_text.specs.declared.chunk_log.line.ChunkLine.{ChunkLine}
+use Rattle.kept_file.specs.Text.KeptLines.{KeptLine, Setting, Expression, State, Url, Chunks, kept_reading, chunk_in, is_kept_line, is_right, line_of}
+use Rattle.kept_file.specs.Text.KeptFiles.{head, lines_in, bad_line, bad_among, are_lines}
+use Rattle.kept_file.specs.Text.Orders.{is_log_of, is_written_as, is_written_line}
+use Rattle.kept_file.proofs.TextLemmas.WrittenLines.{lines_back, none_bad, are_kept}
 use Rattle.journal_reader.specs.RunTexts.{is_kept}
 
 log_right : (log : List ℕ) (line : Option ChunkLine) → is_log_of log line ≡ true → is_some line ≡ true

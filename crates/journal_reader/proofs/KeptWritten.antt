@@ -11,22 +11,22 @@ use Rattle.annex_model.specs.Lines.{has_newline}
 use Rattle.annex_model.specs.Messages as annex
 use Rattle.annex_model.specs.Messages.{fields_text}
 use Rattle.annex_model.proofs.Classes.{text_follows}
-use Rattle.reg_file.specs.Registers.{RegisterFile, IsKept, is_word, is_line, is_key_word}
-use Rattle.reg_file.specs.RegLines.{Line, ConfigLine, WantedLine, StateLine, UrlLine, is_fit, lines_of, later_lines_of, keyed_lines_of, wanted_lines}
-use Rattle.reg_file.specs.Tables.{Texts}
-use Rattle.reg_file.proofs.Readings.{lines_fit}
-use Rattle.chunk_log.specs.ChunkLines.{line_text}
-use Rattle.chunk_log.specs.LogLaws.{cut}
-use Rattle.chunk_log.specs.NoteBooks.{in_order}
-use Rattle.chunk_log.specs.declared.line.ChunkLine.{ChunkLine}
-use Rattle.chunk_log.specs.declared.note.Note.{Note}
-use Rattle.chunk_log.proofs.ReadBack.{reads_back}
-use Rattle.keep_text.specs.KeptFiles.{kept_of, kept_note, written_line, written_note, cut_note, IsKeepable}
-use Rattle.keep_text.specs.KeptLines.{KeptLine, Setting, Expression, State, Url, Chunks, kept_row, kept_reading, chunk_in, setting_of, line_of}
-use Rattle.keep_text.specs.Orders.{is_log_of, is_written, is_written_as, is_written_line, come_in_order, comes_before}
-use Rattle.keep_text.proofs.Chunked.{chunk_read}
-use Rattle.keep_text.proofs.Spelled.{read_of_spelled}
-use Rattle.keep_text.proofs.WrittenLines.{Written, lines_written, notes_written}
+use Rattle.registers.specs.Registers.{RegisterFile, IsKept, is_word, is_line, is_key_word}
+use Rattle.registers.specs.RegLines.{Line, ConfigLine, WantedLine, StateLine, UrlLine, is_fit, lines_of, later_lines_of, keyed_lines_of, wanted_lines}
+use Rattle.registers.specs.Tables.{Texts}
+use Rattle.registers.proofs.Readings.{lines_fit}
+use Rattle.task_text.specs.ChunkLog.ChunkLines.{line_text}
+use Rattle.task_text.specs.ChunkLog.LogLaws.{cut}
+use Rattle.task_text.specs.ChunkLog.NoteBooks.{in_order}
+use Rattle.task_text.specs.declared.chunk_log.line.ChunkLine.{ChunkLine}
+use Rattle.task_text.specs.declared.chunk_log.note.Note.{Note}
+use Rattle.task_text.proofs.ChunkLogLemmas.ReadBack.{reads_back}
+use Rattle.kept_file.specs.Text.KeptFiles.{kept_of, kept_note, written_line, written_note, cut_note, IsKeepable}
+use Rattle.kept_file.specs.Text.KeptLines.{KeptLine, Setting, Expression, State, Url, Chunks, kept_row, kept_reading, chunk_in, setting_of, line_of}
+use Rattle.kept_file.specs.Text.Orders.{is_log_of, is_written, is_written_as, is_written_line, come_in_order, comes_before}
+use Rattle.kept_file.proofs.TextLemmas.Chunked.{chunk_read}
+use Rattle.kept_file.proofs.TextLemmas.Spelled.{read_of_spelled}
+use Rattle.kept_file.proofs.TextLemmas.WrittenLines.{Written, lines_written, notes_written}
 use Rattle.journal_reader.specs.RunTexts.{is_kept, is_behind, may_be_kept, AreInOrder, NoneKept, OneMore}
 use Rattle.journal_reader.proofs.KeptOrder.{follows, chain, kept_all, kept_chain}
 use Rattle.ann_key.proofs.Lists.{mapped, same_name as itself, second_fails}

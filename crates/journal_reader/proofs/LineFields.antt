@@ -3,8 +3,8 @@ use Rattle.std.proofs.Common.{◌≡◌, ℕ, ◌<◌, ◌≤◌, ◌^◌, Bool,
 use mathlib.Core.Bool.{true≢false}
 use Rattle.std.specs.Prelude.{MatchOption, IsTrue, codes, decimal, bytes_eq}
 use Rattle.ann_key.specs.Numbers.{number_of}
-use Rattle.journal_lines.specs.JournalTexts.{worded, stamp_line, again_line}
-use Rattle.chunk_log.proofs.ReadBack.{number_back as number_read}
+use Rattle.journal_text.specs.Lines.JournalTexts.{worded, stamp_line, again_line}
+use Rattle.task_text.proofs.ChunkLogLemmas.ReadBack.{number_back as number_read}
 use Rattle.ann_key.proofs.Lists.{same_name as itself}
 
 abbrev behind_one : List ℕ → List ℕ

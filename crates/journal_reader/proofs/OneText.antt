@@ -1,18 +1,18 @@
 -- One text tells one run.
 use Rattle.std.proofs.Common.{◌≡◌, ◌∙◌, ℕ, List, [], ◌++◌, map, Some, refl, sym, ap, subst}
 use Rattle.std.proofs.lemmas.List.{append-nil}
-use Rattle.reg_file.specs.Registers.{RegisterFile, nothing_set}
-use Rattle.reg_file.specs.RegLines.{lines_of, set_by_lines}
-use Rattle.reg_file.proofs.Fed.{lines_again}
-use Rattle.reg_file.proofs.Readings.{lines_fit}
-use Rattle.chunk_log.specs.declared.note.Note.{Note}
-use Rattle.keep_text.specs.KeptFiles.{CountsAs, cut_note, written_note}
-use Rattle.keep_text.proofs.WrittenLines.{Written, lines_written, notes_written}
+use Rattle.registers.specs.Registers.{RegisterFile, nothing_set}
+use Rattle.registers.specs.RegLines.{lines_of, set_by_lines}
+use Rattle.registers.proofs.Fed.{lines_again}
+use Rattle.registers.proofs.Readings.{lines_fit}
+use Rattle.task_text.specs.declared.chunk_log.note.Note.{Note}
+use Rattle.kept_file.specs.Text.KeptFiles.{CountsAs, cut_note, written_note}
+use Rattle.kept_file.proofs.TextLemmas.WrittenLines.{Written, lines_written, notes_written}
 use Rattle.task_text.specs.declared.task.Task.{Task}
 use Rattle.journal_model.specs.declared.entry.Entry.{Entry}
 use Rattle.journal_model.specs.declared.opening.Identity.{Identity}
 use Rattle.journal_model.specs.declared.opening.Opening.{Opening}
-use Rattle.journal_lines.specs.JournalTexts.{Told, journal_lines, kept_lines, told, told_lines}
+use Rattle.journal_text.specs.Lines.JournalTexts.{Told, journal_lines, kept_lines, told, told_lines}
 use Rattle.journal_reader.specs.Openings.{IsTellable, as_told}
 use Rattle.journal_reader.specs.Readings.{Reading, start}
 use Rattle.journal_reader.specs.RunTexts.{AreEntries, IsTold}

@@ -3,19 +3,19 @@ use Rattle.std.proofs.Common.{◌≡◌, ℕ, List, [], ◌++◌, map, Some, ref
 use Rattle.std.specs.Prelude.{IsTrue}
 use Rattle.std.specs.List.{slice_get}
 use Rattle.std.proofs.lemmas.List.{append-nil}
-use Rattle.reg_file.specs.Registers.{nothing_set}
-use Rattle.reg_file.specs.RegLines.{lines_of, set_by_lines}
-use Rattle.reg_file.proofs.Fed.{lines_again}
-use Rattle.reg_file.proofs.Readings.{lines_fit}
-use Rattle.chunk_log.specs.NoteBooks.{in_order}
-use Rattle.chunk_log.specs.declared.note.Note.{Note}
-use Rattle.keep_text.specs.KeptFiles.{written_note, cut_note, CountsAs}
-use Rattle.keep_text.proofs.WrittenLines.{Written, lines_written, notes_written}
+use Rattle.registers.specs.Registers.{nothing_set}
+use Rattle.registers.specs.RegLines.{lines_of, set_by_lines}
+use Rattle.registers.proofs.Fed.{lines_again}
+use Rattle.registers.proofs.Readings.{lines_fit}
+use Rattle.task_text.specs.ChunkLog.NoteBooks.{in_order}
+use Rattle.task_text.specs.declared.chunk_log.note.Note.{Note}
+use Rattle.kept_file.specs.Text.KeptFiles.{written_note, cut_note, CountsAs}
+use Rattle.kept_file.proofs.TextLemmas.WrittenLines.{Written, lines_written, notes_written}
 use Rattle.journal_model.specs.declared.entry.Entry.{Entry}
 use Rattle.journal_model.specs.declared.opening.Identity.{Identity}
 use Rattle.journal_model.specs.declared.opening.Opening.{Opening}
-use Rattle.journal_entries.specs.Entries.{IsEntry}
-use Rattle.journal_lines.specs.JournalTexts.{told, kept_lines}
+use Rattle.journal_text.specs.Entries.Entries.{IsEntry}
+use Rattle.journal_text.specs.Lines.JournalTexts.{told, kept_lines}
 use Rattle.journal_reader.specs.Openings.{IsTellable, IsReadBack}
 use Rattle.journal_reader.specs.RunTexts.{IsTold}
 use Rattle.journal_reader.specs.Runs.{IsOpeningOf}

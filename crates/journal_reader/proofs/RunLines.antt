@@ -7,15 +7,15 @@ use Rattle.ann_key.specs.Numbers.{number_of}
 use Rattle.journal_model.specs.declared.answer.Answer.TheVariants.{Unsent}
 use Rattle.journal_model.specs.declared.entry.What.TheVariants.{Again as RunAgain}
 use Rattle.journal_model.specs.declared.entry.Entry.{Entry}
-use Rattle.journal_entries.specs.Entries.{entry_at, entry_line, IsEntry}
-use Rattle.journal_entries.proofs.EntryBack.{entry_back}
-use Rattle.journal_lines.specs.JournalTexts.{Told, head, again_line}
+use Rattle.journal_text.specs.Entries.Entries.{entry_at, entry_line, IsEntry}
+use Rattle.journal_text.proofs.EntriesLemmas.EntryBack.{entry_back}
+use Rattle.journal_text.specs.Lines.JournalTexts.{Told, head, again_line}
 use Rattle.journal_reader.specs.RunTexts.{may_stand}
 use Rattle.journal_reader.specs.Readings.{Goes, CannotGo, nothing_told}
 use Rattle.journal_reader.specs.declared.place.Place.TheVariants.{Head, Uuid, Again, Given, Entries}
 use Rattle.journal_reader.proofs.Going.{no_entry, none_given}
 use Rattle.journal_reader.proofs.LineFields.{worded_same}
-use Rattle.chunk_log.proofs.ReadBack.{number_back as number_read}
+use Rattle.task_text.proofs.ChunkLogLemmas.ReadBack.{number_back as number_read}
 
 -- the byte at a place
 abbrev byte_at : ℕ → List ℕ → ℕ

@@ -5,11 +5,11 @@ use Rattle.std.specs.Ordering.{is_lt, ordering_reverse}
 use Rattle.std.specs.declared.cmp.Ordering.{Ordering}
 use Rattle.std.specs.declared.cmp.Ordering.TheVariants.{Less, Equal, Greater}
 use Rattle.std.proofs.lemmas.Bool.{and_parts, and_from as both_true}
-use Rattle.chunk_log.specs.NoteBooks.{counting, in_order, is_before, is_of, newer, place_cmp}
-use Rattle.chunk_log.specs.declared.line.ChunkLine.{ChunkLine}
-use Rattle.chunk_log.specs.declared.note.Note.{Note}
-use Rattle.chunk_log.proofs.Places.{is_of-same, place_total, same-is_of, same_place}
-use Rattle.keep_text.specs.KeptFiles.{cut_note, CountsAs}
+use Rattle.task_text.specs.ChunkLog.NoteBooks.{counting, in_order, is_before, is_of, newer, place_cmp}
+use Rattle.task_text.specs.declared.chunk_log.line.ChunkLine.{ChunkLine}
+use Rattle.task_text.specs.declared.chunk_log.note.Note.{Note}
+use Rattle.task_text.proofs.ChunkLogLemmas.Places.{is_of-same, place_total, same-is_of, same_place}
+use Rattle.kept_file.specs.Text.KeptFiles.{cut_note, CountsAs}
 use Rattle.ann_key.proofs.Orderings.{less}
 use Rattle.journal_model.proofs.Noting.{own_place, farther as before_all}
 

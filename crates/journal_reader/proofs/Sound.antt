@@ -6,8 +6,8 @@ use Rattle.std.proofs.lemmas.List.{append-nil, map-append}
 use Rattle.task_text.specs.TaskLines.{IsTask}
 use Rattle.task_text.specs.declared.task.Task.{Task}
 use Rattle.journal_model.specs.declared.entry.Entry.{Entry}
-use Rattle.journal_entries.specs.Entries.{entry_line, IsEntry}
-use Rattle.journal_lines.specs.JournalTexts.{Told, worded, head, begin, stamp_line, task_line, keep_line, end_line, first_lines, told_lines}
+use Rattle.journal_text.specs.Entries.Entries.{entry_line, IsEntry}
+use Rattle.journal_text.specs.Lines.JournalTexts.{Told, worded, head, begin, stamp_line, task_line, keep_line, end_line, first_lines, told_lines}
 use Rattle.journal_reader.specs.RunTexts.{is_uuid, may_stand, IsTold, NoneKept, OneMore}
 use Rattle.journal_reader.specs.Readings.{Reading, Goes, start, nothing_told, after_stamp, TakesTask, TakesKept}
 use Rattle.journal_reader.specs.Runs.{Reads, lines_told, IsSoFar}

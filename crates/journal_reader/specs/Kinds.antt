@@ -1,6 +1,6 @@
 -- The kinds of lines after the stamp.
 use Rattle.std.specs.Prelude.{ℕ, ◌≡◌, List, codes}
-use Rattle.journal_lines.specs.JournalTexts.{worded, begin}
+use Rattle.journal_text.specs.Lines.JournalTexts.{worded, begin}
 use Rattle.journal_reader.specs.declared.kinds.Kind.{Kind}
 use Rattle.journal_reader.specs.declared.kinds.Kind.TheVariants.{Begin, Task, Keep, Other}
 

@@ -3,5 +3,5 @@ pub mod Kinds
 pub mod Readings
 pub mod Runs
 pub mod Openings
-pub use Rattle.chunk_log.specs.NoteBooks
-pub use Rattle.journal_lines.specs.JournalTexts
+pub use Rattle.task_text.specs.ChunkLog.NoteBooks
+pub use Rattle.journal_text.specs.Lines.JournalTexts

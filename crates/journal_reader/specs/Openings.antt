@@ -1,8 +1,8 @@
 -- Openings whose text tells them whole, but for users and passwords and for parts of a microsecond.
 use Rattle.std.specs.Prelude.{ℕ, ◌≡◌, ◌<◌, ◌≤◌, ◌^◌, List, [], Some, All, map, length, slice_get, IsTrue}
-use Rattle.reg_file.specs.Registers.{IsKept}
-use Rattle.chunk_log.specs.NoteBooks.{in_order}
-use Rattle.keep_text.specs.KeptFiles.{cut_note, IsKeepable}
+use Rattle.registers.specs.Registers.{IsKept}
+use Rattle.task_text.specs.ChunkLog.NoteBooks.{in_order}
+use Rattle.kept_file.specs.Text.KeptFiles.{cut_note, IsKeepable}
 use Rattle.task_text.specs.TaskLines.{IsTask}
 use Rattle.task_text.specs.declared.task.Task.{Task}
 use Rattle.journal_model.specs.declared.entry.Entry.{Entry}

@@ -4,8 +4,8 @@ use Rattle.ann_key.specs.declared.bytes.NoMemory.{NoMemory as OutOfMemory}
 use Rattle.task_text.specs.TaskLines.{IsTask}
 use Rattle.task_text.specs.declared.task.Task.{Task}
 use Rattle.journal_model.specs.declared.entry.Entry.{Entry}
-use Rattle.journal_entries.specs.Entries.{entry_line, IsEntry}
-use Rattle.journal_lines.specs.JournalTexts.{Told, worded, head, begin, stamp_line, again_line, task_line, keep_line, end_line}
+use Rattle.journal_text.specs.Entries.Entries.{entry_line, IsEntry}
+use Rattle.journal_text.specs.Lines.JournalTexts.{Told, worded, head, begin, stamp_line, again_line, task_line, keep_line, end_line}
 use Rattle.journal_reader.specs.RunTexts.{is_uuid, may_be_kept, may_stand}
 use Rattle.journal_reader.specs.declared.place.Place.{Place}
 use Rattle.journal_reader.specs.declared.place.Place.TheVariants.{Head, Uuid, Name, Gitdir, Stamp, Again, Given, Entries, Over, Refused}

@@ -7,9 +7,9 @@ use Rattle.task_text.specs.declared.task.Task.{Task}
 use Rattle.journal_model.specs.declared.entry.What.{What}
 use Rattle.journal_model.specs.declared.entry.What.TheVariants.{Again}
 use Rattle.journal_model.specs.declared.entry.Entry.{Entry}
-use Rattle.journal_entries.specs.Entries.{entry_line, IsEntry}
-use Rattle.keep_text.specs.Orders.{is_written_line, comes_before}
-use Rattle.journal_lines.specs.JournalTexts.{Told, told_lines, worded}
+use Rattle.journal_text.specs.Entries.Entries.{entry_line, IsEntry}
+use Rattle.kept_file.specs.Text.Orders.{is_written_line, comes_before}
+use Rattle.journal_text.specs.Lines.JournalTexts.{Told, told_lines, worded}
 use Rattle.journal_model.specs.Legality.{is_text}
 
 abbrev pub is_written_uuid : List ℕ → Option (List ℕ) → Bool

@@ -1,11 +1,11 @@
 -- Reading a list of lines.
 use Rattle.std.specs.Prelude.{ℕ, ◌≡◌, ◌<◌, ◌^◌, List, [], ◌∷◌, ◌++◌, map, codes, IsTrue}
-use Rattle.reg_file.specs.Registers.{nothing_set}
-use Rattle.reg_file.specs.RegLines.{set_by_lines}
-use Rattle.keep_text.specs.KeptFiles.{settings_in, notes_in, CountsAs}
+use Rattle.registers.specs.Registers.{nothing_set}
+use Rattle.registers.specs.RegLines.{set_by_lines}
+use Rattle.kept_file.specs.Text.KeptFiles.{settings_in, notes_in, CountsAs}
 use Rattle.journal_model.specs.declared.opening.Opening.{Opening}
-use Rattle.journal_entries.specs.Entries.{entry_line}
-use Rattle.journal_lines.specs.JournalTexts.{Told, worded, head, begin, stamp_line, first_lines, task_line, keep_line, told_lines}
+use Rattle.journal_text.specs.Entries.Entries.{entry_line}
+use Rattle.journal_text.specs.Lines.JournalTexts.{Told, worded, head, begin, stamp_line, first_lines, task_line, keep_line, told_lines}
 use Rattle.journal_reader.specs.Readings.{Reading, Follows, nothing_told}
 use Rattle.journal_reader.specs.RunTexts.{is_uuid, IsTold}
 use Rattle.journal_reader.specs.declared.place.Place.{Place}

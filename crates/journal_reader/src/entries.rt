@@ -1,14 +1,14 @@
 // Taking the lines of entries, and the end.
 ghost use Rattle.std.specs.Prelude.{◌≡◌, IfOk, MatchOption, bytes_eq, length};
-ghost use Rattle.journal_lines.specs.JournalTexts.{end_line};
+ghost use Rattle.journal_text.specs.Lines.JournalTexts.{end_line};
 ghost use Rattle.journal_reader.specs.RunTexts.{HasEntry, HasNoEntry, may_stand};
 
 use crate::place::Place;
 use crate::reader::Reader;
 use crate::typed::is_entry;
 use ann_key::NoMemory;
-use journal_entries::read_entry;
 use journal_model::{Entry, What};
+use journal_text::entries::read_entry;
 use std::alloc::Global;
 
 impl Reader {

@@ -1,7 +1,7 @@
 // The fields of the first lines.
 ghost use Rattle.std.specs.Prelude.{◌≡◌, ◌≤◌, ◌^◌, ◌<◌, ◌∷◌, ◌++◌, IfOk, MatchOption, ℕ, List, true, false, decimal, bytes_eq};
 ghost use Rattle.uuid.specs.Text.{parsed, hyphenated_text, lower};
-ghost use Rattle.journal_lines.specs.JournalTexts.{worded, stamp_line, again_line};
+ghost use Rattle.journal_text.specs.Lines.JournalTexts.{worded, stamp_line, again_line};
 ghost use Rattle.journal_model.specs.Legality.{is_text};
 ghost use Rattle.journal_reader.specs.RunTexts.{HasNoText, HasText, is_uuid};
 

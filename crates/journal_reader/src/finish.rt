@@ -2,26 +2,26 @@
 ghost use Rattle.std.specs.Prelude.{◌≡◌, ◌∷◌, IfOk, IsTrue};
 ghost use Rattle.std.specs.List.{list_all};
 ghost use Rattle.annex_model.specs.Lines.{text as text_of};
-ghost use Rattle.reg_file.specs.Registers.{nothing_set};
-ghost use Rattle.reg_file.specs.RegLines.{set_by_lines};
-ghost use Rattle.keep_text.specs.KeptFiles.{head, settings_in, notes_in, CountsAs};
+ghost use Rattle.registers.specs.Registers.{nothing_set};
+ghost use Rattle.registers.specs.RegLines.{set_by_lines};
+ghost use Rattle.kept_file.specs.Text.KeptFiles.{head, settings_in, notes_in, CountsAs};
 ghost use Rattle.journal_reader.specs.RunTexts.{is_kept};
 
 use crate::error::JournalError;
 use crate::place::Place;
 use crate::reader::Reader;
 use ann_key::{Bytes, NoMemory};
-use chunk_log::NoteBook;
 use journal_look::Journal;
 use journal_model::{Identity, Opening};
-use keep_text::{KeepError, read_keep};
-use reg_file::Registers;
+use kept_file::text::{KeepError, read_keep};
+use registers::Registers;
 use std::alloc::Global;
 use task_text::Tasks;
+use task_text::chunk_log::NoteBook;
 
 impl Reader {
     ghost use Rattle.std.specs.Prelude.{OnOk, IfErr};
-    ghost use Rattle.chunk_log.specs.NoteBooks.{in_order};
+    ghost use Rattle.task_text.specs.ChunkLog.NoteBooks.{in_order};
     ghost use Rattle.journal_reader.specs.Readings.{IsEndAs};
     ghost use Rattle.journal_reader.specs.Runs.{IsOpeningOf};
 

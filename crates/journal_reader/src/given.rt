@@ -3,12 +3,12 @@ use crate::kinds::{Kind, kind_of};
 use crate::place::Place;
 use crate::reader::Reader;
 use ann_key::{Bytes, NoMemory, has_byte};
-use keep_text::{comes_before, is_written_line};
+use kept_file::text::{comes_before, is_written_line};
 use task_text::{TaskError, read_task};
 
 impl Reader {
     ghost use Rattle.std.specs.Prelude.{◌≡◌, IfOk, codes};
-    ghost use Rattle.journal_lines.specs.JournalTexts.{worded};
+    ghost use Rattle.journal_text.specs.Lines.JournalTexts.{worded};
     ghost use Rattle.journal_reader.specs.Readings.{Took};
     ghost use Rattle.journal_reader.specs.RunTexts.{is_kept, may_be_kept};
 

@@ -1,7 +1,7 @@
 // Laws over whole texts, each the contract of a function with nothing to do.
 ghost use Rattle.std.specs.Prelude.{◌≡◌, ℕ, List, [], ◌∷◌, ◌++◌, length, codes, true, IsTrue};
-ghost use Rattle.chunk_log.specs.NoteBooks.{in_order};
-ghost use Rattle.journal_lines.specs.JournalTexts.{Told, journal_lines, told, told_lines};
+ghost use Rattle.task_text.specs.ChunkLog.NoteBooks.{in_order};
+ghost use Rattle.journal_text.specs.Lines.JournalTexts.{Told, journal_lines, told, told_lines};
 ghost use Rattle.journal_model.specs.declared.answer.Answer.TheVariants.{Unsent};
 ghost use Rattle.journal_model.specs.declared.entry.Entry.{Entry};
 ghost use Rattle.journal_model.specs.declared.entry.What.TheVariants.{Again};

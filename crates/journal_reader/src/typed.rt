@@ -2,11 +2,11 @@
 ghost use Rattle.std.specs.Prelude.{◌≡◌, ◌↔◌, IsTrue, not, length};
 ghost use Rattle.hex.specs.Hex.{IsBytes};
 ghost use Rattle.annex_model.specs.Lines.{has_newline};
-ghost use Rattle.journal_entries.specs.Answers.{IsAnswer};
-ghost use Rattle.journal_entries.specs.Digits.{IsDigest};
-ghost use Rattle.journal_entries.specs.Entries.{IsEntry, IsWhat};
-ghost use Rattle.journal_entries.specs.Verdicts.{IsVerdict};
-ghost use Rattle.journal_entries.specs.Whys.{IsWhy};
+ghost use Rattle.journal_text.specs.Entries.Answers.{IsAnswer};
+ghost use Rattle.journal_text.specs.Entries.Digits.{IsDigest};
+ghost use Rattle.journal_text.specs.Entries.Entries.{IsEntry, IsWhat};
+ghost use Rattle.journal_text.specs.Entries.Verdicts.{IsVerdict};
+ghost use Rattle.journal_text.specs.Entries.Whys.{IsWhy};
 
 use ann_digest::Digest;
 use ann_key::{Bytes, has_byte};

@@ -4,7 +4,7 @@ use Rattle.std.specs.List.{AllByRecursion}
 use Rattle.std.proofs.lemmas.List.{get_or_append_left, length_push, length-map}
 use Rattle.std.proofs.lemmas.List.Sums.{sum_by_push}
 use Rattle.ann_digest.specs.declared.digest.Digest.{Digest}
-use Rattle.host_tables.specs.Lines.{LineStoreValue, total}
+use Rattle.journal_scan.specs.Tables.Lines.{LineStoreValue, total}
 use Rattle.journal_model.specs.declared.answer.Answer.{Answer}
 use Rattle.journal_model.specs.declared.answer.Answer.TheVariants.{Hash}
 use Rattle.journal_model.specs.declared.entry.What.{What}

@@ -7,3 +7,4 @@ pub mod Weighing
 pub mod Keeping
 pub mod Parts
 pub mod Spanning
+pub mod TablesLemmas

@@ -2,7 +2,7 @@
 use Rattle.std.specs.Prelude.{ℕ, ◌≡◌, ◌+◌, ◌-◌, ◌<◌, ◌≤◌, List, [], ◌∷◌, ◌++◌, length, Option, Some, None, slice_get, slice_index_or, ⊤}
 use Rattle.std.specs.List.{AllByRecursion}
 use Rattle.ann_digest.specs.declared.digest.Digest.{Digest}
-use Rattle.host_tables.specs.Lines.{LineStoreValue, total}
+use Rattle.journal_scan.specs.Tables.Lines.{LineStoreValue, total}
 use Rattle.journal_model.specs.declared.answer.Answer.{Answer}
 use Rattle.journal_model.specs.declared.answer.Answer.TheVariants.{Stored, Got as GotAnswer, Present, Dropped, Renamed, Absent, Unsupported, Unsent, StartFault, NoChild, FileFault, NoFile, Memory, Failed, Unknown, NotPrepared, Ended, Size, Hash}
 use Rattle.journal_model.specs.declared.entry.What.{What}

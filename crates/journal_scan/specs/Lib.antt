@@ -5,9 +5,10 @@ pub mod Shown
 pub mod Spans
 pub use Rattle.annex_model.specs.Messages
 pub use Rattle.annex_model.specs.Tags
-pub use Rattle.host_tables.specs.Lines
+pub use Rattle.journal_scan.specs.Tables.Lines
 pub use Rattle.journal_model.specs.Due
 pub use Rattle.journal_model.specs.Journal
 pub use Rattle.journal_model.specs.Legality
 pub use Rattle.journal_model.specs.Limits
 pub use Rattle.journal_model.specs.Parts
+pub mod Tables

@@ -11,6 +11,7 @@ pub mod lines;
 mod record;
 mod records;
 pub mod spans;
+pub mod tables;
 pub mod talks;
 
 pub use entries::{Entries, Iter};

@@ -1,13 +1,13 @@
 // How an entry is kept: its line stands in a store and its digest in a vector, and a record has their numbers.
 ghost use Rattle.std.specs.Prelude.{◌≡◌, ◌+◌, ◌<◌, ◌≤◌, ◌++◌, ◌∷◌, [], length, slice_get, vec_capacity, vec_len};
-ghost use Rattle.host_tables.specs.Lines.{total};
+ghost use Rattle.journal_scan.specs.Tables.Lines.{total};
 ghost use Rattle.journal_model.specs.Journal.{line_bytes};
 ghost use Rattle.journal_scan.specs.Kept.{IsAnswerWithin, IsKept, answer_kept, by_digest, line_kept, what_kept, with_digest, with_digest_of, with_line};
 ghost use Rattle.journal_scan.specs.Shown.{what_shown};
 
 use crate::entry::WhatRef;
+use crate::tables::LineStore;
 use ann_digest::Digest;
-use host_tables::LineStore;
 use journal_model::{Answer, Verdict, What, Why};
 
 /// The answer of a task, as in `Answer`, where a digest has a number.

@@ -5,9 +5,9 @@ ghost use Rattle.journal_scan.specs.Shown.{entry_shown};
 use crate::entries::Entries;
 use crate::entry::EntryRef;
 use crate::record::{self, Record};
+use crate::tables::LineStore;
 use ann_digest::Digest;
 use ann_key::NoMemory;
-use host_tables::LineStore;
 use journal_model::Entry;
 use std::alloc::Global;
 use std::marker::Model;
@@ -23,7 +23,7 @@ pub struct Records {
 
 impl Model for Records {
     ghost use Rattle.std.specs.Prelude.{◌-◌, map, vec_capacity};
-    ghost use Rattle.host_tables.specs.Lines.{total};
+    ghost use Rattle.journal_scan.specs.Tables.Lines.{total};
     ghost use Rattle.journal_scan.specs.RecordsValue.{RecordsValue};
     ghost use Rattle.journal_scan.specs.Kept.{AreRecords, entry_kept};
 

@@ -1,1 +1,4 @@
-pub use Rattle.journal_model.specs.Output
+pub mod Entries
+pub mod Lines
+pub mod Answers
+pub mod File

@@ -1,6 +1,7 @@
-// What is printed of a run.
+// The journal of a run as text: its entries, its lines, its answers, and the journal file.
 #![tactic(auto)]
 
-mod output;
-
-pub use output::{print_answer, print_words};
+pub mod answers;
+pub mod entries;
+pub mod file;
+pub mod lines;

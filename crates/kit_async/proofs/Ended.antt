@@ -4,7 +4,7 @@ use Rattle.std.specs.Prelude.{fold, if◌then◌else◌}
 use Rattle.std.specs.List.{list_any, list_all}
 use Rattle.std.proofs.lemmas.List.{take-append-drop}
 use Rattle.annex_model.specs.Lines.{has_newline}
-use Rattle.kit_core.specs.declared.call.Said.{Said}
+use Rattle.kit_serve.specs.declared.kit.call.Said.{Said}
 use Rattle.kit_serve.specs.Limits.{longest_line, next_line}
 use Rattle.kit_async_model.specs.declared.setup.Setup.{Setup}
 use Rattle.kit_async_model.specs.declared.job.Job.{Job}
@@ -18,7 +18,7 @@ use Rattle.kit_async_model.specs.Legality.{IsFinished, is_lack}
 use Rattle.kit_async_model.specs.Lines.{count_wrotes, said_lines}
 use Rattle.kit_async_model.specs.Standings.{Standing, after, called_in, heard_as, is_some_due, opening, said_in, said_line, standing}
 use Rattle.kit_async_model.proofs.Unwritten.{unwritten_are}
-use Rattle.kit_async_roles.specs.Writing.{written_lines}
+use Rattle.kit_async.specs.Work.Writing.{written_lines}
 use Rattle.kit_async.specs.declared.why.Why.{Why}
 use Rattle.kit_async.specs.declared.why.Why.TheVariants.{Eof, ReadFault, WriteFault, Bad, Memory}
 use Rattle.kit_async.specs.Laws.{EndsAsHeard, ending_heard, heard_from, is_ending, is_heard_so, is_whole}

@@ -3,9 +3,9 @@ use Rattle.std.proofs.Common.{◌≡◌, ◌⊎◌, inl, inr, ℕ, ◌+◌, ◌<
 use Rattle.std.specs.Prelude.{option_map}
 use Rattle.std.specs.List.{list_any, list_all}
 use Rattle.annex_model.specs.Lines.{text, has_newline}
-use Rattle.hall.specs.Log.{flat}
-use Rattle.hall.specs.Passes.{HasClosed}
-use Rattle.kit_core.specs.declared.call.Call.{Call}
+use Rattle.threads.specs.Log.{flat}
+use Rattle.threads.specs.Passes.{HasClosed}
+use Rattle.kit_serve.specs.declared.kit.call.Call.{Call}
 use Rattle.kit_serve.specs.Limits.{longest_line, next_line}
 use Rattle.kit_async_model.specs.declared.entry.Entry.{Entry}
 use Rattle.kit_async_model.specs.declared.entry.Entry.TheVariants.{Say}
@@ -18,12 +18,12 @@ use Rattle.kit_async_model.specs.Standings.{Standing, standing}
 use Rattle.kit_async_model.specs.Events.{IsMadeBy, MayStep}
 use Rattle.kit_async_core.specs.Halls.{KitHall, KitPass}
 use Rattle.kit_async_core.proofs.KitHalls.{halls_stay_legal}
-use Rattle.kit_async_roles.specs.declared.why.Why.{Why as RoleWhy}
-use Rattle.kit_async_roles.specs.declared.why.Why.TheVariants.{Eof as RoleEof, ReadFault as RoleReadFault, Long, WriteFault as RoleWriteFault, Memory as RoleMemory}
-use Rattle.kit_async_roles.specs.Calling.{HandValue}
-use Rattle.kit_async_roles.specs.Reading.{EarValue, ReadingEnds}
-use Rattle.kit_async_roles.specs.Writing.{MouthValue, IsFaltered, IsWritten, written_lines}
-use Rattle.kit_async_roles.proofs.Ends.{readers_end, workers_end, writers_end}
+use Rattle.kit_async.specs.declared.work.why.Why.{Why as RoleWhy}
+use Rattle.kit_async.specs.declared.work.why.Why.TheVariants.{Eof as RoleEof, ReadFault as RoleReadFault, Long, WriteFault as RoleWriteFault, Memory as RoleMemory}
+use Rattle.kit_async.specs.Work.Calling.{HandValue}
+use Rattle.kit_async.specs.Work.Reading.{EarValue, ReadingEnds}
+use Rattle.kit_async.specs.Work.Writing.{MouthValue, IsFaltered, IsWritten, written_lines}
+use Rattle.kit_async.proofs.WorkLemmas.Ends.{readers_end, workers_end, writers_end}
 use Rattle.kit_async.specs.declared.why.Why.{Why}
 use Rattle.kit_async.specs.declared.why.Why.TheVariants.{Eof, ReadFault, WriteFault, Bad, Memory}
 use Rattle.kit_async.specs.Endings.{AllWorked, ReaderDid, WriterDid, calls_told, tells_of, why_by, why_stopped, why_read, why_rest}

@@ -3,9 +3,9 @@ use Rattle.std.proofs.Common.{◌≡◌, ℕ, ◌+◌, ◌<◌, List, [], ◌∷
 use Rattle.std.specs.List.{list_any}
 use Rattle.ann_outside.specs.Causes.{Rose}
 use Rattle.ann_outside.specs.Told.{SinkTold, SourceTold}
-use Rattle.hall.specs.Passes.{HasClosed}
-use Rattle.crew_threads.proofs.Dealing.{map_map}
-use Rattle.kit_core.specs.declared.call.Call.{Call}
+use Rattle.threads.specs.Passes.{HasClosed}
+use Rattle.threads.proofs.RolesLemmas.Dealing.{map_map}
+use Rattle.kit_serve.specs.declared.kit.call.Call.{Call}
 use Rattle.kit_async_model.specs.declared.entry.Entry.{Entry}
 use Rattle.kit_async_model.specs.declared.entry.Entry.TheVariants.{Say}
 use Rattle.kit_async_model.specs.declared.setup.Setup.{Setup}
@@ -13,17 +13,17 @@ use Rattle.kit_async_model.specs.Events.{IsMadeBy, MayStep}
 use Rattle.kit_async_model.specs.Legality.{is_finished, is_lack}
 use Rattle.kit_async_model.specs.Standings.{Standing, standing}
 use Rattle.kit_async_core.specs.Halls.{KitHall, KitPass}
-use Rattle.kit_async_roles.specs.declared.why.Why.{Why as RoleWhy}
-use Rattle.kit_async_roles.specs.declared.why.Why.TheVariants.{Eof as RoleEof, ReadFault as RoleReadFault, Long, WriteFault as RoleWriteFault, Memory as RoleMemory}
-use Rattle.kit_async_roles.specs.Calling.{HandValue, hand_of}
-use Rattle.kit_async_roles.specs.Reading.{ear_of}
-use Rattle.kit_async_roles.specs.Writing.{mouth_of}
+use Rattle.kit_async.specs.declared.work.why.Why.{Why as RoleWhy}
+use Rattle.kit_async.specs.declared.work.why.Why.TheVariants.{Eof as RoleEof, ReadFault as RoleReadFault, Long, WriteFault as RoleWriteFault, Memory as RoleMemory}
+use Rattle.kit_async.specs.Work.Calling.{HandValue, hand_of}
+use Rattle.kit_async.specs.Work.Reading.{ear_of}
+use Rattle.kit_async.specs.Work.Writing.{mouth_of}
 use Rattle.kit_async.specs.declared.why.Why.{Why}
 use Rattle.kit_async.specs.declared.why.Why.TheVariants.{Eof, ReadFault, WriteFault, Bad, Memory}
 use Rattle.kit_async.specs.Endings.{AllWorked, ReaderDid, WriterDid, calls_told, why_by, why_read, why_rest, why_stopped}
 use Rattle.kit_async.specs.Served.{Gained, HasCauses, JournalValue, Serves, Tells, tells_by}
 use Rattle.kit_async.proofs.Gathered.{roles_serve}
-use Rattle.kit_async_roles.proofs.Ends.{as_it_was as no_calls}
+use Rattle.kit_async.proofs.WorkLemmas.Ends.{as_it_was as no_calls}
 use Rattle.ann_key.proofs.Lists.{appends_nothing}
 
 -- ---- why it stopped, by why its roles ended

@@ -5,3 +5,4 @@ pub mod Playing
 pub mod Returned
 pub mod Speaking
 pub mod Turning
+pub mod WorkLemmas

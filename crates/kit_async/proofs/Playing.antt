@@ -4,15 +4,15 @@ use Rattle.std.specs.Prelude.{All, reverse}
 use Rattle.std.proofs.Math.Seq.{append_snoc}
 use Rattle.std.proofs.lemmas.List.{reverse-append, reverse-reverse}
 use Rattle.std.proofs.lemmas.List.Elements.{All-nil, All-cons, All-head, All-tail}
-use Rattle.crew_laws.specs.Pairs.{Pairwise}
-use Rattle.hall.specs.Log.{flat}
-use Rattle.hall.specs.declared.view.Link.{Link}
-use Rattle.hall.specs.Passes.{IsPassOf, seen_of}
-use Rattle.crew_threads.proofs.Dealing.{all_reverse}
+use Rattle.ann_key.specs.Pairs.{Pairwise}
+use Rattle.threads.specs.Log.{flat}
+use Rattle.threads.specs.declared.view.Link.{Link}
+use Rattle.threads.specs.Passes.{IsPassOf, seen_of}
+use Rattle.threads.proofs.RolesLemmas.Dealing.{all_reverse}
 use Rattle.kit_async_model.specs.declared.entry.Entry.{Entry}
 use Rattle.kit_async_core.specs.Halls.{KitHall, KitPass}
-use Rattle.kit_async_roles.specs.Calling.{HandValue, WorkerRan}
-use Rattle.kit_async_roles.specs.Passes.{Stands}
+use Rattle.kit_async.specs.Work.Calling.{HandValue, WorkerRan}
+use Rattle.kit_async.specs.Work.Passes.{Stands}
 use Rattle.kit_async.specs.Dealt.{AreFresh, AreNumbered}
 use Rattle.kit_async.specs.Endings.{AllWorked}
 use Rattle.kit_async.specs.Turns.{WorkerWent}

@@ -4,19 +4,19 @@ use Rattle.std.specs.Prelude.{All, reverse}
 use Rattle.std.proofs.Math.Seq.{append_snoc}
 use Rattle.std.proofs.lemmas.List.{length-map, length-reverse}
 use Rattle.std.proofs.lemmas.List.Elements.{All-nil, All-cons, All-head, All-tail}
-use Rattle.crew_laws.specs.Pairs.{Pairwise}
-use Rattle.hall.specs.Passes.{IsPassOf}
-use Rattle.crew_threads.proofs.Dealing.{all_reverse, map_map, pairwise_length, pairwise_reverse}
+use Rattle.ann_key.specs.Pairs.{Pairwise}
+use Rattle.threads.specs.Passes.{IsPassOf}
+use Rattle.threads.proofs.RolesLemmas.Dealing.{all_reverse, map_map, pairwise_length, pairwise_reverse}
 use Rattle.kit_async_model.specs.Legality.{Legal}
 use Rattle.kit_async_core.specs.Halls.{KitHall, KitPass}
-use Rattle.kit_async_roles.specs.declared.why.Why.{Why}
-use Rattle.kit_async_roles.specs.Calling.{HandValue}
-use Rattle.kit_async_roles.specs.Passes.{Stands}
-use Rattle.kit_async_roles.specs.Reading.{EarValue, ReaderRan}
-use Rattle.kit_async_roles.specs.Writing.{MouthValue, WriterRan}
-use Rattle.kit_async_roles.proofs.Readers.{ran_none as read_none}
-use Rattle.kit_async_roles.proofs.Workers.{ran_none as worked_none}
-use Rattle.kit_async_roles.proofs.Writers.{wrote_none}
+use Rattle.kit_async.specs.declared.work.why.Why.{Why}
+use Rattle.kit_async.specs.Work.Calling.{HandValue}
+use Rattle.kit_async.specs.Work.Passes.{Stands}
+use Rattle.kit_async.specs.Work.Reading.{EarValue, ReaderRan}
+use Rattle.kit_async.specs.Work.Writing.{MouthValue, WriterRan}
+use Rattle.kit_async.proofs.WorkLemmas.Readers.{ran_none as read_none}
+use Rattle.kit_async.proofs.WorkLemmas.Workers.{ran_none as worked_none}
+use Rattle.kit_async.proofs.WorkLemmas.Writers.{wrote_none}
 use Rattle.kit_async.specs.Dealt.{AreFresh, AreNumbered}
 use Rattle.kit_async.specs.Endings.{AllWorked, ReaderDid, WriterDid}
 use Rattle.kit_async.proofs.Playing.{At, Goes, fresh_seen, own_from, worked_from}

@@ -8,13 +8,13 @@ use Rattle.std.proofs.lemmas.Slice.Eq.{bytes_eq-Decides}
 use Rattle.annex_model.specs.Messages.{RemoteMessage, remote_line, Version, Error, Extensions, UnsupportedRequest, Progress, Debug, Info, Dirhash, DirhashLower, Getconfig, Setconfig, Getcreds, Setcreds, Getuuid, Getgitdir, Getgitremotename, Getwanted, Setwanted, Getstate, Setstate, Seturlpresent, Seturlmissing, Geturls, PrepareSuccess, PrepareFailure, InitremoteSuccess, InitremoteFailure, TransferSuccess, TransferFailure, CheckpresentSuccess, CheckpresentFailure, CheckpresentUnknown, RemoveSuccess, RemoveFailure, Config, Configend, Cost, Availability, Infofield, Infovalue, Infoend, WhereisSuccess, WhereisFailure, ExportsupportedSuccess, ExportsupportedFailure, RenameexportSuccess, RenameexportFailure}
 use Rattle.annex_model.specs.Messages.{HostMessage, host_reading, AskExtensions, Prepare, Initremote, Transfer, Checkpresent, Remove, Listconfigs, Getcost, Getavailability, Getinfo, Whereis, Value, Creds, HostError, Exportsupported, Export, Transferexport, Checkpresentexport, Removeexport, Renameexport}
 use Rattle.annex_model.specs.Tags.{untag}
-use Rattle.kit_core.specs.declared.call.Said.{Said}
-use Rattle.kit_core.specs.declared.call.Said.TheVariants.{Yes, No, Failure}
-use Rattle.kit_core.specs.Kits.{Due, Silence, Line, Asks as AsksFor, final_line, readying, refusal, transfer_asked, work_due}
-use Rattle.kit_core.specs.declared.describe.Pair.{Pair}
-use Rattle.kit_core.specs.declared.describe.Availability.{Availability as Reach}
-use Rattle.kit_core.specs.declared.describe.Availability.TheVariants.{Global, Local}
-use Rattle.kit_core.specs.Descriptions.{Description, all_messages, availability_message, config_message, cost_message, list_messages}
+use Rattle.kit_serve.specs.declared.kit.call.Said.{Said}
+use Rattle.kit_serve.specs.declared.kit.call.Said.TheVariants.{Yes, No, Failure}
+use Rattle.kit_serve.specs.Kit.Kits.{Due, Silence, Line, Asks as AsksFor, final_line, readying, refusal, transfer_asked, work_due}
+use Rattle.kit_serve.specs.declared.kit.describe.Pair.{Pair}
+use Rattle.kit_serve.specs.declared.kit.describe.Availability.{Availability as Reach}
+use Rattle.kit_serve.specs.declared.kit.describe.Availability.TheVariants.{Global, Local}
+use Rattle.kit_serve.specs.Kit.Descriptions.{Description, all_messages, availability_message, config_message, cost_message, list_messages}
 use Rattle.kit_async_model.specs.declared.about.About.{About}
 use Rattle.kit_async_model.specs.declared.about.Fact.{Fact}
 use Rattle.kit_async_model.specs.declared.about.Fact.TheVariants.{Fixed, Setting}
@@ -168,7 +168,7 @@ work_answer next values prepared (Removeexport key) = refl
 work_answer next values prepared (Renameexport key onto) = refl
 
 request_answer : (next : Option (List ℕ)) (values : List (List ℕ)) (prepared : Bool) (request : Option HostMessage) → LineIsAnswer (request_due next values prepared request)
-request_answer next values prepared None = tt
+request_answer next values prepared None = refl
 request_answer next values prepared (Some (AskExtensions names)) = refl
 request_answer next values prepared (Some Prepare) = work_answer next values prepared Prepare
 request_answer next values prepared (Some Initremote) = work_answer next values prepared Initremote
@@ -247,7 +247,7 @@ ended_free [] h = refl
 ended_free (line ∷ lines) h = both_free (line ∷ lines) (remote_line Infoend ∷ []) h refl
 
 told_free : (about : About) (told : List (List ℕ)) → AreFree (about.configs ++ about.cost ++ about.availability) → (r : Option HostMessage) → ToldFree (told_of about told r)
-told_free about told h None = refl
+told_free about told h None = tt
 told_free about told h (Some Listconfigs) = left_free about.configs about.cost (left_free (about.configs ++ about.cost) about.availability h)
 told_free about told h (Some Getcost) = right_free about.configs about.cost (left_free (about.configs ++ about.cost) about.availability h)
 told_free about told h (Some Getavailability) = right_free (about.configs ++ about.cost) about.availability h

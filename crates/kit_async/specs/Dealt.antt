@@ -2,7 +2,7 @@
 use Rattle.std.specs.Prelude.{ℕ, ◌≡◌, ◌+◌, List, [], ◌∷◌, None, All, map, reverse}
 use Rattle.kit_serve.specs.Limits.{longest_line}
 use Rattle.kit_async_core.specs.Halls.{KitHall, KitPass}
-use Rattle.kit_async_roles.specs.Passes.{Stands}
+use Rattle.kit_async.specs.Work.Passes.{Stands}
 use Rattle.kit_async.specs.declared.roles.Reader.{Reader}
 use Rattle.kit_async.specs.declared.roles.Worker.{Worker}
 use Rattle.kit_async.specs.declared.roles.Writer.{Writer}

@@ -1,8 +1,8 @@
 -- Why a kit stopped, by why its reader and its writer ended, and how it stands.
 use Rattle.std.specs.Prelude.{ℕ, ◌+◌, ◌≡◌, Bool, true, false, if◌then◌else◌, List, [], ◌∷◌, map, codes, Option, Some, None}
 use Rattle.std.specs.List.{list_any}
-use Rattle.hall.specs.Passes.{HasClosed}
-use Rattle.kit_core.specs.declared.call.Call.{Call}
+use Rattle.threads.specs.Passes.{HasClosed}
+use Rattle.kit_serve.specs.declared.kit.call.Call.{Call}
 use Rattle.kit_async_model.specs.declared.entry.Entry.{Entry}
 use Rattle.kit_async_model.specs.declared.entry.Entry.TheVariants.{Say}
 use Rattle.kit_async_model.specs.declared.setup.Setup.{Setup}
@@ -10,12 +10,12 @@ use Rattle.kit_async_model.specs.Legality.{is_finished, is_lack}
 use Rattle.kit_async_model.specs.Standings.{Standing, standing}
 use Rattle.kit_async_model.specs.Events.{IsMadeBy, MayStep}
 use Rattle.kit_async_core.specs.Halls.{KitHall, KitPass}
-use Rattle.kit_async_roles.specs.declared.why.Why.{Why as RoleWhy}
-use Rattle.kit_async_roles.specs.declared.why.Why.TheVariants.{Eof as RoleEof, ReadFault as RoleReadFault, Long, WriteFault as RoleWriteFault}
-use Rattle.kit_async_roles.specs.Calling.{HandValue, WorkerRan}
-use Rattle.kit_async_roles.specs.Ends.{IsAmong}
-use Rattle.kit_async_roles.specs.Reading.{EarValue, ReaderRan}
-use Rattle.kit_async_roles.specs.Writing.{MouthValue, WriterRan}
+use Rattle.kit_async.specs.declared.work.why.Why.{Why as RoleWhy}
+use Rattle.kit_async.specs.declared.work.why.Why.TheVariants.{Eof as RoleEof, ReadFault as RoleReadFault, Long, WriteFault as RoleWriteFault}
+use Rattle.kit_async.specs.Work.Calling.{HandValue, WorkerRan}
+use Rattle.kit_async.specs.Work.Ends.{IsAmong}
+use Rattle.kit_async.specs.Work.Reading.{EarValue, ReaderRan}
+use Rattle.kit_async.specs.Work.Writing.{MouthValue, WriterRan}
 use Rattle.kit_async.specs.declared.why.Why.{Why}
 use Rattle.kit_async.specs.declared.why.Why.TheVariants.{Eof, ReadFault, WriteFault, Bad, Memory}
 use Rattle.kit_async.specs.Served.{Serves, Tells}

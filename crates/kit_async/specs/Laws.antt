@@ -3,7 +3,7 @@ use Rattle.std.specs.Prelude.{ℕ, ◌≡◌, ◌⊎◌, ◌<◌, ◌||◌, Bool
 use Rattle.std.specs.List.{list_any, list_all}
 use Rattle.annex_model.specs.Lines.{has_newline}
 use Rattle.kit_serve.specs.Limits.{longest_line, next_line}
-use Rattle.kit_core.specs.Descriptions.{Description}
+use Rattle.kit_serve.specs.Kit.Descriptions.{Description}
 use Rattle.kit_async_model.specs.declared.about.About.{About}
 use Rattle.kit_async_model.specs.declared.about.Fact.{Fact}
 use Rattle.kit_async_model.specs.declared.setup.Setup.{Setup}
@@ -16,7 +16,7 @@ use Rattle.kit_async_model.specs.Hearings.{hearing_of}
 use Rattle.kit_async_model.specs.Jobs.{is_awaiting}
 use Rattle.kit_async_model.specs.Lines.{said_lines}
 use Rattle.kit_async_model.specs.Standings.{Standing, after, opening, standing, unexpected_line}
-use Rattle.kit_async_roles.specs.Writing.{written_lines}
+use Rattle.kit_async.specs.Work.Writing.{written_lines}
 use Rattle.kit_async.specs.declared.why.Why.{Why}
 use Rattle.kit_async.specs.declared.why.Why.TheVariants.{Eof, ReadFault, Bad}
 use Rattle.kit_async.specs.Served.{JournalValue, Serves, Tells}
@@ -28,7 +28,8 @@ abbrev pub is_unexpected : Hearing → Bool
 is_unexpected Unexpected = true
 is_unexpected hearing = false
 
--- it ends the kit: it spells no message, is ERROR, or has no tag or the tag 0 where lines are tagged; or it is unexpected
+-- it ends the kit: it is ERROR, has no tag or the tag 0 where lines are tagged, or spells no message where a value is awaited; or it
+-- is unexpected
 abbrev pub is_ending : Hearing → Bool
 is_ending Foul = true
 is_ending hearing = is_unexpected hearing

@@ -5,8 +5,8 @@ use Rattle.std.specs.Io.KnownBytes.{Appends}
 use Rattle.ann_outside.specs.Causes.{Rose, StaysUntold}
 use Rattle.ann_outside.specs.Told.{SinkTold, SourceTold}
 use Rattle.annex_model.specs.Lines.{text, has_newline, Cut}
-use Rattle.kit_core.specs.declared.call.Call.{Call as RemoteCall}
-use Rattle.kit_core.specs.Descriptions.{Description}
+use Rattle.kit_serve.specs.declared.kit.call.Call.{Call as RemoteCall}
+use Rattle.kit_serve.specs.Kit.Descriptions.{Description}
 use Rattle.kit_serve.specs.Limits.{longest_line, is_short, next_line}
 use Rattle.kit_async_model.specs.declared.about.Fact.{Fact}
 use Rattle.kit_async_model.specs.declared.setup.Setup.{Setup}
@@ -18,10 +18,11 @@ use Rattle.kit_async.specs.declared.lent.KitEntry.{KitEntry}
 use Rattle.kit_async.specs.declared.lent.KitEntry.TheVariants.{Heard as HeardShown, Take as TakeShown, Call as CallShown, Say as SayShown, Wrote as WroteShown, Close as CloseShown, Lack as LackShown, Stop as StopShown}
 use Rattle.kit_async_model.specs.Abouts.{about_of}
 use Rattle.kit_async_model.specs.Callings.{calls_of}
+use Rattle.kit_async_model.specs.Entries.{EntriesValue}
 use Rattle.kit_async_model.specs.Legality.{is_legal, is_lack, IsFinished}
 use Rattle.kit_async_model.specs.Lines.{heard_lines}
 use Rattle.kit_async_model.specs.Standings.{standing}
-use Rattle.kit_async_roles.specs.Writing.{IsFaltered, written_lines}
+use Rattle.kit_async.specs.Work.Writing.{IsFaltered, written_lines}
 
 -- ---- the end
 
@@ -61,6 +62,10 @@ pub record HasCauses (why : Why) (source source' : SourceTold) (sink sink' : Sin
 pub record JournalValue : Type 0 where
   pub entries : List Entry
   pub why : Why
+
+-- of the entries, kept or not, and why it stopped
+abbrev pub journal_of : EntriesValue → Why → JournalValue
+journal_of log why = record { entries = log.entries; why = why }
 
 -- the entry that is lent; the last one, Stop, is none of the list
 abbrev pub entry_shown : KitEntry → Option Entry
@@ -130,12 +135,12 @@ pub record Serves (setup : Setup) (old new : Tells) (journal : JournalValue) : T
   pub gained : Gained setup journal.entries 0 old.calls new.calls
   pub ended : IsEnd journal.why setup journal.entries rest new.left
 
--- the settings of the first remote, and how many there are
-abbrev pub setup_of : {K : Type 0} → (K → List (List ℕ)) → List K → Setup
-setup_of settings [] = record { settings = []; remotes = 0; about = None }
-setup_of settings (k ∷ ks) = record { settings = settings k; remotes = length ks + 1; about = None }
+-- whether the journal is kept, the settings of the first remote, and how many there are
+abbrev pub setup_of : {K : Type 0} → Bool → (K → List (List ℕ)) → List K → Setup
+setup_of kept settings [] = record { kept = kept; settings = []; remotes = 0; about = None }
+setup_of kept settings (k ∷ ks) = record { kept = kept; settings = settings k; remotes = length ks + 1; about = None }
 
 -- the same, with what the first remote says of itself, and these facts
-abbrev pub described_setup : {K : Type 0} → (K → List (List ℕ)) → (K → Description) → List Fact → List K → Setup
-described_setup settings description facts [] = setup_of settings []
-described_setup settings description facts (k ∷ ks) = record (setup_of settings (k ∷ ks)) { about = Some (about_of (description k) facts) }
+abbrev pub described_setup : {K : Type 0} → Bool → (K → List (List ℕ)) → (K → Description) → List Fact → List K → Setup
+described_setup kept settings description facts [] = setup_of kept settings []
+described_setup kept settings description facts (k ∷ ks) = record (setup_of kept settings (k ∷ ks)) { about = Some (about_of (description k) facts) }

@@ -1,12 +1,16 @@
 -- What a role of a kit did: by one turn more, by the thread that takes all turns, or since its thread began.
-use Rattle.std.specs.Prelude.{ℕ, ◌≡◌, List, Option}
+use Rattle.std.specs.Prelude.{ℕ, ◌≡◌, ◌+◌, ◌&&◌, Bool, true, List, Option, bytes_eq, codes, take}
 use Rattle.ann_outside.specs.Told.{SinkTold, SourceTold}
-use Rattle.kit_core.specs.declared.remote.Remote.{Ghosts as RemoteGhosts}
+use Rattle.kit_serve.specs.declared.kit.remote.Remote.{Ghosts as RemoteGhosts}
 use Rattle.kit_async_core.specs.Halls.{KitHall, KitPass}
-use Rattle.kit_async_roles.specs.declared.why.Why.{Why}
-use Rattle.kit_async_roles.specs.Calling.{HandValue, WorkerRan, hand_of}
-use Rattle.kit_async_roles.specs.Reading.{EarValue, ReaderRan, ear_of}
-use Rattle.kit_async_roles.specs.Writing.{MouthValue, WriterRan, mouth_of}
+use Rattle.kit_async.specs.declared.work.why.Why.{Why}
+use Rattle.kit_serve.specs.Limits.{longest_line}
+use Rattle.wire_line.specs.HeldBytes.{first_line, has_line}
+use Rattle.kit_async_model.specs.Hearings.{text_in}
+use Rattle.kit_async.specs.Work.Passes.{Stands}
+use Rattle.kit_async.specs.Work.Calling.{HandValue, WorkerRan, hand_of}
+use Rattle.kit_async.specs.Work.Reading.{EarValue, ReaderRan, ear_of}
+use Rattle.kit_async.specs.Work.Writing.{MouthValue, WriterRan, mouth_of}
 use Rattle.kit_async.specs.declared.roles.Reader.{Reader}
 use Rattle.kit_async.specs.declared.roles.Worker.{Worker}
 use Rattle.kit_async.specs.declared.roles.Writer.{Writer}
@@ -38,11 +42,32 @@ WriterGoes told a b = WriterWent a.hall.now a.pass b.pass (mouth_of (told a.sink
 abbrev pub WorkerGoes : {K R : Type 0} → RemoteGhosts K → Worker K R → Worker K R → Type 0
 WorkerGoes g a b = WorkerWent a.hall.now a.number a.pass (hand_at g a.remote) b.hall.now b.number b.pass (hand_at g b.remote)
 
--- ---- since its thread began
+-- ---- many
 
--- it did what it promises in its hall, from the role as it began to the role as it came back
+-- it may take a turn
+abbrev pub ReaderCan : {S R : Type 0} → (S → SourceTold) → Reader S R → Type 0
+ReaderCan told r = Stands r.hall.now 1 r.pass × ((told r.source).is_open ≡ true) × (r.splitter.limit ≡ longest_line)
+
+abbrev pub WriterCan : {W R : Type 0} → (W → SinkTold) → Writer W R → Type 0
+WriterCan told r = Stands r.hall.now 2 r.pass × ((told r.sink).is_open ≡ true)
+
+-- it did what it promises, is in the same hall, and may take more turns
 abbrev pub ReaderRuns : {S R : Type 0} → (S → SourceTold) → Reader S R → Reader S R → Type 0
-ReaderRuns told a b = ReaderRan a.hall.now a.pass b.pass (ear_of (told a.source) a.splitter.bytes) (ear_of (told b.source) b.splitter.bytes) b.why
+ReaderRuns told a b = ReaderGoes told a b × ReaderCan told b × (b.hall.now ≡ a.hall.now)
 
 abbrev pub WriterRuns : {W R : Type 0} → (W → SinkTold) → Writer W R → Writer W R → Type 0
-WriterRuns told a b = WriterRan a.hall.now a.pass b.pass (mouth_of (told a.sink)) (mouth_of (told b.sink)) b.why
+WriterRuns told a b = WriterGoes told a b × WriterCan told b × (b.hall.now ≡ a.hall.now)
+
+-- ---- when threads are wanted
+
+-- the line has a tag
+abbrev pub is_tagged : List ℕ → Bool
+is_tagged line = bytes_eq (take 2 line) (codes "J ")
+
+-- it has a tag, and asks to send or to fetch a content, which may take long
+abbrev pub is_transfer : List ℕ → Bool
+is_transfer line = is_tagged line && bytes_eq (take 9 (text_in true line)) (codes "TRANSFER ")
+
+-- such a line stands first in what is held
+abbrev pub holds : (List ℕ → Bool) → List ℕ → Bool
+holds test held = has_line longest_line held && test (first_line held)

@@ -1,14 +1,14 @@
 // The passes and the remotes of a kit, dealt to its workers, and taken back.
 ghost use Rattle.std.specs.Prelude.{◌≡◌, ◌≤◌, ◌<◌, ◌+◌, ◌^◌, ◌++◌, map, reverse, vec_len, vec_capacity};
-ghost use Rattle.crew_threads.specs.Dealing.{Deals, DealsAll, IsRoomFor};
+ghost use Rattle.threads.specs.Roles.Dealing.{Deals, DealsAll, IsRoomFor};
 ghost use Rattle.kit_async.specs.Dealt.{WorkersBegin};
 
 use crate::roles::Worker;
-use hall::{Hall, Pass};
 use kit_async_core::KitCore;
-use kit_core::Remote;
+use kit_serve::kit::Remote;
 use std::alloc::Global;
 use std::sync::Wait;
+use threads::{Hall, Pass};
 
 /// What the roles of a kit have in common.
 #[derive(Drop)]

@@ -4,7 +4,7 @@ ghost use Rattle.kit_async.specs.Served.{entry_shown};
 
 use crate::why::Why;
 use kit_async_model::Entry;
-use kit_core::Said;
+use kit_serve::kit::Said;
 
 /// An entry of a kit's journal, lent. [`Entry`] has what each means.
 #[derive(Clone, Copy)]

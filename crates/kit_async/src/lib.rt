@@ -11,8 +11,12 @@ mod played;
 mod roles;
 mod serving;
 mod why;
+pub mod work;
 
-pub use journal::KitJournal;
+pub use journal::{GoneJournal, KitJournal};
 pub use lent::KitEntry;
-pub use serving::{AsyncEnd, serve_async, serve_async_described, serve_async_some};
+pub use serving::{
+    AsyncEnd, BoundedEnd, serve_async, serve_async_bounded, serve_async_described,
+    serve_async_described_bounded, serve_async_some,
+};
 pub use why::Why;

@@ -1,31 +1,30 @@
-// The roles of a kit: they are made, run in threads or by the calling thread, and taken apart again.
-ghost use Rattle.std.specs.Prelude.{◌≡◌, ◌≤◌, ◌<◌, ◌+◌, ◌^◌, ◌++◌, ℕ, List, [], ◌∷◌, None, true, All, IfSome, length, map, reverse, vec_len, vec_capacity};
-ghost use Rattle.crew_threads.specs.BackRole.{role_of};
-ghost use Rattle.crew_threads.specs.Dealing.{IsRoomFor};
-ghost use Rattle.crew_laws.specs.Pairs.{Pairwise};
-ghost use Rattle.hall.specs.Passes.{IsPassOf};
-ghost use Rattle.kit_serve.specs.Limits.{longest_line};
-ghost use Rattle.kit_async_roles.specs.Passes.{Stands};
-ghost use Rattle.kit_async_roles.specs.Reading.{ear_of};
-ghost use Rattle.kit_async_roles.specs.Writing.{mouth_of};
+// The roles of a kit: they are made, run by the calling thread and in threads, and taken apart again.
+ghost use Rattle.std.specs.Prelude.{◌≡◌, ◌≤◌, ◌<◌, ◌+◌, ◌^◌, ◌++◌, ℕ, List, [], ◌∷◌, true, All, IfSome, length, map, reverse, vec_len, vec_capacity};
+ghost use Rattle.threads.specs.Roles.BackRole.{role_of};
+ghost use Rattle.threads.specs.Roles.Dealing.{IsRoomFor};
+ghost use Rattle.ann_key.specs.Pairs.{Pairwise};
+ghost use Rattle.threads.specs.Passes.{IsPassOf};
+ghost use Rattle.kit_async.specs.Work.Passes.{Stands};
+ghost use Rattle.kit_async.specs.Work.Reading.{ear_of};
+ghost use Rattle.kit_async.specs.Work.Writing.{mouth_of};
 ghost use Rattle.kit_async.specs.Dealt.{AreFresh, ReaderBegins, WorkersBegin, WriterBegins};
 ghost use Rattle.kit_async.specs.Endings.{AllWorked, ReaderDid, WriterDid};
-ghost use Rattle.kit_async.specs.Turns.{ReaderGoes, ReaderRuns, WorkerGoes, WriterGoes, WriterRuns, hand_at};
+ghost use Rattle.kit_async.specs.Turns.{ReaderCan, ReaderRuns, WorkerGoes, WriterCan, WriterRuns, hand_at};
 
 use crate::alone::serve_alone;
 use crate::dealt::{Site, deal, take_back};
 use crate::roles::{Reader, Worker, Writer};
+use crate::work::Why;
 use ann_outside::{Sink, Source};
-use crew_threads::{Back, Crew, Room, any_ran, run_whole_crew};
-use hall::Pass;
 use kit_async_core::KitCore;
-use kit_async_roles::Why;
-use kit_core::Remote;
 use kit_serve::LONGEST_LINE;
+use kit_serve::kit::Remote;
 use std::alloc::Global;
 use std::marker::{Send, Sync};
 use std::sync::Wait;
 use std::thread::Threads;
+use threads::Pass;
+use threads::roles::{Back, Crew, Room, any_ran, run_whole_crew};
 use wire_line::Splitter;
 
 /// What a kit shares out among its roles.
@@ -137,20 +136,20 @@ fn serve_unless<'a, K: Remote, S: Source, W: Sink, R: Wait>(
     writer: &mut Writer<'a, W, R>,
     workers: &mut [Worker<'a, K, R>],
 )
-    requires reader { Stands reader.old.hall.now 1 reader.old.pass × ((S.told reader.old.source).is_open ≡ true) × (reader.old.splitter.limit ≡ longest_line) }
-    requires writer { Stands writer.old.hall.now 2 writer.old.pass × ((W.told writer.old.sink).is_open ≡ true) }
+    requires reader { ReaderCan S.told reader.old }
+    requires writer { WriterCan W.told writer.old }
     requires workers { All (λ w. Stands w.hall.now (w.number + 3) w.pass) workers.old }
-    ensures read { ReaderGoes S.told reader.old reader.new }
-    ensures wrote { WriterGoes W.told writer.old writer.new }
+    ensures read { ReaderRuns S.told reader.old reader.new }
+    ensures wrote { WriterRuns W.told writer.old writer.new }
     ensures workers { Pairwise (WorkerGoes K.Remote) workers.old workers.new }
 {
     if !ran {
-        serve_alone(reader, writer, workers);
+        serve_alone(reader, writer, workers, false);
     }
 }
 
 // Runs the roles, each in a thread of its own where all can have one; else the calling thread takes all their turns.
-fn run<
+fn run_in_threads<
     'a,
     K: Remote + Send + Drop,
     S: Source + Send + Drop,
@@ -164,8 +163,8 @@ fn run<
     crew: Roles<'a, K, S, W, R>,
 ) -> Roles<'a, K, S, W, R>
     requires room { (vec_len crew.workers < 1000) × (vec_len crew.workers ≤ room) × IsRoomFor (vec_len crew.workers) backs }
-    requires reader { Stands crew.ear.hall.now 1 crew.ear.pass × ((S.told crew.ear.source).is_open ≡ true) × (crew.ear.splitter.limit ≡ longest_line) × (crew.ear.why ≡ None) }
-    requires writer { Stands crew.mouth.hall.now 2 crew.mouth.pass × ((W.told crew.mouth.sink).is_open ≡ true) × (crew.mouth.why ≡ None) }
+    requires reader { ReaderCan S.told crew.ear }
+    requires writer { WriterCan W.told crew.mouth }
     requires workers { All (λ w. Stands w.hall.now (w.number + 3) w.pass) crew.workers.items }
     ensures read { ReaderRuns S.told crew.entry.ear result.ear }
     ensures wrote { WriterRuns W.told crew.entry.mouth result.mouth }
@@ -185,6 +184,46 @@ fn run<
         ear,
         mouth,
         workers,
+    }
+}
+
+// Runs the roles: by the calling thread alone, until one has to be worked on beside another.
+fn run<
+    'a,
+    K: Remote + Send + Drop,
+    S: Source + Send + Drop,
+    W: Sink + Send + Drop,
+    R: Threads + Wait + Sync,
+>(
+    rt: &R,
+    most: usize,
+    room: Room<Worker<'a, K, R>>,
+    backs: Workers<'a, K, R>,
+    crew: Roles<'a, K, S, W, R>,
+) -> Roles<'a, K, S, W, R>
+    requires room { (vec_len crew.workers < 1000) × (vec_len crew.workers ≤ room) × IsRoomFor (vec_len crew.workers) backs }
+    requires reader { ReaderCan S.told crew.ear }
+    requires writer { WriterCan W.told crew.mouth }
+    requires workers { All (λ w. Stands w.hall.now (w.number + 3) w.pass) crew.workers.items }
+    ensures read { ReaderRuns S.told crew.entry.ear result.ear }
+    ensures wrote { WriterRuns W.told crew.entry.mouth result.mouth }
+    ensures worked { Pairwise (WorkerGoes K.Remote) crew.entry.workers.items result.workers.items }
+{
+    let Crew {
+        mut ear,
+        mut mouth,
+        mut workers,
+    } = crew;
+    let wanted = serve_alone(&mut ear, &mut mouth, workers.as_mut_slice(), true);
+    let crew = Crew {
+        ear,
+        mouth,
+        workers,
+    };
+    if wanted {
+        run_in_threads(rt, most, room, backs, crew)
+    } else {
+        crew
     }
 }
 

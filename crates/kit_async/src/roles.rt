@@ -1,13 +1,41 @@
 // The roles of a kit, each with its pass, in a thread or not.
+ghost use Rattle.std.specs.Prelude.{◌≡◌, bytes_eq, codes, take};
+ghost use Rattle.kit_async.specs.Turns.{is_tagged, is_transfer};
+
+use crate::work::{Turn, Why, listen, read_turn, speak, toil, work_turn, write_turn};
 use ann_outside::{Sink, Source};
-use crew_threads::Role;
-use hall::{Hall, Pass};
 use kit_async_core::KitCore;
-use kit_async_roles::{Why, listen, read_turn, speak, toil, work_turn, write_turn};
-use kit_core::Remote;
+use kit_async_model::hearing::text_in;
+use kit_serve::kit::Remote;
 use std::alloc::Global;
 use std::sync::Wait;
-use wire_line::Splitter;
+use threads::roles::Role;
+use threads::{Hall, Pass};
+use wire_line::{Next, Splitter};
+
+// Whether the line has a tag.
+fn is_tagged(line: &[u8]) -> bool
+    ensures { result ≡ is_tagged line.now }
+{
+    matches!(line, [b'J', b' ', ..])
+}
+
+// Whether these are the first bytes of a request to send or to fetch a content.
+fn begins_transfer(text: &[u8]) -> bool
+    ensures { result ≡ bytes_eq (take 9 text.now) (codes "TRANSFER ") }
+{
+    matches!(
+        text,
+        [b'T', b'R', b'A', b'N', b'S', b'F', b'E', b'R', b' ', ..]
+    )
+}
+
+// Whether the line has a tag, and asks to send or to fetch a content.
+fn is_transfer(line: &[u8]) -> bool
+    ensures { result ≡ is_transfer line.now }
+{
+    is_tagged(line) && begins_transfer(text_in(true, line))
+}
 
 /// What reads, and why it ended by itself, if it did.
 #[derive(Drop)]
@@ -22,16 +50,16 @@ pub(crate) struct Reader<'a, S: Source, R: Wait> {
 }
 
 impl<'a, S: Source, R: Wait> Role for Reader<'a, S, R> {
-    ghost use Rattle.std.specs.Prelude.{◌≡◌, true};
-    ghost use Rattle.kit_serve.specs.Limits.{longest_line};
-    ghost use Rattle.kit_async_roles.specs.Passes.{Stands};
-    ghost use Rattle.kit_async.specs.Turns.{ReaderRuns};
+    ghost use Rattle.kit_async.specs.Turns.{ReaderCan, ReaderRuns};
 
-    ghost can_run = { λ s. Stands s.hall.now 1 s.pass × ((S.told s.source).is_open ≡ true) × (s.splitter.limit ≡ longest_line) };
+    ghost can_run = { ReaderCan S.told };
 
-    ghost ran = { λ a b. ReaderRuns S.told a b × (b.hall.now ≡ a.hall.now) × (b.splitter.limit ≡ longest_line) };
+    ghost ran = { ReaderRuns S.told };
 
     fn run(self) -> Self {
+        if self.why.is_some() {
+            return self;
+        }
         let Reader {
             rt,
             alloc,
@@ -55,16 +83,52 @@ impl<'a, S: Source, R: Wait> Role for Reader<'a, S, R> {
 }
 
 impl<'a, S: Source, R: Wait> Reader<'a, S, R> {
-    ghost use Rattle.std.specs.Prelude.{◌≡◌, true};
+    ghost use Rattle.std.specs.Prelude.{◌≡◌};
     ghost use Rattle.kit_serve.specs.Limits.{longest_line};
-    ghost use Rattle.kit_async_roles.specs.Passes.{Stands};
-    ghost use Rattle.kit_async.specs.Turns.{ReaderGoes};
+    ghost use Rattle.wire_line.specs.HeldBytes.{has_line};
+    ghost use Rattle.kit_async.specs.Turns.{ReaderCan, ReaderGoes, holds, is_tagged, is_transfer};
+
+    /// Whether a line stands first in what is held.
+    pub(crate) fn holds_line(&self) -> bool
+        requires { self.now.splitter.limit ≡ longest_line }
+        ensures { result ≡ has_line longest_line self.now.splitter.bytes }
+    {
+        match self.splitter.first() {
+            Next::Line(_) => true,
+            Next::Long => false,
+            Next::More => false,
+        }
+    }
+
+    /// Whether a line that has a tag stands first there.
+    pub(crate) fn holds_tagged(&self) -> bool
+        requires { self.now.splitter.limit ≡ longest_line }
+        ensures { result ≡ holds is_tagged self.now.splitter.bytes }
+    {
+        match self.splitter.first() {
+            Next::Line(line) => is_tagged(line),
+            Next::Long => false,
+            Next::More => false,
+        }
+    }
+
+    /// Whether a request to send or to fetch a content stands first there, which has a tag.
+    pub(crate) fn holds_transfer(&self) -> bool
+        requires { self.now.splitter.limit ≡ longest_line }
+        ensures { result ≡ holds is_transfer self.now.splitter.bytes }
+    {
+        match self.splitter.first() {
+            Next::Line(line) => is_transfer(line),
+            Next::Long => false,
+            Next::More => false,
+        }
+    }
 
     /// One turn, by the thread that calls it, and whether something was done. Nothing is, once it ended by itself.
     pub(crate) fn turn(&mut self) -> bool
-        requires can { Stands self.old.hall.now 1 self.old.pass × ((S.told self.old.source).is_open ≡ true) × (self.old.splitter.limit ≡ longest_line) }
+        requires can { ReaderCan S.told self.old }
         ensures went { ReaderGoes S.told self.old self.new }
-        ensures can { Stands self.new.hall.now 1 self.new.pass × ((S.told self.new.source).is_open ≡ true) × (self.new.splitter.limit ≡ longest_line) }
+        ensures can { ReaderCan S.told self.new }
         ensures hall { self.new.hall.now ≡ self.old.hall.now }
     {
         if self.why.is_some() {
@@ -95,15 +159,16 @@ pub(crate) struct Writer<'a, W: Sink, R: Wait> {
 }
 
 impl<'a, W: Sink, R: Wait> Role for Writer<'a, W, R> {
-    ghost use Rattle.std.specs.Prelude.{◌≡◌, true};
-    ghost use Rattle.kit_async_roles.specs.Passes.{Stands};
-    ghost use Rattle.kit_async.specs.Turns.{WriterRuns};
+    ghost use Rattle.kit_async.specs.Turns.{WriterCan, WriterRuns};
 
-    ghost can_run = { λ s. Stands s.hall.now 2 s.pass × ((W.told s.sink).is_open ≡ true) };
+    ghost can_run = { WriterCan W.told };
 
-    ghost ran = { λ a b. WriterRuns W.told a b × (b.hall.now ≡ a.hall.now) };
+    ghost ran = { WriterRuns W.told };
 
     fn run(self) -> Self {
+        if self.why.is_some() {
+            return self;
+        }
         let Writer {
             rt,
             hall,
@@ -124,23 +189,26 @@ impl<'a, W: Sink, R: Wait> Role for Writer<'a, W, R> {
 
 impl<'a, W: Sink, R: Wait> Writer<'a, W, R> {
     ghost use Rattle.std.specs.Prelude.{◌≡◌, true};
-    ghost use Rattle.kit_async_roles.specs.Passes.{Stands};
-    ghost use Rattle.kit_async.specs.Turns.{WriterGoes};
+    ghost use Rattle.threads.specs.Passes.{seen_of};
+    ghost use Rattle.kit_async.specs.Work.Passes.{is_rest};
+    ghost use Rattle.kit_async.specs.Work.Writing.{AllWritten};
+    ghost use Rattle.kit_async.specs.Turns.{WriterCan, WriterGoes};
 
-    /// One turn, by the thread that calls it, and whether something was done. Nothing is, once it ended by itself.
-    pub(crate) fn turn(&mut self) -> bool
-        requires can { Stands self.old.hall.now 2 self.old.pass × ((W.told self.old.sink).is_open ≡ true) }
+    /// One turn, by the thread that calls it. Nothing is done, once it ended by itself.
+    pub(crate) fn turn(&mut self) -> Turn
+        requires can { WriterCan W.told self.old }
         ensures went { WriterGoes W.told self.old self.new }
-        ensures can { Stands self.new.hall.now 2 self.new.pass × ((W.told self.new.sink).is_open ≡ true) }
+        ensures can { WriterCan W.told self.new }
         ensures hall { self.new.hall.now ≡ self.old.hall.now }
+        ensures waits { is_rest result ≡ true → AllWritten (seen_of self.new.pass) }
     {
         if self.why.is_some() {
-            return false;
+            return Turn::Over(self.why);
         }
         let (rt, hall) = (self.rt, self.hall);
         let turn = write_turn(rt, hall, &mut self.pass, &mut self.sink);
         self.why = turn.why();
-        turn.went()
+        turn
     }
 }
 
@@ -156,7 +224,7 @@ pub(crate) struct Worker<'a, K: Remote, R: Wait> {
 
 impl<'a, K: Remote, R: Wait> Role for Worker<'a, K, R> {
     ghost use Rattle.std.specs.Prelude.{◌≡◌, ◌+◌};
-    ghost use Rattle.kit_async_roles.specs.Passes.{Stands};
+    ghost use Rattle.kit_async.specs.Work.Passes.{Stands};
     ghost use Rattle.kit_async.specs.Turns.{WorkerGoes};
 
     ghost can_run = { λ s. Stands s.hall.now (s.number + 3) s.pass };
@@ -184,15 +252,19 @@ impl<'a, K: Remote, R: Wait> Role for Worker<'a, K, R> {
 
 impl<'a, K: Remote, R: Wait> Worker<'a, K, R> {
     ghost use Rattle.std.specs.Prelude.{◌+◌};
-    ghost use Rattle.kit_async_roles.specs.Passes.{Stands};
+    ghost use Rattle.kit_async.specs.Work.Passes.{Stands};
     ghost use Rattle.kit_async.specs.Turns.{WorkerGoes};
 
-    /// One turn, by the thread that calls it, and whether something was done.
-    pub(crate) fn turn(&mut self) -> bool
+    /// One turn, by the thread that calls it, unless the turns before did something; and what came of all.
+    pub(crate) fn turn(&mut self, before: Turn) -> Turn
         requires { Stands self.old.hall.now (self.old.number + 3) self.old.pass }
         ensures { WorkerGoes K.Remote self.old self.new }
     {
+        if before.went() {
+            return before;
+        }
         let (rt, hall, number) = (self.rt, self.hall, self.number);
-        work_turn(rt, hall, &mut self.pass, number, &mut self.remote).went()
+        let turn = work_turn(rt, hall, &mut self.pass, number, &mut self.remote);
+        before.and(turn)
     }
 }

@@ -1,34 +1,34 @@
 // Serves remotes to a host, several jobs at once.
-ghost use Rattle.std.specs.Prelude.{◌≡◌, ◌<◌, ◌≤◌, ◌+◌, [], ◌∷◌, true, codes, length, map, vec_len, All, IfOk};
-ghost use Rattle.hall.specs.Passes.{HasClosed, IsPassOf};
+ghost use Rattle.std.specs.Prelude.{◌≡◌, ◌<◌, ◌≤◌, ◌+◌, [], ◌∷◌, true, false, codes, length, map, vec_len, All, IfOk};
+ghost use Rattle.threads.specs.Passes.{HasClosed, IsPassOf};
 ghost use Rattle.kit_async_model.specs.declared.entry.Entry.TheVariants.{Say};
 ghost use Rattle.kit_async_model.specs.declared.setup.Setup.{Setup};
 ghost use Rattle.kit_async_model.specs.Events.{IsMadeBy, MayStep};
 ghost use Rattle.kit_async.specs.Dealt.{AreFresh};
 ghost use Rattle.kit_async.specs.Endings.{why_stopped};
-ghost use Rattle.kit_async.specs.Served.{HasCauses, Serves, described_setup, setup_of, status_of, tells_by};
+ghost use Rattle.kit_async.specs.Served.{HasCauses, Serves, described_setup, journal_of, setup_of, status_of, tells_by};
 
 use crate::dealt::Site;
-use crate::journal::KitJournal;
+use crate::journal::{GoneJournal, KitJournal};
 use crate::played::{Kit, RoleEnds, play};
 use crate::why::Why;
+use crate::work::Why as RoleWhy;
 use ann_key::NoMemory;
 use ann_outside::{Sink, Source};
-use hall::{Hall, Pass};
 use kit_async_core::KitCore;
-use kit_async_model::{About, Fact, Setup};
-use kit_async_roles::Why as RoleWhy;
-use kit_core::{Describe, Remote};
+use kit_async_model::{About, Entries, Fact, Setup};
+use kit_serve::kit::{Describe, Remote};
 use std::alloc::Global;
 use std::marker::{Send, Sync};
 use std::sync::Wait;
 use std::thread::Threads;
+use threads::{Hall, Pass};
 
 /// How remotes were served, with all that was handed in.
 #[derive(Drop)]
 pub struct AsyncEnd<K, S, W> {
-    /// The exit status of a program that did nothing else: 0 where the host's lines came to an end; 1 where a line of it spells no
-    /// message, is too long, has no tag or the tag 0 where lines are tagged, or has no place where it stands; 4 and 5 where
+    /// The exit status of a program that did nothing else: 0 where the host's lines came to an end; 1 where a line of it is
+    /// too long, is ERROR, has no tag or the tag 0 where lines are tagged, or has no place where it stands; 4 and 5 where
     /// reading or writing failed; 7 where no memory was found.
     pub status: u8,
     pub remotes: Vec<K>,
@@ -37,27 +37,90 @@ pub struct AsyncEnd<K, S, W> {
     pub journal: KitJournal,
 }
 
-// No memory was found before anything was done.
-fn unserved<K: Remote + Drop, S: Source, W: Sink>(
-    alloc: Global,
-    remotes: Vec<K>,
-    source: S,
-    sink: W,
-) -> AsyncEnd<K, S, W>
-    requires open { ((S.told source).is_open ≡ true) × ((W.told sink).is_open ≡ true) }
-    ensures serves { (setup : Setup) → Serves setup
-        (tells_by (S.told source) (W.told sink) (map K.calls remotes.items))
-        (tells_by (S.told result.source) (W.told result.sink) (map K.calls result.remotes.items)) result.journal }
-    ensures status { result.status ≡ status_of result.journal.why }
-    ensures causes { HasCauses result.journal.why (S.told source) (S.told result.source) (W.told sink) (W.told result.sink) }
-    ensures kept { (result.remotes ≡ remotes) × (result.source ≡ source) × (result.sink ≡ sink) }
+/// The same of a kit whose journal isn't handed out: contracts see its entries, and a caller how many they were.
+#[derive(Drop)]
+pub struct BoundedEnd<K, S, W> {
+    /// As that of an [`AsyncEnd`].
+    pub status: u8,
+    pub remotes: Vec<K>,
+    pub source: S,
+    pub sink: W,
+    pub journal: GoneJournal,
+}
+
+// The same of both, with the entries handed out or not.
+#[derive(Drop)]
+pub(crate) struct Stopped<K, S, W> {
+    pub(crate) remotes: Vec<K>,
+    pub(crate) source: S,
+    pub(crate) sink: W,
+    pub(crate) log: Entries,
+    pub(crate) why: Why,
+}
+
+// With its journal in hand.
+fn in_hand<K: Drop, S, W>(stopped: Stopped<K, S, W>) -> AsyncEnd<K, S, W>
+    requires { stopped.log.kept ≡ true }
+    ensures { result ≡ record { status = status_of stopped.why; remotes = stopped.remotes; source = stopped.source; sink = stopped.sink; journal = journal_of stopped.log stopped.why } }
 {
-    AsyncEnd {
-        status: Why::Memory.status(),
+    let Stopped {
         remotes,
         source,
         sink,
-        journal: KitJournal::empty(alloc, Why::Memory),
+        log,
+        why,
+    } = stopped;
+    AsyncEnd {
+        status: why.status(),
+        remotes,
+        source,
+        sink,
+        journal: KitJournal::new(log, why),
+    }
+}
+
+// Without it.
+fn gone<K: Drop, S, W>(stopped: Stopped<K, S, W>) -> BoundedEnd<K, S, W>
+    ensures { result ≡ record { status = status_of stopped.why; remotes = stopped.remotes; source = stopped.source; sink = stopped.sink; journal = journal_of stopped.log stopped.why } }
+{
+    let Stopped {
+        remotes,
+        source,
+        sink,
+        log,
+        why,
+    } = stopped;
+    BoundedEnd {
+        status: why.status(),
+        remotes,
+        source,
+        sink,
+        journal: GoneJournal::new(log, why),
+    }
+}
+
+// No memory was found before anything was done.
+fn unserved<K: Remote + Drop, S: Source, W: Sink>(
+    alloc: Global,
+    kept: bool,
+    remotes: Vec<K>,
+    source: S,
+    sink: W,
+) -> Stopped<K, S, W>
+    requires open { ((S.told source).is_open ≡ true) × ((W.told sink).is_open ≡ true) }
+    ensures serves { (setup : Setup) → Serves setup
+        (tells_by (S.told source) (W.told sink) (map K.calls remotes.items))
+        (tells_by (S.told result.source) (W.told result.sink) (map K.calls result.remotes.items)) (journal_of result.log result.why) }
+    ensures log { result.log.kept ≡ kept }
+    ensures causes { HasCauses result.why (S.told source) (S.told result.source) (W.told sink) (W.told result.sink) }
+    ensures kept { (result.remotes ≡ remotes) × (result.source ≡ source) × (result.sink ≡ sink) }
+{
+    Stopped {
+        remotes,
+        source,
+        sink,
+        log: Entries::new(alloc, kept),
+        why: Why::Memory,
     }
 }
 
@@ -83,27 +146,30 @@ fn why_stopped(ends: RoleEnds, core: &KitCore) -> Why
 }
 
 // What doesn't change while these are served.
-fn setup<K: Remote>(alloc: Global, remotes: &[K]) -> Result<Setup, NoMemory>
+fn setup<K: Remote>(alloc: Global, kept: bool, remotes: &[K]) -> Result<Setup, NoMemory>
     requires { (0 < length remotes.now) × (length remotes.now ≤ 64) }
-    ensures { IfOk result (λ setup. setup ≡ setup_of K.settings remotes.now) }
+    ensures { IfOk result (λ setup. setup ≡ setup_of kept K.settings remotes.now) }
 {
     let seats = remotes.len() as u32;
-    Setup::of(alloc, &remotes[0], seats)
+    let setup = Setup::of(alloc, &remotes[0], seats)?;
+    Ok(Setup { kept, ..setup })
 }
 
 // The same, with what the first of them says of itself, and these facts.
 fn described_setup<K: Remote + Describe>(
     alloc: Global,
+    kept: bool,
     remotes: &[K],
     facts: Vec<Fact>,
 ) -> Result<Setup, NoMemory>
     requires { (0 < length remotes.now) × (length remotes.now ≤ 64) }
-    ensures { IfOk result (λ setup. setup ≡ described_setup K.settings K.description facts.items remotes.now) }
+    ensures { IfOk result (λ setup. setup ≡ described_setup kept K.settings K.description facts.items remotes.now) }
 {
     let seats = remotes.len() as u32;
     let setup = Setup::of(alloc, &remotes[0], seats)?;
     let about = About::of(alloc, &remotes[0], facts)?;
     Ok(Setup {
+        kept,
         about: Some(about),
         ..setup
     })
@@ -132,13 +198,13 @@ fn end<K: Remote + Drop, S: Source, W: Sink>(
     hall: Hall<KitCore>,
     kit: Kit<K, S, W>,
     ends: RoleEnds,
-) -> AsyncEnd<K, S, W>
+) -> Stopped<K, S, W>
     requires own { All (IsPassOf hall) kit.passes.items }
     requires all { length kit.passes.items ≡ hall.seats }
     ensures kept { (result.remotes ≡ kit.remotes) × (result.source ≡ kit.source) × (result.sink ≡ kit.sink) }
-    ensures closed { HasClosed IsMadeBy MayStep hall kit.passes.items result.journal.entries hall.fixed }
-    ensures why { result.journal.why ≡ why_stopped hall.fixed result.journal.entries ends.read ends.wrote }
-    ensures status { result.status ≡ status_of result.journal.why }
+    ensures closed { HasClosed IsMadeBy MayStep hall kit.passes.items result.log.entries hall.fixed }
+    ensures log { result.log.kept ≡ hall.fixed.kept }
+    ensures why { result.why ≡ why_stopped hall.fixed result.log.entries ends.read ends.wrote }
 {
     let Kit {
         passes,
@@ -149,12 +215,12 @@ fn end<K: Remote + Drop, S: Source, W: Sink>(
     let core = hall.close(passes);
     let why = why_stopped(ends, &core);
     let (_, log) = core.close();
-    AsyncEnd {
-        status: why.status(),
+    Stopped {
         remotes,
         source,
         sink,
-        journal: KitJournal::new(log, why),
+        log,
+        why,
     }
 }
 
@@ -172,19 +238,20 @@ fn serve_over<
     remotes: Vec<K>,
     source: S,
     sink: W,
-) -> AsyncEnd<K, S, W>
+) -> Stopped<K, S, W>
     requires remotes { (0 < vec_len remotes) × (vec_len remotes ≤ 64) }
     requires open { ((S.told source).is_open ≡ true) × ((W.told sink).is_open ≡ true) }
     ensures serves { Serves setup
         (tells_by (S.told source) (W.told sink) (map K.calls remotes.items))
-        (tells_by (S.told result.source) (W.told result.sink) (map K.calls result.remotes.items)) result.journal }
-    ensures status { result.status ≡ status_of result.journal.why }
-    ensures causes { HasCauses result.journal.why (S.told source) (S.told result.source) (W.told sink) (W.told result.sink) }
+        (tells_by (S.told result.source) (W.told result.sink) (map K.calls result.remotes.items)) (journal_of result.log result.why) }
+    ensures log { result.log.kept ≡ setup.kept }
+    ensures causes { HasCauses result.why (S.told source) (S.told result.source) (W.told sink) (W.told result.sink) }
     ensures open { ((S.told result.source).is_open ≡ true) × ((W.told result.sink).is_open ≡ true) }
     ensures settings { map K.settings result.remotes.items ≡ map K.settings remotes.items }
 {
+    let kept = setup.kept;
     let Ok((hall, passes)) = begin(alloc, setup, remotes.len() as u32) else {
-        return unserved(alloc, remotes, source, sink);
+        return unserved(alloc, kept, remotes, source, sink);
     };
     let site = Site {
         rt,
@@ -211,7 +278,7 @@ pub fn serve_async_some<
 >(rt: &R, alloc: Global, most: usize, remotes: Vec<K>, source: S, sink: W) -> AsyncEnd<K, S, W>
     requires remotes { (0 < vec_len remotes) × (vec_len remotes ≤ 64) }
     requires open { ((S.told source).is_open ≡ true) × ((W.told sink).is_open ≡ true) }
-    ensures serves { Serves (setup_of K.settings remotes.items)
+    ensures serves { Serves (setup_of true K.settings remotes.items)
         (tells_by (S.told source) (W.told sink) (map K.calls remotes.items))
         (tells_by (S.told result.source) (W.told result.sink) (map K.calls result.remotes.items)) result.journal }
     ensures status { result.status ≡ status_of result.journal.why }
@@ -219,10 +286,10 @@ pub fn serve_async_some<
     ensures open { ((S.told result.source).is_open ≡ true) × ((W.told result.sink).is_open ≡ true) }
     ensures settings { map K.settings result.remotes.items ≡ map K.settings remotes.items }
 {
-    let Ok(setup) = setup(alloc, &remotes) else {
-        return unserved(alloc, remotes, source, sink);
+    let Ok(setup) = setup(alloc, true, &remotes) else {
+        return in_hand(unserved(alloc, true, remotes, source, sink));
     };
-    serve_over(rt, alloc, most, setup, remotes, source, sink)
+    in_hand(serve_over(rt, alloc, most, setup, remotes, source, sink))
 }
 
 /// Serves the remotes, 1 to 64, to the host behind the source and the sink until one of them ends it, and hands all back.
@@ -237,7 +304,7 @@ pub fn serve_async<
 >(rt: &R, alloc: Global, remotes: Vec<K>, source: S, sink: W) -> AsyncEnd<K, S, W>
     requires remotes { (0 < vec_len remotes) × (vec_len remotes ≤ 64) }
     requires open { ((S.told source).is_open ≡ true) × ((W.told sink).is_open ≡ true) }
-    ensures serves { Serves (setup_of K.settings remotes.items)
+    ensures serves { Serves (setup_of true K.settings remotes.items)
         (tells_by (S.told source) (W.told sink) (map K.calls remotes.items))
         (tells_by (S.told result.source) (W.told result.sink) (map K.calls result.remotes.items)) result.journal }
     ensures status { result.status ≡ status_of result.journal.why }
@@ -249,9 +316,8 @@ pub fn serve_async<
 }
 
 /// The same as [`serve_async`] where the remotes say what they are. It differs in this alone: LISTCONFIGS, GETCOST, GETAVAILABILITY and
-/// GETINFO are answered by what the first remote says of itself before it is served, and by these facts after its own; and a line that
-/// spells no message by UNSUPPORTED-REQUEST, so that a host may ask for what the remotes don't know. WHEREIS is UNSUPPORTED-REQUEST: its
-/// answer depends on the key.
+/// GETINFO are answered by what the first remote says of itself before it is served, and by these facts after its own. WHEREIS is
+/// UNSUPPORTED-REQUEST: its answer depends on the key.
 pub fn serve_async_described<
     K: Remote + Describe + Send + Drop,
     S: Source + Send + Drop,
@@ -260,7 +326,7 @@ pub fn serve_async_described<
 >(rt: &R, alloc: Global, remotes: Vec<K>, facts: Vec<Fact>, source: S, sink: W) -> AsyncEnd<K, S, W>
     requires remotes { (0 < vec_len remotes) × (vec_len remotes ≤ 64) }
     requires open { ((S.told source).is_open ≡ true) × ((W.told sink).is_open ≡ true) }
-    ensures serves { Serves (described_setup K.settings K.description facts.items remotes.items)
+    ensures serves { Serves (described_setup true K.settings K.description facts.items remotes.items)
         (tells_by (S.told source) (W.told sink) (map K.calls remotes.items))
         (tells_by (S.told result.source) (W.told result.sink) (map K.calls result.remotes.items)) result.journal }
     ensures status { result.status ≡ status_of result.journal.why }
@@ -268,8 +334,61 @@ pub fn serve_async_described<
     ensures open { ((S.told result.source).is_open ≡ true) × ((W.told result.sink).is_open ≡ true) }
     ensures settings { map K.settings result.remotes.items ≡ map K.settings remotes.items }
 {
-    let Ok(setup) = described_setup(alloc, &remotes, facts) else {
-        return unserved(alloc, remotes, source, sink);
+    let Ok(setup) = described_setup(alloc, true, &remotes, facts) else {
+        return in_hand(unserved(alloc, true, remotes, source, sink));
     };
-    serve_over(rt, alloc, usize::MAX, setup, remotes, source, sink)
+    in_hand(serve_over(rt, alloc, usize::MAX, setup, remotes, source, sink))
+}
+
+/// The same as [`serve_async`], without the journal in hand.
+pub fn serve_async_bounded<
+    K: Remote + Send + Drop,
+    S: Source + Send + Drop,
+    W: Sink + Send + Drop,
+    R: Threads + Wait + Sync,
+>(rt: &R, alloc: Global, remotes: Vec<K>, source: S, sink: W) -> BoundedEnd<K, S, W>
+    requires remotes { (0 < vec_len remotes) × (vec_len remotes ≤ 64) }
+    requires open { ((S.told source).is_open ≡ true) × ((W.told sink).is_open ≡ true) }
+    ensures serves { Serves (setup_of false K.settings remotes.items)
+        (tells_by (S.told source) (W.told sink) (map K.calls remotes.items))
+        (tells_by (S.told result.source) (W.told result.sink) (map K.calls result.remotes.items)) result.journal }
+    ensures status { result.status ≡ status_of result.journal.why }
+    ensures causes { HasCauses result.journal.why (S.told source) (S.told result.source) (W.told sink) (W.told result.sink) }
+    ensures open { ((S.told result.source).is_open ≡ true) × ((W.told result.sink).is_open ≡ true) }
+    ensures settings { map K.settings result.remotes.items ≡ map K.settings remotes.items }
+{
+    let Ok(setup) = setup(alloc, false, &remotes) else {
+        return gone(unserved(alloc, false, remotes, source, sink));
+    };
+    gone(serve_over(rt, alloc, usize::MAX, setup, remotes, source, sink))
+}
+
+/// The same as [`serve_async_described`], without the journal in hand.
+pub fn serve_async_described_bounded<
+    K: Remote + Describe + Send + Drop,
+    S: Source + Send + Drop,
+    W: Sink + Send + Drop,
+    R: Threads + Wait + Sync,
+>(
+    rt: &R,
+    alloc: Global,
+    remotes: Vec<K>,
+    facts: Vec<Fact>,
+    source: S,
+    sink: W,
+) -> BoundedEnd<K, S, W>
+    requires remotes { (0 < vec_len remotes) × (vec_len remotes ≤ 64) }
+    requires open { ((S.told source).is_open ≡ true) × ((W.told sink).is_open ≡ true) }
+    ensures serves { Serves (described_setup false K.settings K.description facts.items remotes.items)
+        (tells_by (S.told source) (W.told sink) (map K.calls remotes.items))
+        (tells_by (S.told result.source) (W.told result.sink) (map K.calls result.remotes.items)) result.journal }
+    ensures status { result.status ≡ status_of result.journal.why }
+    ensures causes { HasCauses result.journal.why (S.told source) (S.told result.source) (W.told sink) (W.told result.sink) }
+    ensures open { ((S.told result.source).is_open ≡ true) × ((W.told result.sink).is_open ≡ true) }
+    ensures settings { map K.settings result.remotes.items ≡ map K.settings remotes.items }
+{
+    let Ok(setup) = described_setup(alloc, false, &remotes, facts) else {
+        return gone(unserved(alloc, false, remotes, source, sink));
+    };
+    gone(serve_over(rt, alloc, usize::MAX, setup, remotes, source, sink))
 }

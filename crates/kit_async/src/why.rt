@@ -10,7 +10,7 @@ pub enum Why {
     ReadFault,
     /// Writing failed.
     WriteFault,
-    /// A line of the host spells no message, is too long, has no tag where it should, or has no place where it stands.
+    /// A line of the host is too long, is ERROR, has no tag where it should, or has no place where it stands.
     Bad,
     /// No memory was found.
     Memory,

@@ -3,13 +3,12 @@ use Rattle.std.proofs.Common.{◌≡◌, ◌⊎◌, inl, inr, ℕ, ◌+◌, List
 use Rattle.std.specs.Prelude.{◌&&◌, ◌||◌, find, fold, nat_lt, nat_le, is_none}
 use Rattle.std.specs.List.{list_any}
 use Rattle.std.proofs.lemmas.Bool.Decides.{nat_tests}
-use Rattle.hall.specs.Log.{flat, NotBy}
-use Rattle.hall.specs.Passes.{HasEntered, seen_of}
-use Rattle.kit_core.specs.declared.call.Said.{Said}
-use Rattle.kit_core.specs.declared.call.Asked.{Asked}
-use Rattle.kit_core.specs.declared.call.Call.{Call as RemoteCall}
-use Rattle.kit_core.specs.Calls.{is_line_said}
-use Rattle.kit_core.specs.Kits.{asked_by}
+use Rattle.threads.specs.Log.{flat, NotBy}
+use Rattle.threads.specs.Passes.{HasEntered, seen_of}
+use Rattle.kit_serve.specs.declared.kit.call.Said.{Said}
+use Rattle.kit_serve.specs.declared.kit.call.Asked.{Asked}
+use Rattle.kit_serve.specs.declared.kit.call.Call.{Call as RemoteCall}
+use Rattle.kit_serve.specs.Kit.Calls.{is_line_said, plain}
 use Rattle.kit_async_model.specs.declared.setup.Setup.{Setup}
 use Rattle.kit_async_model.specs.declared.job.Job.{Job}
 use Rattle.kit_async_model.specs.declared.entry.Entry.{Entry}
@@ -18,7 +17,8 @@ use Rattle.kit_async_model.specs.declared.event.Event.{Event}
 use Rattle.kit_async_model.specs.declared.event.Event.TheVariants.{Take as TakeUp, Called, Break}
 use Rattle.kit_async_model.specs.declared.event.Reply.{Reply}
 use Rattle.kit_async_model.specs.declared.event.Reply.TheVariants.{Odd, Broken, Work}
-use Rattle.kit_async_model.specs.Jobs.{is_making_ready, is_awaiting, is_for_any, is_worked_by, is_first_of_key, job_line, has_number, job_of, with_job, due_in}
+use Rattle.kit_async_model.proofs.Calling.{work_plain}
+use Rattle.kit_async_model.specs.Jobs.{is_making_ready, is_awaiting, is_for_any, is_worked_by, is_first_of_key, job_line, has_number, job_of, with_job, work_asked}
 use Rattle.kit_async_model.specs.Legality.{Legal, is_idle, is_free, is_turn_of, is_called, is_done}
 use Rattle.kit_async_model.specs.Standings.{Standing, with_taken, after, standing}
 use Rattle.kit_async_model.specs.Events.{IsMadeBy, MayStep, Stepped, IsStepped, IsBrokenOff, IsUnsaid, is_call, only, waiting, due_said, work_by, first_free, free_step, turn_step, take_step, called_then, called_step, call_step, if_it_is, is_of_remote, remote_of, step_of}
@@ -144,7 +144,7 @@ taken_found setup all r (x ∷ xs) job a none f = go (is_free setup all x) refl 
 record Begins (setup : Setup) (s : Standing) (r : ℕ) (asked : Asked) (group : List Entry) : Type 0 where
   job : Job
   busy : Busy setup r (fold (after setup) s group).jobs job
-  asks : asked_by (due_in setup job) ≡ Some asked
+  asks : work_asked setup job ≡ Some asked
 
 free_begins : (setup : Setup) (s : Standing) (r : ℕ) (asked : Asked) (group : List Entry) → AreApart s.jobs → (b : Bool) → (s.over || not (is_idle s.jobs r)) ≡ b
     → (o : Option Job) → cond {A = Option Job} b None (find (is_free setup s.jobs) s.jobs) ≡ o
@@ -157,7 +157,7 @@ free_begins setup s r asked group a false c (Some job) e k g =
     record {
       job = with_taken r job;
       busy = subst (λ (es : List Entry). Busy setup r (fold (after setup) s es).jobs (with_taken r job)) (sym g) (inl (taken_found setup s.jobs r s.jobs job a idle e));
-      asks = work_asks (asked_by (due_in setup job)) asked k;
+      asks = work_asks (work_asked setup job) asked k;
     }
   where
     twice : (b : Bool) → not (not b) ≡ false → b ≡ false
@@ -172,7 +172,7 @@ take_begins setup s r asked group a one (Some job) e k g = record {
   job = job;
   busy = subst (λ (es : List Entry). Busy setup r (fold (after setup) s es).jobs job) (sym g)
       (turned_is setup r s.jobs job (is_turn_of setup s.jobs r) e (passes_of (is_turn_of setup s.jobs r) s.jobs job e) one);
-  asks = work_asks (asked_by (due_in setup job)) asked k;
+  asks = work_asks (work_asked setup job) asked k;
 }
 
 -- a remote that is told to work is to be called for that
@@ -231,14 +231,14 @@ due_uncalled : (setup : Setup) (s : Standing) (r : ℕ) (due : List (ℕ × List
 due_uncalled setup s r [] = refl
 due_uncalled setup s r (d ∷ rest) = due_uncalled setup (after setup s (Say d.0 (job_line d.0 d.1))) r rest
 
-one_call : (setup : Setup) (s : Standing) (r : ℕ) (job : Job) (said : Said) (asked : Asked) → job_of s.jobs job.number ≡ Some job → asked_by (due_in setup job) ≡ Some asked
-    → call_of setup s r (Call job.number r said) ≡ record { asked = asked; said = said } ∷ []
-one_call setup s r job said asked j a = rw (same_number r, j, a) refl
+one_call : (setup : Setup) (s : Standing) (r : ℕ) (job : Job) (said : Said) (asked : Asked) → job_of s.jobs job.number ≡ Some job → work_asked setup job ≡ Some asked
+    → call_of setup s r (Call job.number r said) ≡ record { asked = plain asked; said = said } ∷ []
+one_call setup s r job said asked j a = rw (same_number r, j, work_plain setup job asked a) refl
 
 -- what a remote says to what it is called for is noted
 pub calls_noted : (h : KitHall) (p q : KitPass) (r : ℕ) (said : Said) (asked : Asked) (reply : Reply) → p.number ≡ r + 3 → Legal h.fixed (seen_of p)
     → IsAsked h.fixed (standing h.fixed (seen_of p)) r asked → is_line_said said ≡ true → HasEntered IsMadeBy MayStep h p q (Called said) reply
-    → calls_of h.fixed r (seen_of q) ≡ calls_of h.fixed r (seen_of p) ++ record { asked = asked; said = said } ∷ []
+    → calls_of h.fixed r (seen_of q) ≡ calls_of h.fixed r (seen_of p) ++ record { asked = plain asked; said = said } ∷ []
 calls_noted h p q r said asked reply is l k text e = go (own_step h p q (Called said) reply r is e).step
   where
     past : List Entry
@@ -277,7 +277,7 @@ calls_noted h p q r said asked reply is l k text e = go (own_step h p q (Called 
         ∙ ap (called_step h.fixed s r said) found
 
     noted : (rest : List Entry) → calls_from h.fixed (after h.fixed s call) r rest ≡ [] → e.group ≡ call ∷ rest
-        → calls_of h.fixed r (seen_of q) ≡ calls_of h.fixed r (seen_of p) ++ record { asked = asked; said = said } ∷ []
+        → calls_of h.fixed r (seen_of q) ≡ calls_of h.fixed r (seen_of p) ++ record { asked = plain asked; said = said } ∷ []
     noted rest none g =
         calls_seen h p q (Called said) reply r is e
         ∙ ap (λ (g : List Entry). calls_of h.fixed r (seen_of p) ++ calls_from h.fixed s r g) g
@@ -286,7 +286,7 @@ calls_noted h p q r said asked reply is l k text e = go (own_step h p q (Called 
 
     go : IsStepped (step_of h.fixed past (r + 3) (Called said)) e.group reply
         ⊎ (IsBrokenOff (Called said) e.group reply ⊎ ((is_call (Called said) ≡ true) × IsUnsaid (step_of h.fixed past (r + 3) (Called said)) e.group reply))
-        → calls_of h.fixed r (seen_of q) ≡ calls_of h.fixed r (seen_of p) ++ record { asked = asked; said = said } ∷ []
+        → calls_of h.fixed r (seen_of q) ≡ calls_of h.fixed r (seen_of p) ++ record { asked = plain asked; said = said } ∷ []
     go (inl w) = noted (due_said (after h.fixed s call).due) (due_uncalled h.fixed (after h.fixed s call) r (after h.fixed s call).due) (w.group_is ∙ ap (λ (x : Stepped). x.group) step_is)
     go (inr (inl b)) = let bad : false ≡ true = b.may in absurd cc
     go (inr (inr u)) = noted (Lack ∷ []) refl (u.1.group_is ∙ ap (λ (x : Entry). x ∷ Lack ∷ []) (first_is u.1.call u.1.answer (sym u.1.whole ∙ ap (λ (x : Stepped). x.group) step_is)))

@@ -2,10 +2,10 @@
 use Rattle.std.proofs.Common.{◌≡◌, ◌≢◌, ℕ, List, [], ◌∷◌, ◌++◌, refl, sym, ap, subst, ◌∙◌, append-nil, Bool, true, false, ◌==◌, cond, Some, slice_get, eq-eqb}
 use Rattle.std.proofs.lemmas.List.{append_cancel_left}
 use Rattle.std.proofs.lemmas.List.Elements.{filter_map-append}
-use Rattle.hall.specs.declared.view.Link.{Link}
-use Rattle.hall.specs.Log.{flat, NotBy, groups_by, Allowed, Legal as LegalLog}
-use Rattle.hall.specs.Passes.{HasAllOf, HasClosed, IsPassOf, seen_of}
-use Rattle.hall.proofs.Logs.{seen-more, legal-after, legal-before, groups_by-append, get-from_all}
+use Rattle.threads.specs.declared.view.Link.{Link}
+use Rattle.threads.specs.Log.{flat, NotBy, groups_by, Allowed, Legal as LegalLog}
+use Rattle.threads.specs.Passes.{HasAllOf, HasClosed, IsPassOf, seen_of}
+use Rattle.threads.proofs.Logs.{seen-more, legal-after, legal-before, groups_by-append, get-from_all}
 use Rattle.kit_async_model.specs.declared.setup.Setup.{Setup}
 use Rattle.kit_async_model.specs.declared.entry.Entry.{Entry}
 use Rattle.kit_async_model.specs.Events.{IsMadeBy, MayStep}

@@ -3,7 +3,7 @@ use Rattle.std.proofs.Common.{suc, ◌≡◌, ℕ, ◌+◌, ◌*◌, ◌≤◌, 
 use Rattle.std.specs.Prelude.{◌&&◌, ◌||◌, position, drop, map, fold, set, slice_get, option_map, is_some, IfSome}
 use Rattle.annex_model.specs.Messages.{Getconfig, host_reading, remote_line}
 use Rattle.annex_model.specs.Messages.{HostMessage, AskExtensions, Prepare, Initremote, Transfer, Checkpresent, Remove, Listconfigs, Getcost, Getavailability, Getinfo, Whereis, Exportsupported, Export, Transferexport, Checkpresentexport, Removeexport, Renameexport, Value, Creds, HostError}
-use Rattle.kit_core.specs.Kits.{Due, is_prepare, is_readying}
+use Rattle.kit_serve.specs.Kit.Kits.{Due, is_prepare, is_readying}
 use Rattle.kit_async_model.specs.declared.about.About.{About}
 use Rattle.kit_async_model.specs.declared.setup.Setup.{Setup}
 use Rattle.kit_async_model.specs.declared.job.Job.{Job}

@@ -1,8 +1,8 @@
 -- A hall of a kit's core is closed.
 use Rattle.std.proofs.Common.{◌≡◌, List, [], ◌∷◌, ◌++◌, sym, subst, append_assoc, append-nil}
-use Rattle.hall.specs.declared.view.Link.{Link}
-use Rattle.hall.specs.Log.{flat, Allowed, Legal as LegalLog}
-use Rattle.hall.specs.Passes.{HasClosed}
+use Rattle.threads.specs.declared.view.Link.{Link}
+use Rattle.threads.specs.Log.{flat, Allowed, Legal as LegalLog}
+use Rattle.threads.specs.Passes.{HasClosed}
 use Rattle.kit_async_model.specs.declared.setup.Setup.{Setup}
 use Rattle.kit_async_model.specs.declared.entry.Entry.{Entry}
 use Rattle.kit_async_model.specs.Events.{IsMadeBy, MayStep}

@@ -5,12 +5,12 @@ use Rattle.std.specs.List.{list_any}
 use Rattle.std.proofs.lemmas.Bool.Decides.{nat_tests}
 use Rattle.std.proofs.lemmas.List.Elements.{All-head, All-tail}
 use Rattle.annex_model.specs.Messages.{host_reading}
-use Rattle.hall.specs.declared.view.Link.{Link}
-use Rattle.hall.specs.Log.{flat, NotBy, Allowed, Legal as LegalLog}
-use Rattle.kit_core.specs.declared.call.Said.{Said}
-use Rattle.kit_core.specs.declared.call.Call.{Call as RemoteCall}
-use Rattle.kit_core.specs.Calls.{is_line_said}
-use Rattle.kit_core.specs.Kits.{asked_by}
+use Rattle.threads.specs.declared.view.Link.{Link}
+use Rattle.threads.specs.Log.{flat, NotBy, Allowed, Legal as LegalLog}
+use Rattle.kit_serve.specs.declared.kit.call.Said.{Said}
+use Rattle.kit_serve.specs.declared.kit.call.Call.{Call as RemoteCall}
+use Rattle.kit_serve.specs.Kit.Calls.{is_line_said}
+use Rattle.kit_serve.specs.Kit.Kits.{asked_by}
 use Rattle.kit_async_model.specs.declared.setup.Setup.{Setup}
 use Rattle.kit_async_model.specs.declared.job.Job.{Job}
 use Rattle.kit_async_model.specs.declared.entry.Entry.{Entry}

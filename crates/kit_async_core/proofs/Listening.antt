@@ -2,9 +2,9 @@
 use Rattle.std.proofs.Common.{◌≡◌, ◌≢◌, ◌⊎◌, inl, inr, ℕ, List, [], ◌∷◌, ◌++◌, refl, ap, subst, ◌∙◌, append-nil, Bool, true, false, None}
 use Rattle.std.specs.Prelude.{◌||◌, All}
 use Rattle.std.proofs.lemmas.List.Elements.{filter_map-append, All-head, All-tail}
-use Rattle.hall.specs.declared.view.Link.{Link}
-use Rattle.hall.specs.Log.{flat, NotBy, Allowed, Legal as LegalLog}
-use Rattle.hall.specs.Passes.{HasEntered, seen_of}
+use Rattle.threads.specs.declared.view.Link.{Link}
+use Rattle.threads.specs.Log.{flat, NotBy, Allowed, Legal as LegalLog}
+use Rattle.threads.specs.Passes.{HasEntered, seen_of}
 use Rattle.kit_async_model.specs.declared.setup.Setup.{Setup}
 use Rattle.kit_async_model.specs.declared.entry.Entry.{Entry}
 use Rattle.kit_async_model.specs.declared.entry.Entry.TheVariants.{Heard, Take, Call, Say, Wrote, Close, Lack}

@@ -1,5 +1,5 @@
 -- The hall of a kit's core, and its passes.
-use Rattle.hall.specs.Passes.{HallValue, PassValue}
+use Rattle.threads.specs.Passes.{HallValue, PassValue}
 use Rattle.kit_async_model.specs.declared.setup.Setup.{Setup}
 use Rattle.kit_async_model.specs.declared.entry.Entry.{Entry}
 

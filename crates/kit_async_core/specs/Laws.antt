@@ -1,9 +1,9 @@
 -- What holds of every hall of a kit's core.
 use Rattle.std.specs.Prelude.{ℕ, ◌≡◌, ◌+◌, true, List, [], ◌∷◌, ◌++◌, slice_get, Some}
-use Rattle.kit_core.specs.declared.call.Said.{Said}
-use Rattle.kit_core.specs.declared.call.Asked.{Asked}
-use Rattle.kit_core.specs.Calls.{is_line_said}
-use Rattle.hall.specs.Passes.{HasClosed, HasEntered, IsPassOf, seen_of}
+use Rattle.kit_serve.specs.declared.kit.call.Said.{Said}
+use Rattle.kit_serve.specs.declared.kit.call.Asked.{Asked}
+use Rattle.kit_serve.specs.Kit.Calls.{is_line_said, plain}
+use Rattle.threads.specs.Passes.{HasClosed, HasEntered, IsPassOf, seen_of}
 use Rattle.kit_async_model.specs.declared.setup.Setup.{Setup}
 use Rattle.kit_async_model.specs.declared.entry.Entry.{Entry}
 use Rattle.kit_async_model.specs.declared.event.Event.{Event}
@@ -50,9 +50,9 @@ RemotesAreAsked =
     → HasEntered IsMadeBy MayStep h before after TakeUp (Work asked)
     → IsAsked h.fixed (standing h.fixed (seen_of after)) remote asked × (calls_of h.fixed remote (seen_of after) ≡ calls_of h.fixed remote (seen_of before))
 
--- and whatever others did since, what it says to that is noted as its next call
+-- and whatever others did since, what it says to that is noted as its next call, to get ready as a prepare for both requests
 abbrev pub CallsAreNoted : Type 0
 CallsAreNoted =
     (h : KitHall) (before after : KitPass) (remote : ℕ) (said : Said) (asked : Asked) (reply : Reply) → before.number ≡ remote + 3 → Legal h.fixed (seen_of before)
     → IsAsked h.fixed (standing h.fixed (seen_of before)) remote asked → is_line_said said ≡ true → HasEntered IsMadeBy MayStep h before after (Called said) reply
-    → calls_of h.fixed remote (seen_of after) ≡ calls_of h.fixed remote (seen_of before) ++ record { asked = asked; said = said } ∷ []
+    → calls_of h.fixed remote (seen_of after) ≡ calls_of h.fixed remote (seen_of before) ++ record { asked = plain asked; said = said } ∷ []

@@ -9,7 +9,7 @@ ghost use Rattle.kit_async_model.specs.Books.{Took, BookIsAsBefore, room_owed};
 use ann_key::{Bytes, NoMemory};
 use kit_async_model::jobs::{all_await, hold_back};
 use kit_async_model::{Entries, Entry, Job, Reply, Setup};
-use kit_core::Values;
+use kit_serve::kit::Values;
 use std::alloc::Global;
 use std::marker::Model;
 
@@ -36,6 +36,7 @@ impl Model for Book {
     ghost Value = { BookValue };
 
     ghost view = { λ b. record {
+      kept = b.journal.kept;
       journal = b.journal.entries;
       room = b.journal.room;
       stands = record { due = []; tagged = b.tagged; prepared = b.prepared; told = b.told; jobs = b.jobs.items; over = b.over; closed = b.closed; unwritten = b.unwritten.items };
@@ -50,8 +51,9 @@ pub(crate) fn waiting(done: bool) -> Reply
 }
 
 impl Book {
-    /// That of a kit that says its version.
-    pub(crate) fn new(alloc: Global) -> Result<Book, NoMemory>
+    /// That of a kit that says its version, whose journal is kept or not.
+    pub(crate) fn new(alloc: Global, kept: bool) -> Result<Book, NoMemory>
+        ensures kept { IfOk result (λ b. b.kept ≡ kept) }
         ensures journal { IfOk result (λ b. b.journal ≡ Say 0 (codes "VERSION 1") ∷ []) }
         ensures stands { IfOk result (λ b. b.stands ≡ record opening { due = []; unwritten = codes "VERSION 1" ∷ [] }) }
         ensures room { IfOk result (λ b. b.room ≡ 1) }
@@ -60,7 +62,7 @@ impl Book {
         let copy = Bytes::copy(alloc, line.view())?;
         let mut unwritten = Vec::new(alloc);
         unwritten.push(copy)?;
-        let mut journal = Entries::new(alloc);
+        let mut journal = Entries::new(alloc, kept);
         journal.take_room(2)?;
         journal.push(Entry::Say { job: 0, line });
         Ok(Book {
@@ -103,7 +105,8 @@ impl Book {
     /// The next line is written.
     pub(crate) fn wrote(&mut self, setup: &Setup) -> Reply
         requires { room_owed setup.now self.old.stands ≤ self.old.room }
-        ensures { Took setup.now self.old self.new (wrote_step self.old.stands.unwritten) result }
+        ensures kept { self.new.kept ≡ self.old.kept }
+        ensures took { Took setup.now self.old self.new (wrote_step self.old.stands.unwritten) result }
     {
         if self.unwritten.is_empty() {
             return Reply::Odd;
@@ -115,6 +118,7 @@ impl Book {
 
     /// No more is heard.
     pub(crate) fn close_ears(&mut self, setup: &Setup) -> Result<Reply, NoMemory>
+        ensures kept { self.new.kept ≡ self.old.kept }
         ensures ok { IfOk result (Took setup.now self.old self.new (close_step self.old.stands)) }
         ensures err { OnErr result (BookIsAsBefore self.old self.new) }
     {

@@ -18,7 +18,7 @@ use kit_async_model::due::{has_async, job_line};
 use kit_async_model::hearing::{Hearing, hearing_of, text_in};
 use kit_async_model::jobs::place_of;
 use kit_async_model::{Entries, Entry, Job, Reply, Setup};
-use kit_core::Values;
+use kit_serve::kit::Values;
 use std::alloc::Global;
 use wire_msg::{HostMsg, RemoteMsg, read_host, write_remote};
 
@@ -87,6 +87,7 @@ fn copies(alloc: Global, lines: &[Bytes]) -> Result<Vec<Bytes>, NoMemory>
 // These lines are said for that job. There is room for them.
 fn say_all(journal: &mut Entries, number: u64, said: Vec<Bytes>)
     requires { length said.items ≤ journal.old.room }
+    ensures kept { journal.new.kept ≡ journal.old.kept }
     ensures entries { journal.new.entries ≡ journal.old.entries ++ map (λ line. Say number line) said.items }
     ensures room { journal.new.room + length said.items ≡ journal.old.room }
 {
@@ -97,6 +98,7 @@ fn say_all(journal: &mut Entries, number: u64, said: Vec<Bytes>)
 
 // Room for a line that is heard, and for so many that are said and to be written.
 fn take_room(journal: &mut Entries, said: usize, more: usize) -> Result<(), NoMemory>
+    ensures kept { journal.new.kept ≡ journal.old.kept }
     ensures entries { journal.new.entries ≡ journal.old.entries }
     ensures ok { OnOk result (journal.new.room ≡ journal.old.room + 1 + 2 * said + more) }
     ensures err { OnErr result (journal.new.room ≡ journal.old.room) }
@@ -123,6 +125,7 @@ fn note_all_said(
     said: Vec<Bytes>,
     more: usize,
 ) -> Result<(), NoMemory>
+    ensures kept { journal.new.kept ≡ journal.old.kept }
     ensures journal { OnOk result (journal.new.entries ≡ journal.old.entries ++ Heard line ∷ map (λ line. Say number line) said.items) }
     ensures unwritten { OnOk result (unwritten.new.items ≡ unwritten.old.items ++ said.items) }
     ensures room { OnOk result (journal.new.room ≡ journal.old.room + length said.items + more) }
@@ -149,6 +152,7 @@ fn note_said(
     said: Bytes,
     more: usize,
 ) -> Result<(), NoMemory>
+    ensures kept { journal.new.kept ≡ journal.old.kept }
     ensures journal { OnOk result (journal.new.entries ≡ journal.old.entries ++ Heard line ∷ Say number said ∷ []) }
     ensures unwritten { OnOk result (unwritten.new.items ≡ unwritten.old.items ++ said ∷ []) }
     ensures room { OnOk result (journal.new.room ≡ journal.old.room + 1 + more) }
@@ -171,6 +175,7 @@ fn note_said(
 
 // A line was heard, and nothing was said.
 fn note_heard(journal: &mut Entries, line: Bytes, more: usize) -> Result<(), NoMemory>
+    ensures kept { journal.new.kept ≡ journal.old.kept }
     ensures journal { OnOk result (journal.new.entries ≡ journal.old.entries ++ Heard line ∷ []) }
     ensures room { OnOk result (journal.new.room ≡ journal.old.room + more) }
     ensures err { OnErr result (journal.new ≡ journal.old) }
@@ -197,6 +202,7 @@ impl Book {
         requires may { may_hear setup.now self.old.stands ≡ true }
         requires is { IsRequest setup.now self.old.stands line job }
         requires silent { lines_in setup.now self.old.stands.told job ≡ [] }
+        ensures kept { self.new.kept ≡ self.old.kept }
         ensures ok { IfOk result (Took setup.now self.old self.new (hear_step setup.now self.old.stands line)) }
         ensures err { OnErr result (BookIsAsBefore self.old self.new) }
     {
@@ -222,6 +228,7 @@ impl Book {
         requires said { map (job_line job.number) (lines_in setup.now self.old.stands.told job) ≡ said.items }
         requires some { is_some_line said.items ≡ true }
         requires awaits { is_awaiting setup.now job ≡ true }
+        ensures kept { self.new.kept ≡ self.old.kept }
         ensures ok { IfOk result (Took setup.now self.old self.new (hear_step setup.now self.old.stands line)) }
         ensures err { OnErr result (BookIsAsBefore self.old self.new) }
     {
@@ -256,6 +263,7 @@ impl Book {
         requires said { map (job_line job.now.number) (lines_in setup.now self.old.stands.told job.now) ≡ said.items }
         requires some { is_some_line said.items ≡ true }
         requires awaits { is_awaiting setup.now job.now ≡ false }
+        ensures kept { self.new.kept ≡ self.old.kept }
         ensures ok { IfOk result (Took setup.now self.old self.new (hear_step setup.now self.old.stands line)) }
         ensures err { OnErr result (BookIsAsBefore self.old self.new) }
     {
@@ -276,6 +284,7 @@ impl Book {
     fn hear_request(&mut self, setup: &Setup, line: Bytes, number: u64) -> Result<Reply, NoMemory>
         requires may { may_hear setup.now self.old.stands ≡ true }
         requires is { hearing_of setup.now self.old.stands.jobs self.old.stands.tagged line ≡ Asks number }
+        ensures kept { self.new.kept ≡ self.old.kept }
         ensures ok { IfOk result (Took setup.now self.old self.new (hear_step setup.now self.old.stands line)) }
         ensures err { OnErr result (BookIsAsBefore self.old self.new) }
     {
@@ -311,6 +320,7 @@ impl Book {
         requires apart { AreApart self.old.stands.jobs }
         requires is { IsValue setup.now self.old.stands line at values }
         requires last { slice_get setup.now.settings (length values) ≡ None }
+        ensures kept { self.new.kept ≡ self.old.kept }
         ensures ok { IfOk result (Took setup.now self.old self.new (hear_step setup.now self.old.stands line)) }
         ensures err { OnErr result (BookIsAsBefore self.old self.new) }
     {
@@ -332,6 +342,7 @@ impl Book {
         requires apart { AreApart self.old.stands.jobs }
         requires is { IsValue setup.now self.old.stands line at values }
         requires more { AsksNext setup.now self.old.stands.jobs at values said }
+        ensures kept { self.new.kept ≡ self.old.kept }
         ensures ok { IfOk result (Took setup.now self.old self.new (hear_step setup.now self.old.stands line)) }
         ensures err { OnErr result (BookIsAsBefore self.old self.new) }
     {
@@ -353,6 +364,7 @@ impl Book {
         requires may { may_hear setup.now self.old.stands ≡ true }
         requires apart { AreApart self.old.stands.jobs }
         requires is { hearing_of setup.now self.old.stands.jobs self.old.stands.tagged line ≡ Replies number }
+        ensures kept { self.new.kept ≡ self.old.kept }
         ensures ok { IfOk result (Took setup.now self.old self.new (hear_step setup.now self.old.stands line)) }
         ensures err { OnErr result (BookIsAsBefore self.old self.new) }
     {
@@ -375,6 +387,7 @@ impl Book {
     fn hear_foul(&mut self, setup: &Setup, line: Bytes) -> Result<Reply, NoMemory>
         requires may { may_hear setup.now self.old.stands ≡ true }
         requires is { hearing_of setup.now self.old.stands.jobs self.old.stands.tagged line ≡ Foul }
+        ensures kept { self.new.kept ≡ self.old.kept }
         ensures ok { IfOk result (Took setup.now self.old self.new (hear_step setup.now self.old.stands line)) }
         ensures err { OnErr result (BookIsAsBefore self.old self.new) }
     {
@@ -387,6 +400,7 @@ impl Book {
     fn hear_unexpected(&mut self, setup: &Setup, line: Bytes) -> Result<Reply, NoMemory>
         requires may { may_hear setup.now self.old.stands ≡ true }
         requires is { hearing_of setup.now self.old.stands.jobs self.old.stands.tagged line ≡ Unexpected }
+        ensures kept { self.new.kept ≡ self.old.kept }
         ensures ok { IfOk result (Took setup.now self.old self.new (hear_step setup.now self.old.stands line)) }
         ensures err { OnErr result (BookIsAsBefore self.old self.new) }
     {
@@ -408,6 +422,7 @@ impl Book {
     fn hear_aside(&mut self, setup: &Setup, line: Bytes) -> Result<Reply, NoMemory>
         requires may { may_hear setup.now self.old.stands ≡ true }
         requires is { hearing_of setup.now self.old.stands.jobs self.old.stands.tagged line ≡ Aside }
+        ensures kept { self.new.kept ≡ self.old.kept }
         ensures ok { IfOk result (Took setup.now self.old self.new (hear_step setup.now self.old.stands line)) }
         ensures err { OnErr result (BookIsAsBefore self.old self.new) }
     {
@@ -418,6 +433,7 @@ impl Book {
     /// A line of the host.
     pub(crate) fn hear(&mut self, setup: &Setup, line: Bytes) -> Result<Reply, NoMemory>
         requires apart { AreApart self.old.stands.jobs }
+        ensures kept { self.new.kept ≡ self.old.kept }
         ensures ok { IfOk result (Took setup.now self.old self.new (hear_step setup.now self.old.stands line)) }
         ensures err { OnErr result (BookIsAsBefore self.old self.new) }
     {

@@ -11,7 +11,7 @@ ghost use Rattle.kit_async_core.specs.Steps.{Comes};
 
 use crate::book::Book;
 use ann_key::{Bytes, NoMemory};
-use kit_async_model::{Entries, Entry, Event, Reply, Setup};
+use kit_async_model::{Entries, Event, Reply, Setup};
 use std::alloc::Global;
 use std::marker::Model;
 
@@ -56,12 +56,6 @@ fn bells_of(setup: &Setup, event: &Event) -> u64 {
     }
 }
 
-fn is_lack(entry: &Entry) -> bool
-    ensures { result ≡ is_lack entry.now }
-{
-    matches!(entry, Entry::Lack)
-}
-
 // Whether a core is broken off, once the event came.
 fn broken_by(broken: bool, event: &Event) -> bool
     ensures { result ≡ (broken || is_break event.now) }
@@ -74,6 +68,7 @@ impl Book {
     fn step(&mut self, setup: &Setup, by: u32, event: Event) -> Result<Reply, NoMemory>
         requires apart { AreApart self.old.stands.jobs }
         requires room { room_owed setup.now self.old.stands ≤ self.old.room }
+        ensures kept { self.new.kept ≡ self.old.kept }
         ensures ok { IfOk result (TookEvent setup.now self.old self.new by event) }
         ensures err { OnErr result (BookIsAsBefore self.old self.new) }
         ensures free { takes_no_memory event ≡ true → IsOk result }
@@ -117,7 +112,7 @@ impl Model for KitCore {
 
     ghost view = { λ c. record { setup = c.setup; journal = c.book.journal; broken = c.broken } };
 
-    ghost invariant = { λ c. IsBook c.setup c.book };
+    ghost invariant = { λ c. IsBook c.setup c.book × (c.book.kept ≡ c.setup.kept) };
 }
 
 impl KitCore {
@@ -127,7 +122,7 @@ impl KitCore {
         ensures journal { IfOk result (λ c. c.journal ≡ Say 0 (codes "VERSION 1") ∷ []) }
         ensures whole { IfOk result (λ c. c.broken ≡ false) }
     {
-        let book = Book::new(alloc)?;
+        let book = Book::new(alloc, setup.kept)?;
         Ok(KitCore {
             setup,
             book,
@@ -140,7 +135,7 @@ impl KitCore {
     pub fn len(&self) -> u64
         ensures { result ≡ length self.now.journal }
     {
-        self.book.journal.view().len() as u64
+        self.book.journal.len()
     }
 
     /// The bells of the passes whom the last event may concern, a bit for each.
@@ -173,13 +168,14 @@ impl KitCore {
     pub fn lacks(&self) -> bool
         ensures { result ≡ list_any is_lack self.now.journal }
     {
-        self.book.journal.view().iter().any(|entry| is_lack(entry))
+        self.book.journal.lacks()
     }
 
     /// What didn't change, and its journal, which is legal. It takes no memory.
     pub fn close(self) -> (Setup, Entries)
         ensures setup { result.0 ≡ self.setup }
         ensures journal { result.1.entries ≡ self.journal }
+        ensures kept { result.1.kept ≡ self.setup.kept }
         ensures legal { Legal result.0 result.1.entries }
     {
         (self.setup, self.book.journal)

@@ -3,8 +3,8 @@ ghost use Rattle.std.specs.Prelude.{◌≡◌};
 
 use crate::machine::KitCore;
 use ann_key::NoMemory;
-use hall::Held;
 use kit_async_model::{Entry, Event, Reply, Setup};
+use threads::Held;
 
 impl Held for KitCore {
     ghost use Rattle.kit_async_model.specs.Events.{MayStep, IsMadeBy, IsFree};

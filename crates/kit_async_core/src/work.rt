@@ -1,6 +1,6 @@
 // The steps of a remote: what it takes up, and what it says.
 ghost use Rattle.std.specs.Prelude.{◌≡◌, ◌⊎◌, ◌<◌, ◌≤◌, ◌+◌, ◌^◌, IfOk, IfSome, OnErr, false, true, not, ◌&&◌, length, remove, slice_get};
-ghost use Rattle.kit_core.specs.Calls.{is_line_said};
+ghost use Rattle.kit_serve.specs.Kit.Calls.{is_line_said};
 ghost use Rattle.kit_async_model.specs.Books.{Took, Lacked, BookIsAsBefore, AreApart, room_owed, IsAnswer, IsCalledAt, CallNoted, AnswerBegun};
 ghost use Rattle.kit_async_model.specs.Legality.{is_idle};
 ghost use Rattle.kit_async_model.specs.Events.{take_step, call_step, work_in};
@@ -12,7 +12,7 @@ use ann_key::{Bytes, NoMemory};
 use kit_async_model::due::job_line;
 use kit_async_model::jobs::{called, first_free, is_idle, turn_of};
 use kit_async_model::{Entry, Job, Reply, Setup};
-use kit_core::Said;
+use kit_serve::kit::Said;
 use std::alloc::Global;
 
 // No line ends in what the remote said.
@@ -46,6 +46,7 @@ impl Book {
     /// The remote has nothing to do: it gets ready where it is its turn, or takes up the first request that it may.
     pub(crate) fn take(&mut self, setup: &Setup, remote: u32) -> Result<Reply, NoMemory>
         requires apart { AreApart self.old.stands.jobs }
+        ensures kept { self.new.kept ≡ self.old.kept }
         ensures ok { IfOk result (Took setup.now self.old self.new (take_step setup.now self.old.stands remote)) }
         ensures err { OnErr result (BookIsAsBefore self.old self.new) }
     {
@@ -93,7 +94,8 @@ impl Book {
     fn note_call(&mut self, setup: &Setup, remote: u32, said: Said, at: usize)
         requires room { 0 < self.old.room }
         requires is { IsCalledAt setup.now self.old.stands remote said at }
-        ensures { CallNoted setup.now self.old self.new remote said at }
+        ensures kept { self.new.kept ≡ self.old.kept }
+        ensures noted { CallNoted setup.now self.old self.new remote said at }
     {
         let job = &self.jobs[at];
         let number = job.number;
@@ -124,7 +126,8 @@ impl Book {
     // The answer, among the lines that are to be written.
     fn begin_answer(&mut self, at: usize, said: &Said) -> Option<Bytes>
         requires at { at < length self.old.stands.jobs }
-        ensures { AnswerBegun self.old self.new at said.now result }
+        ensures kept { self.new.kept ≡ self.old.kept }
+        ensures begun { AnswerBegun self.old self.new at said.now result }
     {
         let Ok((line, copy)) = self.answer(at, said) else {
             return None;
@@ -147,6 +150,7 @@ impl Book {
     // The job at that place is closed. If it left the kit prepared, its values are told of from now on.
     fn close_job(&mut self, at: usize)
         requires { at < length self.old.stands.jobs }
+        ensures kept { self.new.kept ≡ self.old.kept }
         ensures journal { self.new.journal ≡ self.old.journal }
         ensures room { self.new.room ≡ self.old.room }
         ensures stands { IfSome (slice_get self.old.stands.jobs at)
@@ -165,7 +169,8 @@ impl Book {
         requires is { IsCalledAt setup.now self.old.stands remote said at }
         requires live { self.old.stands.over ≡ false }
         requires settles { IfSome (slice_get self.old.stands.jobs at) (λ job. settles setup.now job said ≡ true) }
-        ensures { Took setup.now self.old self.new (call_step setup.now self.old.stands remote said) result
+        ensures kept { self.new.kept ≡ self.old.kept }
+        ensures took { Took setup.now self.old self.new (call_step setup.now self.old.stands remote said) result
             ⊎ Lacked setup.now self.old self.new (call_step setup.now self.old.stands remote said) result }
     {
         let answer = self.begin_answer(at, &said);
@@ -190,7 +195,8 @@ impl Book {
         requires apart { AreApart self.old.stands.jobs }
         requires room { room_owed setup.now self.old.stands ≤ self.old.room }
         requires remote { remote < setup.now.remotes }
-        ensures { Took setup.now self.old self.new (call_step setup.now self.old.stands remote said) result
+        ensures kept { self.new.kept ≡ self.old.kept }
+        ensures took { Took setup.now self.old self.new (call_step setup.now self.old.stands remote said) result
             ⊎ Lacked setup.now self.old self.new (call_step setup.now self.old.stands remote said) result }
     {
         if !is_line_said(&said) {

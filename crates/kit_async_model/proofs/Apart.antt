@@ -3,8 +3,8 @@ use Rattle.std.proofs.Common.{◌≡◌, ℕ, List, [], ◌∷◌, ◌++◌, ref
 use Rattle.std.specs.Prelude.{◌&&◌, ◌||◌, filter, fold}
 use Rattle.std.specs.List.{list_any}
 use Rattle.annex_model.specs.Messages.{HostMessage, host_reading}
-use Rattle.kit_core.specs.declared.call.Said.{Said}
-use Rattle.kit_core.specs.Kits.{is_error, is_unexpected, is_readying}
+use Rattle.kit_serve.specs.declared.kit.call.Said.{Said}
+use Rattle.kit_serve.specs.Kit.Kits.{is_error, is_unexpected, is_readying}
 use Rattle.kit_async_model.specs.declared.setup.Setup.{Setup}
 use Rattle.kit_async_model.specs.declared.job.Job.{Job}
 use Rattle.kit_async_model.specs.declared.entry.Entry.{Entry}
@@ -12,7 +12,7 @@ use Rattle.kit_async_model.specs.declared.entry.Entry.TheVariants.{Heard, Take, 
 use Rattle.kit_async_model.specs.declared.hearing.Hearing.{Hearing}
 use Rattle.kit_async_model.specs.declared.hearing.Hearing.TheVariants.{Foul, Unexpected, Aside, Asks, Replies}
 use Rattle.kit_async_model.specs.Jobs.{has_number, job_of, with_job, is_awaiting, settles}
-use Rattle.kit_async_model.specs.Hearings.{parted, is_export, message_heard, strange_heard, reading_heard, text_heard, answers_strange, part_heard, hearing_of, awaits_in, is_open, has_some, text_in, value_told}
+use Rattle.kit_async_model.specs.Hearings.{parted, is_export, message_heard, strange_heard, reading_heard, text_heard, part_heard, hearing_of, awaits_in, is_open, has_some, text_in, value_told}
 use Rattle.kit_async_model.specs.Standings.{Standing, opening, new_job, with_value, with_taken, with_call, called_in, is_some_due, said_in, heard_as, after, standing}
 use Rattle.kit_async_model.specs.Books.{AreApart}
 use Rattle.kit_async_model.proofs.Places.{none_open}
@@ -37,20 +37,20 @@ asks_message a o b number n m e =
     ((neither o (is_readying (Some m) && b) four.0).0, is)
 
 -- so does a line that spells no message
-asks_strange : (x o : Bool) (number n : ℕ) → strange_heard x o number ≡ Asks n → (o ≡ false) × (number ≡ n)
-asks_strange true false number n e = let last : Asks number ≡ Asks n = e in (refl, cc)
-asks_strange true true number n e = absurd cc
-asks_strange false o number n e = absurd cc
+asks_strange : (a o : Bool) (number n : ℕ) → strange_heard a o number ≡ Asks n → (o ≡ false) × (number ≡ n)
+asks_strange false false number n e = let last : Asks number ≡ Asks n = e in (refl, cc)
+asks_strange false true number n e = absurd cc
+asks_strange true o number n e = absurd cc
 
-asks_reading : (x a o b : Bool) (number n : ℕ) (m : Option HostMessage) → reading_heard x a o b number m ≡ Asks n → (o ≡ false) × (number ≡ n)
-asks_reading x a o b number n None e = asks_strange x o number n e
-asks_reading x a o b number n (Some m) e = asks_message a o b number n m e
+asks_reading : (a o b : Bool) (number n : ℕ) (m : Option HostMessage) → reading_heard a o b number m ≡ Asks n → (o ≡ false) × (number ≡ n)
+asks_reading a o b number n None e = asks_strange a o number n e
+asks_reading a o b number n (Some m) e = asks_message a o b number n m e
 
-asks_text : (x a o b : Bool) (number n : ℕ) (text : List ℕ) → text_heard x a o b number text ≡ Asks n → (o ≡ false) × (number ≡ n)
-asks_text x a o b number n text e = go (is_export text) refl e
+asks_text : (a o b : Bool) (number n : ℕ) (text : List ℕ) → text_heard a o b number text ≡ Asks n → (o ≡ false) × (number ≡ n)
+asks_text a o b number n text e = go (is_export text) refl e
   where
-    go : (t : Bool) → is_export text ≡ t → cond t (cond a Unexpected Aside) (reading_heard x a o b number (host_reading text)) ≡ Asks n → (o ≡ false) × (number ≡ n)
-    go false h k = asks_reading x a o b number n (host_reading text) k
+    go : (t : Bool) → is_export text ≡ t → cond t (cond a Unexpected Aside) (reading_heard a o b number (host_reading text)) ≡ Asks n → (o ≡ false) × (number ≡ n)
+    go false h k = asks_reading a o b number n (host_reading text) k
     go true h k = none a k
       where
         none : (t : Bool) → cond t Unexpected Aside ≡ Asks n → (o ≡ false) × (number ≡ n)
@@ -70,7 +70,7 @@ asks_new setup jobs tagged line n e = go (parted tagged line) e
     go : (o : Option (ℕ × List ℕ)) → part_heard setup jobs o ≡ Asks n → list_any (has_number n) jobs ≡ false
     go None k = absurd cc
     go (Some t) k =
-        let is = asks_text (answers_strange setup) (awaits_in setup (job_of jobs t.0)) (is_open (job_of jobs t.0)) (has_some jobs) t.0 n t.1 k in
+        let is = asks_text (awaits_in setup (job_of jobs t.0)) (is_open (job_of jobs t.0)) (has_some jobs) t.0 n t.1 k in
         none_open n jobs (subst (λ (m : ℕ). job_of jobs m ≡ None) is.1 (not_open jobs t.0 is.0))
 
 -- A value comes for a job that awaits one.
@@ -89,24 +89,24 @@ replies_message a o b number n m e =
     go false h k = absurd (last (o || (is_readying (Some m) && b)) k)
 
 -- none comes as a line that spells no message
-replies_strange : (x o : Bool) (number n : ℕ) → strange_heard x o number ≡ Replies n → ⊥
-replies_strange true false number n e = absurd cc
-replies_strange true true number n e = absurd cc
-replies_strange false o number n e = absurd cc
+replies_strange : (a o : Bool) (number n : ℕ) → strange_heard a o number ≡ Replies n → ⊥
+replies_strange false false number n e = absurd cc
+replies_strange false true number n e = absurd cc
+replies_strange true o number n e = absurd cc
 
-replies_reading : (x a o b : Bool) (number n : ℕ) (m : Option HostMessage) → reading_heard x a o b number m ≡ Replies n → (a ≡ true) × (number ≡ n)
-replies_reading x a o b number n None e = absurd (replies_strange x o number n e)
-replies_reading x a o b number n (Some m) e = replies_message a o b number n m e
+replies_reading : (a o b : Bool) (number n : ℕ) (m : Option HostMessage) → reading_heard a o b number m ≡ Replies n → (a ≡ true) × (number ≡ n)
+replies_reading a o b number n None e = absurd (replies_strange a o number n e)
+replies_reading a o b number n (Some m) e = replies_message a o b number n m e
 
-replies_text : (x a o b : Bool) (number n : ℕ) (text : List ℕ) → text_heard x a o b number text ≡ Replies n → (a ≡ true) × (number ≡ n)
-replies_text x a o b number n text e = go (is_export text) e
+replies_text : (a o b : Bool) (number n : ℕ) (text : List ℕ) → text_heard a o b number text ≡ Replies n → (a ≡ true) × (number ≡ n)
+replies_text a o b number n text e = go (is_export text) e
   where
     none : (t : Bool) → cond t Unexpected Aside ≡ Replies n → (a ≡ true) × (number ≡ n)
     none true l = absurd cc
     none false l = absurd cc
 
-    go : (t : Bool) → cond t (cond a Unexpected Aside) (reading_heard x a o b number (host_reading text)) ≡ Replies n → (a ≡ true) × (number ≡ n)
-    go false k = replies_reading x a o b number n (host_reading text) k
+    go : (t : Bool) → cond t (cond a Unexpected Aside) (reading_heard a o b number (host_reading text)) ≡ Replies n → (a ≡ true) × (number ≡ n)
+    go false k = replies_reading a o b number n (host_reading text) k
     go true k = none a k
 
 pub record Awaits (setup : Setup) (jobs : List Job) (n : ℕ) : Type 0 where
@@ -127,7 +127,7 @@ replies_awaited setup jobs tagged line n e = go (parted tagged line) e
     go : (o : Option (ℕ × List ℕ)) → part_heard setup jobs o ≡ Replies n → Awaits setup jobs n
     go None k = absurd cc
     go (Some t) k =
-        let is = replies_text (answers_strange setup) (awaits_in setup (job_of jobs t.0)) (is_open (job_of jobs t.0)) (has_some jobs) t.0 n t.1 k in
+        let is = replies_text (awaits_in setup (job_of jobs t.0)) (is_open (job_of jobs t.0)) (has_some jobs) t.0 n t.1 k in
         subst (λ (m : ℕ). Awaits setup jobs m) is.1 (awaits_some setup jobs t.0 is.0)
 
 -- ---- lists of jobs

@@ -4,8 +4,8 @@ use Rattle.std.specs.Prelude.{◌&&◌, ◌||◌, find, filter, fold, nat_lt}
 use Rattle.std.specs.List.{list_any}
 use Rattle.std.proofs.lemmas.Bool.Decides.{nat_tests}
 use Rattle.annex_model.specs.Messages.{HostMessage, host_reading}
-use Rattle.kit_core.specs.declared.call.Said.{Said}
-use Rattle.kit_core.specs.Kits.{is_error, is_unexpected, is_readying}
+use Rattle.kit_serve.specs.declared.kit.call.Said.{Said}
+use Rattle.kit_serve.specs.Kit.Kits.{is_error, is_unexpected, is_readying}
 use Rattle.kit_async_model.specs.declared.setup.Setup.{Setup}
 use Rattle.kit_async_model.specs.declared.job.Job.{Job}
 use Rattle.kit_async_model.specs.declared.entry.Entry.{Entry}
@@ -13,7 +13,7 @@ use Rattle.kit_async_model.specs.declared.entry.Entry.TheVariants.{Heard, Take, 
 use Rattle.kit_async_model.specs.declared.hearing.Hearing.{Hearing}
 use Rattle.kit_async_model.specs.declared.hearing.Hearing.TheVariants.{Foul, Unexpected, Aside, Asks, Replies}
 use Rattle.kit_async_model.specs.Jobs.{is_making_ready, is_awaiting, is_worked_by, has_number, job_of, with_job, settles}
-use Rattle.kit_async_model.specs.Hearings.{parted, text_by, is_export, message_heard, reading_heard, text_heard, answers_strange, part_heard, hearing_of, awaits_in, is_open, has_some, text_in, value_told}
+use Rattle.kit_async_model.specs.Hearings.{parted, text_by, is_export, message_heard, reading_heard, text_heard, part_heard, hearing_of, awaits_in, is_open, has_some, text_in, value_told}
 use Rattle.kit_async_model.specs.Legality.{is_idle, some_job, is_turn_of, is_called}
 use Rattle.kit_async_model.specs.Standings.{Standing, opening, new_job, with_value, with_taken, with_call, called_in, is_some_due, said_in, heard_as, after, standing}
 use Rattle.kit_async_model.specs.Books.{AreApart}
@@ -167,24 +167,24 @@ alone_message a o b number n m e =
     let four = skip (o || (is_readying (Some m) && b)) Unexpected (Asks number) (Asks n) (λ (k : Unexpected ≡ Asks n). absurd cc) three.1 in
     (neither o (is_readying (Some m) && b) four.0).1
 
-alone_reading : (x a o b : Bool) (number n : ℕ) (m : Option HostMessage) → reading_heard x a o b number m ≡ Asks n → (is_readying m && b) ≡ false
-alone_reading x a o b number n None e = refl
-alone_reading x a o b number n (Some m) e = alone_message a o b number n m e
+alone_reading : (a o b : Bool) (number n : ℕ) (m : Option HostMessage) → reading_heard a o b number m ≡ Asks n → (is_readying m && b) ≡ false
+alone_reading a o b number n None e = refl
+alone_reading a o b number n (Some m) e = alone_message a o b number n m e
 
-alone_text : (x a o b : Bool) (number n : ℕ) (text : List ℕ) → text_heard x a o b number text ≡ Asks n → (is_readying (host_reading text) && b) ≡ false
-alone_text x a o b number n text e = go (is_export text) e
+alone_text : (a o b : Bool) (number n : ℕ) (text : List ℕ) → text_heard a o b number text ≡ Asks n → (is_readying (host_reading text) && b) ≡ false
+alone_text a o b number n text e = go (is_export text) e
   where
     none : (t : Bool) → cond t Unexpected Aside ≡ Asks n → (is_readying (host_reading text) && b) ≡ false
     none true l = absurd cc
     none false l = absurd cc
 
-    go : (t : Bool) → cond t (cond a Unexpected Aside) (reading_heard x a o b number (host_reading text)) ≡ Asks n → (is_readying (host_reading text) && b) ≡ false
-    go false k = alone_reading x a o b number n (host_reading text) k
+    go : (t : Bool) → cond t (cond a Unexpected Aside) (reading_heard a o b number (host_reading text)) ≡ Asks n → (is_readying (host_reading text) && b) ≡ false
+    go false k = alone_reading a o b number n (host_reading text) k
     go true k = none a k
 
 alone_part : (setup : Setup) (jobs : List Job) (n : ℕ) (o : Option (ℕ × List ℕ)) → part_heard setup jobs o ≡ Asks n → (is_readying (host_reading (text_by o)) && has_some jobs) ≡ false
 alone_part setup jobs n None k = absurd cc
-alone_part setup jobs n (Some t) k = alone_text (answers_strange setup) (awaits_in setup (job_of jobs t.0)) (is_open (job_of jobs t.0)) (has_some jobs) t.0 n t.1 k
+alone_part setup jobs n (Some t) k = alone_text (awaits_in setup (job_of jobs t.0)) (is_open (job_of jobs t.0)) (has_some jobs) t.0 n t.1 k
 
 first_changed : (n : ℕ) (change : Job → Job) → ((x : Job) → is_making_ready (change x) ≡ is_making_ready x) → (jobs : List Job) → FirstReady jobs → FirstReady (with_job n change jobs)
 first_changed n change same [] h = refl

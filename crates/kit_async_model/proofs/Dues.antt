@@ -6,8 +6,8 @@ use Rattle.std.proofs.lemmas.Str.{IsUtf8-nil, is_utf8-from_IsUtf8}
 use Rattle.annex_model.specs.Messages.{RemoteMessage, remote_line, HostMessage, AskExtensions, Prepare, Initremote, Transfer, Checkpresent, Remove, Listconfigs, Getcost, Getavailability, Getinfo, Whereis, Exportsupported, Export, Transferexport, Checkpresentexport, Removeexport, Renameexport, Value, Creds, HostError, IsAskable, IsSayable}
 use Rattle.wire_msg.specs.declared.remote.RemoteMsg.{RemoteMsg}
 use Rattle.wire_msg.specs.Shown.{remote_shown}
-use Rattle.kit_core.specs.declared.call.Said.TheVariants.{Failure}
-use Rattle.kit_core.specs.Kits.{Due, Silence, Line, Asks, asked_by, final_line, refusal, work_due}
+use Rattle.kit_serve.specs.declared.kit.call.Said.TheVariants.{Failure}
+use Rattle.kit_serve.specs.Kit.Kits.{Due, Silence, Line, Asks, asked_by, final_line, refusal, work_due}
 use Rattle.kit_async_model.specs.declared.due.Due.{Due as CodeDue}
 use Rattle.kit_async_model.specs.declared.due.Due.TheVariants.{Silence as NoDue, Line as LineDue, Call as CallDue}
 use Rattle.kit_async_model.specs.Abouts.{lines_by}

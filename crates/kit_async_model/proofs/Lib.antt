@@ -1,5 +1,6 @@
 pub mod Apart
 pub mod Askings
+pub mod Calling
 pub mod Dues
 pub mod FactLines
 pub mod Fronts
@@ -10,4 +11,6 @@ pub mod Places
 pub mod Smalls
 pub mod Stepping
 pub mod Unwritten
+pub mod Walks
 pub mod Across
+pub mod MeaningLemmas

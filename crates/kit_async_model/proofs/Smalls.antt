@@ -7,8 +7,8 @@ use Rattle.ann_key.specs.Numbers.{is_digit, value_of}
 use Rattle.annex_model.specs.Messages.{HostMessage, host_reading}
 use Rattle.annex_model.specs.Tags.{untag}
 use Rattle.annex_model.proofs.TagReadings.{tagged_of_read}
-use Rattle.kit_core.specs.declared.call.Said.{Said}
-use Rattle.kit_core.specs.Kits.{is_error, is_unexpected, is_readying}
+use Rattle.kit_serve.specs.declared.kit.call.Said.{Said}
+use Rattle.kit_serve.specs.Kit.Kits.{is_error, is_unexpected, is_readying}
 use Rattle.kit_async_model.specs.declared.setup.Setup.{Setup}
 use Rattle.kit_async_model.specs.declared.job.Job.{Job}
 use Rattle.kit_async_model.specs.declared.entry.Entry.{Entry}
@@ -16,7 +16,7 @@ use Rattle.kit_async_model.specs.declared.entry.Entry.TheVariants.{Heard, Take, 
 use Rattle.kit_async_model.specs.declared.hearing.Hearing.{Hearing}
 use Rattle.kit_async_model.specs.declared.hearing.Hearing.TheVariants.{Foul, Unexpected, Aside, Asks, Replies}
 use Rattle.kit_async_model.specs.Jobs.{has_number, job_of, with_job, is_awaiting, lines_in, settles}
-use Rattle.kit_async_model.specs.Hearings.{nonzero, parted, is_export, message_heard, strange_heard, reading_heard, text_heard, answers_strange, part_heard, hearing_of, awaits_in, is_open, has_some, text_in, value_told}
+use Rattle.kit_async_model.specs.Hearings.{nonzero, parted, is_export, message_heard, strange_heard, reading_heard, text_heard, part_heard, hearing_of, awaits_in, is_open, has_some, text_in, value_told}
 use Rattle.kit_async_model.specs.Standings.{Standing, opening, new_job, with_value, with_taken, with_call, due_of, answer_due, called_in, is_some_due, said_in, heard_as, after, standing}
 use Rattle.std.proofs.lemmas.Bool.{eqb-true as equal_number, and_parts as both}
 
@@ -73,20 +73,20 @@ message_small a o b n m h =
     (if_small a (Replies n) _ h
     (if_small (o || (is_readying (Some m) && b)) Unexpected (Asks n) tt h)))
 
-strange_small : (x o : Bool) (n : ℕ) → n < 2 ^ 64 → SmallHearing (strange_heard x o n)
-strange_small x o n h = if_small (x && not o) (Asks n) Foul h tt
+strange_small : (a o : Bool) (n : ℕ) → n < 2 ^ 64 → SmallHearing (strange_heard a o n)
+strange_small a o n h = if_small a Foul _ tt (if_small o Unexpected (Asks n) tt h)
 
-reading_small : (x a o b : Bool) (n : ℕ) (m : Option HostMessage) → n < 2 ^ 64 → SmallHearing (reading_heard x a o b n m)
-reading_small x a o b n None h = strange_small x o n h
-reading_small x a o b n (Some m) h = message_small a o b n m h
+reading_small : (a o b : Bool) (n : ℕ) (m : Option HostMessage) → n < 2 ^ 64 → SmallHearing (reading_heard a o b n m)
+reading_small a o b n None h = strange_small a o n h
+reading_small a o b n (Some m) h = message_small a o b n m h
 
-text_small : (x a o b : Bool) (n : ℕ) (text : List ℕ) → n < 2 ^ 64 → SmallHearing (text_heard x a o b n text)
-text_small x a o b n text h =
-    if_small (is_export text) (cond a Unexpected Aside) _ (if_small a Unexpected Aside tt tt) (reading_small x a o b n (host_reading text) h)
+text_small : (a o b : Bool) (n : ℕ) (text : List ℕ) → n < 2 ^ 64 → SmallHearing (text_heard a o b n text)
+text_small a o b n text h =
+    if_small (is_export text) (cond a Unexpected Aside) _ (if_small a Unexpected Aside tt tt) (reading_small a o b n (host_reading text) h)
 
 part_small : (setup : Setup) (jobs : List Job) (o : Option (ℕ × List ℕ)) → SmallPart o → SmallHearing (part_heard setup jobs o)
 part_small setup jobs None h = tt
-part_small setup jobs (Some t) h = text_small (answers_strange setup) (awaits_in setup (job_of jobs t.0)) (is_open (job_of jobs t.0)) (has_some jobs) t.0 t.1 h
+part_small setup jobs (Some t) h = text_small (awaits_in setup (job_of jobs t.0)) (is_open (job_of jobs t.0)) (has_some jobs) t.0 t.1 h
 
 pub hearing_small : (setup : Setup) (jobs : List Job) (tagged : Bool) (line : List ℕ) → SmallHearing (hearing_of setup jobs tagged line)
 hearing_small setup jobs tagged line = part_small setup jobs (parted tagged line) (parted_small tagged line)

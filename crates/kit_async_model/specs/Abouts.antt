@@ -1,9 +1,9 @@
 -- What a kit says of its remotes: the lines that answer a host which asks about them, read once from the first of them.
 use Rattle.std.specs.Prelude.{ℕ, List, [], ◌∷◌, ◌++◌, map, slice_get, Option, Some, None}
 use Rattle.annex_model.specs.Messages.{HostMessage, Listconfigs, Getcost, Getavailability, Getinfo, UnsupportedRequest, Infofield, Infovalue, Infoend, remote_line}
-use Rattle.kit_core.specs.declared.describe.Pair.{Pair}
-use Rattle.kit_core.specs.Descriptions.{Description, aside_lines}
-use Rattle.kit_core.specs.Kits.{Due, Silence, Line, Asks}
+use Rattle.kit_serve.specs.declared.kit.describe.Pair.{Pair}
+use Rattle.kit_serve.specs.Kit.Descriptions.{Description, aside_lines}
+use Rattle.kit_serve.specs.Kit.Kits.{Due, Silence, Line, Asks}
 use Rattle.kit_async_model.specs.declared.about.About.{About}
 use Rattle.kit_async_model.specs.declared.about.Fact.{Fact}
 use Rattle.kit_async_model.specs.declared.about.Fact.TheVariants.{Fixed, Setting}
@@ -39,10 +39,8 @@ ended (line ∷ lines) = (line ∷ lines) ++ remote_line Infoend ∷ []
 
 -- ---- answers
 
--- What it says to a request about the remotes; nothing to a line that spells no message. Any other request is none about them, and nor
--- is WHEREIS: its answer depends on the key.
+-- What it says to a request about the remotes. Any other line is none about them, and nor is WHEREIS: its answer depends on the key.
 abbrev pub told_of : About → List (List ℕ) → Option HostMessage → Option (List (List ℕ))
-told_of about told None = Some []
 told_of about told (Some Listconfigs) = Some about.configs
 told_of about told (Some Getcost) = Some about.cost
 told_of about told (Some Getavailability) = Some about.availability

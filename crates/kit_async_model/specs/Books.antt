@@ -2,8 +2,8 @@
 use Rattle.std.specs.Prelude.{ℕ, ◌≡◌, ◌⊎◌, ◌+◌, ◌-◌, ◌*◌, ◌≤◌, ◌<◌, Bool, true, false, if◌then◌else◌, List, [], ◌∷◌, ◌++◌, fold, find, set, length, slice_get, Option, Some, None, IfSome}
 use Rattle.std.specs.List.{list_any}
 use Rattle.annex_model.specs.Messages.{host_reading}
-use Rattle.kit_core.specs.declared.call.Said.{Said}
-use Rattle.kit_core.specs.Calls.{is_line_said}
+use Rattle.kit_serve.specs.declared.kit.call.Said.{Said}
+use Rattle.kit_serve.specs.Kit.Calls.{is_line_said}
 use Rattle.kit_async_model.specs.declared.setup.Setup.{Setup}
 use Rattle.kit_async_model.specs.declared.job.Job.{Job}
 use Rattle.kit_async_model.specs.declared.entry.Entry.{Entry}
@@ -17,8 +17,9 @@ use Rattle.kit_async_model.specs.Standings.{Standing, new_job, with_call, after,
 use Rattle.kit_async_model.specs.Legality.{Legal, is_called}
 use Rattle.kit_async_model.specs.Events.{Stepped, IsUnsaid, event_step, is_call}
 
--- the entries, for how many more there is room, and how a kit stands after them
+-- whether the entries are kept, they, for how many more there is room, and how a kit stands after them
 pub record BookValue : Type 0 where
+  pub kept : Bool
   pub journal : List Entry
   pub room : ℕ
   pub stands : Standing

@@ -1,14 +1,14 @@
 -- The calls that a journal has, and what a remote is to be called for.
 use Rattle.std.specs.Prelude.{ℕ, ◌≡◌, ◌==◌, nat_lt, true, if◌then◌else◌, List, [], ◌∷◌, ◌++◌, find, Option, Some, None}
-use Rattle.kit_core.specs.declared.call.Said.{Said}
-use Rattle.kit_core.specs.declared.call.Call.{Call as RemoteCall}
-use Rattle.kit_core.specs.declared.call.Asked.{Asked}
-use Rattle.kit_core.specs.Kits.{asked_by}
+use Rattle.kit_serve.specs.declared.kit.call.Said.{Said}
+use Rattle.kit_serve.specs.declared.kit.call.Call.{Call as RemoteCall}
+use Rattle.kit_serve.specs.declared.kit.call.Asked.{Asked}
+use Rattle.kit_serve.specs.Kit.Kits.{asked_by}
 use Rattle.kit_async_model.specs.declared.setup.Setup.{Setup}
 use Rattle.kit_async_model.specs.declared.job.Job.{Job}
 use Rattle.kit_async_model.specs.declared.entry.Entry.{Entry}
 use Rattle.kit_async_model.specs.declared.entry.Entry.TheVariants.{Call}
-use Rattle.kit_async_model.specs.Jobs.{due_in, job_of}
+use Rattle.kit_async_model.specs.Jobs.{due_in, work_asked, job_of}
 use Rattle.kit_async_model.specs.Legality.{is_called}
 use Rattle.kit_async_model.specs.Standings.{Standing, opening, after}
 
@@ -38,4 +38,4 @@ pub record IsAsked (setup : Setup) (s : Standing) (remote : ℕ) (asked : Asked)
   pub job : Job
   pub within : nat_lt remote setup.remotes ≡ true
   pub found : find (is_called setup s.jobs remote) s.jobs ≡ Some job
-  pub asks : asked_by (due_in setup job) ≡ Some asked
+  pub asks : work_asked setup job ≡ Some asked

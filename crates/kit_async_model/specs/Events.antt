@@ -1,9 +1,8 @@
 -- What the core of a kit does at one event, for all that its journal says.
 use Rattle.std.specs.Prelude.{ℕ, ◌≡◌, ◌⊎◌, ◌+◌, ◌-◌, ◌≤◌, ◌==◌, ◌&&◌, ◌||◌, not, nat_lt, nat_le, Bool, true, false, if◌then◌else◌, List, [], ◌∷◌, ◌++◌, find, Option, Some, None}
-use Rattle.kit_core.specs.declared.call.Said.{Said}
-use Rattle.kit_core.specs.declared.call.Asked.{Asked}
-use Rattle.kit_core.specs.Calls.{is_line_said}
-use Rattle.kit_core.specs.Kits.{asked_by}
+use Rattle.kit_serve.specs.declared.kit.call.Said.{Said}
+use Rattle.kit_serve.specs.declared.kit.call.Asked.{Asked}
+use Rattle.kit_serve.specs.Kit.Calls.{is_line_said}
 use Rattle.kit_async_model.specs.declared.setup.Setup.{Setup}
 use Rattle.kit_async_model.specs.declared.job.Job.{Job}
 use Rattle.kit_async_model.specs.declared.entry.Entry.{Entry}
@@ -12,7 +11,7 @@ use Rattle.kit_async_model.specs.declared.event.Event.{Event}
 use Rattle.kit_async_model.specs.declared.event.Event.TheVariants.{Hear, Take as TakeUp, Called, Next, Wrote as Written, Close as Deafen, Break}
 use Rattle.kit_async_model.specs.declared.event.Reply.{Reply}
 use Rattle.kit_async_model.specs.declared.event.Reply.TheVariants.{Done, Last, Wait, Over, Odd, Unsaid, Broken, Work, Line}
-use Rattle.kit_async_model.specs.Jobs.{due_in, job_line}
+use Rattle.kit_async_model.specs.Jobs.{work_asked, job_line}
 use Rattle.kit_async_model.specs.Standings.{Standing, after, standing}
 use Rattle.kit_async_model.specs.Legality.{Legal, may_hear, is_idle, is_free, is_turn_of, is_called, is_done}
 
@@ -80,7 +79,7 @@ work_by (Some asked) = Work asked
 
 -- what the job asks of its remote
 abbrev pub work_in : Setup → Job → Reply
-work_in setup job = work_by (asked_by (due_in setup job))
+work_in setup job = work_by (work_asked setup job)
 
 -- the first request that may be taken up, where the remote may take one
 abbrev pub first_free : Setup → Standing → ℕ → Option Job

@@ -1,8 +1,8 @@
 -- What a line of the host is to a kit, by the jobs that are open.
-use Rattle.std.specs.Prelude.{ℕ, ◌==◌, ◌&&◌, ◌||◌, not, Bool, true, false, if◌then◌else◌, List, [], ◌∷◌, Option, Some, None, is_some, codes, take, drop, bytes_eq}
+use Rattle.std.specs.Prelude.{ℕ, ◌==◌, ◌&&◌, ◌||◌, Bool, true, false, if◌then◌else◌, List, [], ◌∷◌, Option, Some, None, codes, take, drop, bytes_eq}
 use Rattle.annex_model.specs.Messages.{HostMessage, Value, host_reading, is_space}
 use Rattle.annex_model.specs.Tags.{untag}
-use Rattle.kit_core.specs.Kits.{is_error, is_unexpected, is_readying}
+use Rattle.kit_serve.specs.Kit.Kits.{is_error, is_unexpected, is_readying}
 use Rattle.kit_async_model.specs.declared.setup.Setup.{Setup}
 use Rattle.kit_async_model.specs.declared.job.Job.{Job}
 use Rattle.kit_async_model.specs.declared.hearing.Hearing.{Hearing}
@@ -56,22 +56,19 @@ message_heard awaiting opened busy number m =
     else if opened || (is_readying (Some m) && busy) then Unexpected
     else Asks number
 
--- A line that spells no message. Where the kit answers such lines it is a request, unless a job with its number is open.
+-- A line that spells no message is a request that isn't supported. Where a job with its number is open it can't stand there, and where
+-- that job awaits a value it ends the kit with no word.
 abbrev pub strange_heard : Bool → Bool → ℕ → Hearing
-strange_heard answers opened number = if answers && not opened then Asks number else Foul
+strange_heard awaiting opened number = if awaiting then Foul else if opened then Unexpected else Asks number
 
-abbrev pub reading_heard : Bool → Bool → Bool → Bool → ℕ → Option HostMessage → Hearing
-reading_heard answers awaiting opened busy number None = strange_heard answers opened number
-reading_heard answers awaiting opened busy number (Some m) = message_heard awaiting opened busy number m
+abbrev pub reading_heard : Bool → Bool → Bool → ℕ → Option HostMessage → Hearing
+reading_heard awaiting opened busy number None = strange_heard awaiting opened number
+reading_heard awaiting opened busy number (Some m) = message_heard awaiting opened busy number m
 
-abbrev pub text_heard : Bool → Bool → Bool → Bool → ℕ → List ℕ → Hearing
-text_heard answers awaiting opened busy number text =
+abbrev pub text_heard : Bool → Bool → Bool → ℕ → List ℕ → Hearing
+text_heard awaiting opened busy number text =
     if is_export text then (if awaiting then Unexpected else Aside)
-    else reading_heard answers awaiting opened busy number (host_reading text)
-
--- it answers lines that spell no message where it says what its remotes are
-abbrev pub answers_strange : Setup → Bool
-answers_strange setup = is_some setup.about
+    else reading_heard awaiting opened busy number (host_reading text)
 
 abbrev pub awaits_in : Setup → Option Job → Bool
 awaits_in setup None = false
@@ -87,7 +84,7 @@ has_some (job ∷ jobs) = true
 
 abbrev pub part_heard : Setup → List Job → Option (ℕ × List ℕ) → Hearing
 part_heard setup jobs None = Foul
-part_heard setup jobs (Some t) = text_heard (answers_strange setup) (awaits_in setup (job_of jobs t.0)) (is_open (job_of jobs t.0)) (has_some jobs) t.0 t.1
+part_heard setup jobs (Some t) = text_heard (awaits_in setup (job_of jobs t.0)) (is_open (job_of jobs t.0)) (has_some jobs) t.0 t.1
 
 -- the line, by the open jobs and whether lines are tagged
 abbrev pub hearing_of : Setup → List Job → Bool → List ℕ → Hearing

@@ -1,9 +1,11 @@
 -- One job of a kit that serves several at once: what its request makes due, by what was told and called in it so far.
-use Rattle.std.specs.Prelude.{ℕ, ◌+◌, ◌==◌, ◌&&◌, ◌||◌, not, Bool, true, false, if◌then◌else◌, List, [], ◌∷◌, map, filter, find, length, slice_get, slice_index, Option, Some, None, is_some, codes, bytes_eq}
-use Rattle.annex_model.specs.Messages.{Extensions, HostMessage, AskExtensions, Transfer, Checkpresent, Remove, host_reading, remote_line}
+use Rattle.std.specs.Prelude.{ℕ, ◌+◌, ◌==◌, ◌&&◌, ◌||◌, not, Bool, true, false, if◌then◌else◌, List, [], ◌∷◌, map, filter, find, length, slice_get, slice_index, Option, Some, None, option_map, is_some, codes, bytes_eq}
+use Rattle.annex_model.specs.Messages.{Extensions, UnsupportedRequest, HostMessage, AskExtensions, Initremote, Transfer, Checkpresent, Remove, host_reading, remote_line}
 use Rattle.annex_model.specs.Tags.{names_async, untag, tagged_line}
-use Rattle.kit_core.specs.declared.call.Said.{Said}
-use Rattle.kit_core.specs.Kits.{Due, Silence, Line, is_readying, is_prepare, is_yes, work_due, final_line, asked_by}
+use Rattle.kit_serve.specs.declared.kit.call.Said.{Said}
+use Rattle.kit_serve.specs.declared.kit.call.Asked.{Asked}
+use Rattle.kit_serve.specs.declared.kit.call.Asked.TheVariants.{Prepare as AskPrepare, Initialize as AskInitialize}
+use Rattle.kit_serve.specs.Kit.Kits.{Due, Line, is_readying, is_prepare, is_yes, work_due, final_line, asked_by}
 use Rattle.kit_async_model.specs.declared.setup.Setup.{Setup}
 use Rattle.kit_async_model.specs.declared.job.Job.{Job}
 use Rattle.kit_async_model.specs.Abouts.{lines_about}
@@ -54,14 +56,23 @@ abbrev pub spoken : List ℕ → List ℕ
 spoken names = if names_async (Some (Extensions names)) then codes "ASYNC" else []
 
 -- As in a kit that serves one job at a time, but for EXTENSIONS: with the next setting, the values so far, and whether the kit was
--- prepared when the request was heard.
+-- prepared when the request was heard. A line that spells no message is a request that isn't supported.
 abbrev pub request_due : Option (List ℕ) → List (List ℕ) → Bool → Option HostMessage → Due
-request_due next values prepared None = Silence
+request_due next values prepared None = Line UnsupportedRequest
 request_due next values prepared (Some (AskExtensions names)) = Line (Extensions (spoken names))
 request_due next values prepared (Some m) = work_due next values prepared m
 
 abbrev pub due_in : Setup → Job → Due
 due_in setup job = request_due (next_name setup job) job.values job.prepared (request_of job)
+
+-- by which call: a remote is told INITREMOTE from PREPARE, which what is asked of it doesn't say
+abbrev pub asked_as : Option HostMessage → Asked → Asked
+asked_as (Some Initremote) (AskPrepare values) = AskInitialize values
+asked_as request asked = asked
+
+-- what a remote is called for in the job
+abbrev pub work_asked : Setup → Job → Option Asked
+work_asked setup job = option_map (asked_as (request_of job)) (asked_by (due_in setup job))
 
 -- Any one remote is to be asked for it. To get ready, each of them is, in its turn.
 abbrev pub is_for_any : Setup → Job → Bool

@@ -1,8 +1,8 @@
 -- Which journals a kit may have.
 use Rattle.std.specs.Prelude.{ℕ, ◌≡◌, ◌==◌, ◌&&◌, ◌||◌, not, nat_lt, Bool, true, false, if◌then◌else◌, List, [], ◌∷◌, is_none}
 use Rattle.std.specs.List.{list_any, list_all}
-use Rattle.kit_core.specs.declared.call.Said.{Said}
-use Rattle.kit_core.specs.Calls.{is_line_said}
+use Rattle.kit_serve.specs.declared.kit.call.Said.{Said}
+use Rattle.kit_serve.specs.Kit.Calls.{is_line_said}
 use Rattle.kit_async_model.specs.declared.setup.Setup.{Setup}
 use Rattle.kit_async_model.specs.declared.job.Job.{Job}
 use Rattle.kit_async_model.specs.declared.entry.Entry.{Entry}

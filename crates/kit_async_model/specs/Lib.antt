@@ -14,5 +14,6 @@ pub mod Standings
 pub mod Views
 pub use Rattle.annex_model.specs.Messages
 pub use Rattle.annex_model.specs.Tags
-pub use Rattle.kit_core.specs.Kits
+pub use Rattle.kit_serve.specs.Kit.Kits
 pub use Rattle.wire_msg.specs.Shown
+pub mod Meaning

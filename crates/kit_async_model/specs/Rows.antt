@@ -1,6 +1,6 @@
 -- Worked journals of a kit, each of which is legal or isn't.
-use Rattle.std.specs.Prelude.{List, [], ◌∷◌, ◌++◌, Some, None, codes}
-use Rattle.kit_core.specs.declared.call.Said.TheVariants.{Yes, No}
+use Rattle.std.specs.Prelude.{true, List, [], ◌∷◌, ◌++◌, Some, None, codes}
+use Rattle.kit_serve.specs.declared.kit.call.Said.TheVariants.{Yes, No}
 use Rattle.kit_async_model.specs.declared.setup.Setup.{Setup}
 use Rattle.kit_async_model.specs.declared.about.Fact.TheVariants.{Fixed, Setting}
 use Rattle.kit_async_model.specs.declared.entry.Entry.{Entry}
@@ -8,14 +8,15 @@ use Rattle.kit_async_model.specs.declared.entry.Entry.TheVariants.{Heard, Take, 
 
 -- two remotes with one setting, and one without any
 abbrev pub two : Setup
-two = record { settings = codes "directory" ∷ []; remotes = 2; about = None }
+two = record { kept = true; settings = codes "directory" ∷ []; remotes = 2; about = None }
 
 abbrev pub bare : Setup
-bare = record { settings = []; remotes = 1; about = None }
+bare = record { kept = true; settings = []; remotes = 1; about = None }
 
 -- the same two, of which it is known what they say of themselves
 abbrev pub known : Setup
 known = record {
+  kept = true;
   settings = codes "directory" ∷ [];
   remotes = 2;
   about = Some

@@ -2,7 +2,7 @@
 use Rattle.std.specs.Prelude.{ℕ, ◌≡◌, List, []}
 use Rattle.annex_model.specs.Messages.{HostMessage, Transfer, IsSayable}
 use Rattle.wire_msg.specs.Shown.{remote_shown}
-use Rattle.kit_core.specs.Kits.{Due, Silence, Line, Asks}
+use Rattle.kit_serve.specs.Kit.Kits.{Due, Silence, Line, Asks}
 use Rattle.kit_async_model.specs.declared.due.Due.{Due as CodeDue}
 use Rattle.kit_async_model.specs.declared.due.Due.TheVariants.{Silence as NoDue, Line as LineDue, Call as CallDue}
 

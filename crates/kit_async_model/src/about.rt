@@ -1,13 +1,13 @@
 // What a kit says of its remotes.
 ghost use Rattle.std.specs.Prelude.{◌≡◌, ◌++◌, IfOk, OnOk, map, option_copied, option_map, slice_get};
 ghost use Rattle.wire_msg.specs.Shown.{host_shown};
-ghost use Rattle.kit_core.specs.declared.describe.Pair.{Pair};
+ghost use Rattle.kit_serve.specs.declared.kit.describe.Pair.{Pair};
 ghost use Rattle.kit_async_model.specs.declared.about.Fact.TheVariants.{Fixed};
 ghost use Rattle.kit_async_model.specs.Abouts.{about_of, pair_lines, fact_lines, all_facts, ended, told_of, or_unsupported};
 
 use crate::due::one_line;
 use ann_key::{Bytes, NoMemory};
-use kit_core::{Describe, Lines, Pair, aside};
+use kit_serve::kit::{Describe, Lines, Pair, aside};
 use std::alloc::Global;
 use std::marker::Model;
 use wire_msg::{HostMsg, RemoteMsg, write_remote};
@@ -175,8 +175,7 @@ impl About {
         })
     }
 
-    /// The lines that answer the request, if it is one about the remotes, by the values of the settings that the host told. None is a
-    /// line that spells no message.
+    /// The lines that answer the request, if it is one about the remotes, by the values of the settings that the host told.
     pub(crate) fn answer(
         &self,
         alloc: Global,
@@ -186,7 +185,6 @@ impl About {
         ensures { IfOk result (λ lines. lines ≡ option_map or_unsupported (told_of self.now told.now (option_map host_shown request.entry))) }
     {
         let lines = match request {
-            None => return Ok(Some(or_unsupported(alloc, &[])?)),
             Some(HostMsg::Getinfo) => {
                 let lines = info(alloc, told, self.facts.view())?;
                 return Ok(Some(or_unsupported(alloc, lines.as_slice())?));
@@ -194,7 +192,7 @@ impl About {
             Some(HostMsg::Listconfigs) => &self.configs,
             Some(HostMsg::Getcost) => &self.cost,
             Some(HostMsg::Getavailability) => &self.availability,
-            Some(_) => return Ok(None),
+            Some(_) | None => return Ok(None),
         };
         Ok(Some(or_unsupported(alloc, lines.view())?))
     }

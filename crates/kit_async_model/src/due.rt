@@ -4,15 +4,15 @@ ghost use Rattle.std.specs.Str.{is_utf8};
 ghost use Rattle.annex_model.specs.Messages.{Extensions, IsAskable, IsSayable, remote_line};
 ghost use Rattle.annex_model.specs.Tags.{names_async};
 ghost use Rattle.wire_msg.specs.Shown.{host_shown, remote_shown};
-ghost use Rattle.kit_core.specs.Kits.{asked_by, work_due};
+ghost use Rattle.kit_serve.specs.Kit.Kits.{work_due};
 ghost use Rattle.kit_async_model.specs.Abouts.{lines_by};
-ghost use Rattle.kit_async_model.specs.Jobs.{due_in, if_prepared, lines_in, final_in, job_line, is_for_any, key_in, request_of, spoken};
+ghost use Rattle.kit_async_model.specs.Jobs.{due_in, work_asked, if_prepared, lines_in, final_in, job_line, is_for_any, key_in, request_of, spoken};
 ghost use Rattle.kit_async_model.specs.Views.{DueOf, file_of};
 
 use crate::job::Job;
 use crate::setup::Setup;
 use ann_key::{Bytes, Key, NoMemory, Text};
-use kit_core::{Asked, Lines, Said, failed, final_message};
+use kit_serve::kit::{Asked, Lines, Said, failed, final_message};
 use std::alloc::Global;
 use std::str;
 use wire_msg::{HostMsg, RemoteMsg, tag, write_remote};
@@ -86,7 +86,7 @@ impl Job {
         ensures { DueOf result (due_in setup.entry.now self.entry.now) }
     {
         match self.request() {
-            None => Due::Silence,
+            None => Due::Line(RemoteMsg::UnsupportedRequest),
             Some(HostMsg::Extensions(names)) => Due::Line(RemoteMsg::Extensions(spoken(names))),
             Some(HostMsg::Prepare | HostMsg::Initremote | HostMsg::Value(_)) =>
                 match self.next_name(setup) {
@@ -157,17 +157,18 @@ impl Job {
         }
     }
 
-    /// What its remote is asked for, if it is.
+    /// What its remote is called for, if it is.
     pub fn asked(&self, alloc: Global, setup: &Setup) -> Result<Option<Asked>, NoMemory>
-        ensures { IfOk result (λ asked. asked ≡ asked_by (due_in setup.now self.now)) }
+        ensures { IfOk result (λ asked. asked ≡ work_asked setup.now self.now) }
     {
         let Due::Call = self.due(setup) else {
             return Ok(None);
         };
         match self.request() {
-            Some(HostMsg::Prepare | HostMsg::Initremote | HostMsg::Value(_)) => {
+            Some(HostMsg::Prepare | HostMsg::Value(_)) => {
                 Ok(Some(Asked::Prepare(self.values.copy(alloc)?)))
             }
+            Some(HostMsg::Initremote) => Ok(Some(Asked::Initialize(self.values.copy(alloc)?))),
             Some(HostMsg::Transfer(store, key, file)) => {
                 let Ok(file) = str::from_utf8(file) else {
                     return Ok(None);

@@ -1,5 +1,5 @@
 use ann_key::Bytes;
-use kit_core::Said;
+use kit_serve::kit::Said;
 
 /// What happened in a kit, in the order in which it did. Lines are as they stand on the wire, with their tags and without byte 10.
 /// Remotes count from 0. Job 0 is that of a host that doesn't tag its lines.

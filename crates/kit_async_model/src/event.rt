@@ -1,5 +1,5 @@
 use ann_key::Bytes;
-use kit_core::{Asked, Said};
+use kit_serve::kit::{Asked, Said};
 
 /// What a pass tells the core, or asks it. Hear and Close are the reader's, Next and Wrote the writer's, Take and Called a remote's.
 #[derive(Drop)]

@@ -79,26 +79,21 @@ fn message_heard(
     }
 }
 
-// A line that spells no message, where the kit answers such lines or doesn't.
-fn strange_heard(answers: bool, opened: bool, number: u64) -> Hearing
-    ensures { result ≡ strange_heard answers opened number }
+// A line that spells no message, for a job that awaits a value or doesn't, that is open or isn't.
+fn strange_heard(awaiting: bool, opened: bool, number: u64) -> Hearing
+    ensures { result ≡ strange_heard awaiting opened number }
 {
-    if answers && !opened {
-        Hearing::Asks(number)
-    } else {
+    if awaiting {
         Hearing::Foul
+    } else if opened {
+        Hearing::Unexpected
+    } else {
+        Hearing::Asks(number)
     }
 }
 
-fn text_heard(
-    answers: bool,
-    awaiting: bool,
-    opened: bool,
-    busy: bool,
-    number: u64,
-    text: &[u8],
-) -> Hearing
-    ensures { result ≡ text_heard answers awaiting opened busy number text.now }
+fn text_heard(awaiting: bool, opened: bool, busy: bool, number: u64, text: &[u8]) -> Hearing
+    ensures { result ≡ text_heard awaiting opened busy number text.now }
 {
     if is_export(text) {
         return if awaiting {
@@ -109,7 +104,7 @@ fn text_heard(
     }
     match read_host(text) {
         Some(message) => message_heard(awaiting, opened, busy, number, message),
-        None => strange_heard(answers, opened, number),
+        None => strange_heard(awaiting, opened, number),
     }
 }
 
@@ -143,7 +138,6 @@ fn part_heard(setup: &Setup, jobs: &[Job], number: u64, text: &[u8]) -> Hearing
 {
     let job = job_of(jobs, number);
     text_heard(
-        setup.answers_strange(),
         awaits_in(setup, job),
         is_open(job),
         has_some(jobs),

@@ -6,11 +6,11 @@ ghost use Rattle.wire_msg.specs.Shown.{host_shown};
 ghost use Rattle.kit_async_model.specs.Jobs.{request_of, is_making_ready, next_name, is_awaiting, key_in, settles, prepares, prepared_after, is_worked_by};
 ghost use Rattle.kit_async_model.specs.Standings.{new_job};
 ghost use Rattle.kit_async_model.specs.Books.{most_calls};
-ghost use Rattle.kit_core.specs.Kits.{is_readying, is_prepare};
+ghost use Rattle.kit_serve.specs.Kit.Kits.{is_readying, is_prepare};
 
 use crate::setup::Setup;
 use ann_key::{Bytes, KeyRef, NoMemory};
-use kit_core::{Said, Values};
+use kit_serve::kit::{Said, Values};
 use std::alloc::Global;
 use wire_msg::{HostMsg, read_host};
 

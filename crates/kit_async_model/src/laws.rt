@@ -1,6 +1,6 @@
 // Laws over the definitions, each the contract of a function with nothing to do.
 ghost use Rattle.std.specs.Prelude.{◌≡◌, [], ◌∷◌, ◌++◌, codes, true, false};
-ghost use Rattle.kit_core.specs.declared.call.Said.TheVariants.{Yes, No, Failure};
+ghost use Rattle.kit_serve.specs.declared.kit.call.Said.TheVariants.{Yes, No, Failure};
 ghost use Rattle.kit_async_model.specs.declared.entry.Entry.TheVariants.{Heard, Take, Call, Say, Wrote, Close, Lack};
 ghost use Rattle.kit_async_model.specs.Laws.{FrontsAreLegal, OverIsLast, UnwrittenAre, StepsAreLegal, StepsAreMade};
 ghost use Rattle.kit_async_model.specs.Legality.{is_legal, is_done};
@@ -126,9 +126,20 @@ pub fn worked_strangers()
     ensures strange { is_legal known (ready ++ strange ∷ unsupported ∷ check_a ∷ []) ≡ true }
     ensures strange_again { is_legal known (ready ++ strange ∷ unsupported ∷ strange ∷ unsupported ∷ []) ≡ true }
     ensures strange_awaited { (standing known (asking ++ Heard (codes "J 1 CLAIMURL http://a") ∷ [])).over ≡ true }
-    ensures strange_open { is_legal known (ready ++ check_a ∷ Heard (codes "J 2 CLAIMURL http://a") ∷ Say 2 (codes "J 2 UNSUPPORTED-REQUEST") ∷ []) ≡ false }
-    ensures strange_unknown { is_legal two (ready ++ strange ∷ unsupported ∷ []) ≡ false }
-    ensures strange_ends { (standing two (ready ++ strange ∷ [])).over ≡ true }
+    ensures strange_untold { is_legal two (ready ++ strange ∷ unsupported ∷ strange ∷ unsupported ∷ check_a ∷ []) ≡ true }
+    ensures strange_unanswered { is_legal two (ready ++ strange ∷ check_a ∷ []) ≡ false }
+{}
+
+/// Lines that spell no message: for an open job they are unexpected, while a value is awaited they end the kit with no word, and a
+/// host that tags no line is answered too.
+pub fn worked_strange_lines()
+    ensures open { is_legal two (ready ++ check_a ∷ Heard (codes "J 2 CLAIMURL http://a") ∷ error ∷ []) ≡ true }
+    ensures open_answered { is_legal two (ready ++ check_a ∷ Heard (codes "J 2 CLAIMURL http://a") ∷ Say 2 (codes "J 2 UNSUPPORTED-REQUEST") ∷ []) ≡ false }
+    ensures awaited { (standing two (asking ++ Heard (codes "J 1 CLAIMURL http://a") ∷ [])).over ≡ true }
+    ensures awaited_word { is_legal two (asking ++ Heard (codes "J 1 CLAIMURL http://a") ∷ error ∷ []) ≡ false }
+    ensures beside { is_legal two (asking ++ strange ∷ unsupported ∷ Heard (codes "J 1 VALUE d") ∷ []) ≡ true }
+    ensures untagged { is_legal two (plain ++ Heard (codes "CLAIMURL http://a") ∷ Say 0 (codes "UNSUPPORTED-REQUEST") ∷ plain_check ∷ []) ≡ true }
+    ensures no_tag { (standing two (ready ++ Heard (codes "CLAIMURL http://a") ∷ [])).over ≡ true }
 {}
 
 /// Writing: each write is of a line that was said, in their order. And when all is done.

@@ -12,6 +12,8 @@ pub mod hearing;
 mod job;
 pub mod jobs;
 pub mod laws;
+pub mod meaning;
+mod past;
 mod setup;
 
 pub use about::{About, Fact, Facts};

@@ -1,15 +1,16 @@
 // What doesn't change while a kit serves.
-ghost use Rattle.std.specs.Prelude.{◌≡◌, IfOk, None, option_copied, slice_get};
-ghost use Rattle.kit_async_model.specs.Hearings.{answers_strange};
+ghost use Rattle.std.specs.Prelude.{◌≡◌, IfOk, None, true, option_copied, slice_get};
 
 use crate::about::About;
 use ann_key::{Bytes, NoMemory};
-use kit_core::{Remote, Values};
+use kit_serve::kit::{Remote, Values};
 use std::alloc::Global;
 
 /// The names of the first remote's settings, how many remotes there are, and what is said of them, if anything is.
 #[derive(Drop)]
 pub struct Setup {
+    /// Whether the journal is kept. Else its entries are gone once they are noted, and proofs alone see them.
+    pub kept: bool,
     pub settings: Values,
     pub remotes: u32,
     pub about: Option<About>,
@@ -31,25 +32,20 @@ fn names<R: Remote>(alloc: Global, remote: &R) -> Result<Values, NoMemory>
 }
 
 impl Setup {
-    /// That of so many remotes, of which this is the first. Nothing is told about them.
+    /// That of so many remotes, of which this is the first. Nothing is told about them, and the journal is kept.
     pub fn of<R: Remote>(alloc: Global, first: &R, remotes: u32) -> Result<Setup, NoMemory>
         ensures settings { IfOk result (λ s. s.settings ≡ R.settings first.now) }
         ensures remotes { IfOk result (λ s. s.remotes ≡ remotes) }
         ensures about { IfOk result (λ s. s.about ≡ None) }
+        ensures kept { IfOk result (λ s. s.kept ≡ true) }
     {
         let settings = names(alloc, first)?;
         Ok(Setup {
+            kept: true,
             settings,
             remotes,
             about: None,
         })
-    }
-
-    /// Whether a line that spells no message is answered.
-    pub(crate) fn answers_strange(&self) -> bool
-        ensures { result ≡ answers_strange self.now }
-    {
-        self.about.is_some()
     }
 
     /// The name of the setting of that number, from 0.

@@ -4,9 +4,10 @@ use Rattle.std.specs.Io.KnownBytes.{Appends}
 use Rattle.std.proofs.lemmas.List.{append-nil, take-append-le, take_all, length-drop}
 use Rattle.annex_model.specs.Lines.{text}
 use Rattle.std.proofs.Math.Seq.{take-add}
-use Rattle.kit_core.specs.declared.call.Call.{Call}
-use Rattle.kit_core.specs.declared.kit.Step.{Step}
-use Rattle.kit_core.specs.Stages.{KitValue, Follows}
+use Rattle.kit_serve.specs.declared.kit.call.Call.{Call}
+use Rattle.kit_serve.specs.declared.kit.kit.Step.{Step}
+use Rattle.kit_serve.specs.Kit.Stages.{KitValue, Follows}
+use Rattle.kit_serve.specs.Kit.Descriptions.{untold}
 use Rattle.kit_memory.specs.Children.{StandsAt, IsChild, Grows, nothing_told, IsProgress, AreProgress, IsMixed, ChattyValue, Chats}
 use Rattle.kit_serve.specs.Sessions.{Spoke}
 use Rattle.kit_serve.specs.Turns.{end_of}
@@ -131,7 +132,7 @@ replied spoke over foul old new line (Some s) step e h =
     let w : s ≡ step = cc in subst (λ (x : Step). Utters spoke old new line x.say × (x.over ≡ over new)) w h
 
 pub chats_utter : {R : Type 0} (settings_of : R → List (List ℕ)) (calls : R → Option (List Call)) (old new : ChattyValue R) (line : List ℕ) (say more : List (List ℕ))
-    → Utters (Spoke settings_of calls) old.kit new.kit line say → new.progress ≡ old.progress → IsMixed old.progress say more → Utters (Chats settings_of calls) old new line more
+    → Utters (Spoke settings_of calls (λ (_ : R). untold)) old.kit new.kit line say → new.progress ≡ old.progress → IsMixed old.progress say more → Utters (Chats settings_of calls) old new line more
 chats_utter settings_of calls old new line say more u same m = λ begun lines said s. record {
   plain = s.plain ++ say;
   spoke = u begun.kit lines s.plain s.spoke;
@@ -141,4 +142,4 @@ chats_utter settings_of calls old new line say more u same m = λ begun lines sa
 
 pub chats_begin : {R : Type 0} (settings_of : R → List (List ℕ)) (calls : R → Option (List Call)) (kit : KitValue R) (n : ℕ)
     → ((settings : List (List ℕ)) → Follows settings kit []) → Chats settings_of calls (record { kit = kit; progress = n }) (record { kit = kit; progress = n }) [] []
-chats_begin settings_of calls kit n follows = record { plain = []; spoke = begins_spoke settings_of calls kit follows; mixed = refl; same = refl }
+chats_begin settings_of calls kit n follows = record { plain = []; spoke = begins_spoke settings_of calls (λ _. untold) kit follows; mixed = refl; same = refl }

@@ -1,8 +1,9 @@
 -- A kit in memory, as the child of a host: what it heard and said.
 use Rattle.std.specs.Prelude.{ℕ, ◌≡◌, ◌+◌, ◌<◌, ◌≤◌, ◌⊎◌, Bool, true, false, List, [], ◌∷◌, take, length, Option, Some, None, option_map, IfSome}
 use Rattle.annex_model.specs.Messages.{Progress, remote_line}
-use Rattle.kit_core.specs.declared.call.Call.{Call}
-use Rattle.kit_core.specs.Stages.{KitValue}
+use Rattle.kit_serve.specs.declared.kit.call.Call.{Call}
+use Rattle.kit_serve.specs.Kit.Stages.{KitValue}
+use Rattle.kit_serve.specs.Kit.Descriptions.{untold}
 use Rattle.kit_serve.specs.Sessions.{Spoke, Lacks}
 use Rattle.kit_serve.specs.Voices.{Spoken, Utters, Bytes, Talking, Talked}
 use Rattle.std.specs.Io.KnownBytes.{Appends}
@@ -32,14 +33,14 @@ IsMixed n plain (line ∷ lines) = ((rest : List (List ℕ)) × (plain ≡ line 
 -- from the first to the second the kit heard these lines, and its own lines are those that were said, PROGRESS lines aside
 pub record Chats {R : Type 0} (settings_of : R → List (List ℕ)) (calls : R → Option (List Call)) (old new : ChattyValue R) (lines said : List (List ℕ)) : Type 0 where
   pub plain : List (List ℕ)
-  pub spoke : Spoke settings_of calls old.kit new.kit lines plain
+  pub spoke : Spoke settings_of calls (λ (_ : R). untold) old.kit new.kit lines plain
   pub mixed : IsMixed old.progress plain said
   pub same : new.progress ≡ old.progress
 
 -- the kit found no memory for the line, or it heard the line and nothing was said to it
 abbrev pub LacksMore : {R : Type 0} → (R → List (List ℕ)) → (R → Option (List Call)) → ChattyValue R → ChattyValue R → List ℕ → Type 0
 LacksMore settings_of calls old new line =
-    Lacks settings_of calls old.kit new.kit line ⊎ ((say : List (List ℕ)) × Utters (Spoke settings_of calls) old.kit new.kit line say)
+    Lacks settings_of calls old.kit new.kit line ⊎ ((say : List (List ℕ)) × Utters (Spoke settings_of calls (λ _. untold)) old.kit new.kit line say)
 
 -- ---- a child
 

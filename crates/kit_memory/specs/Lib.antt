@@ -2,8 +2,8 @@ pub mod Children
 pub mod Pipes
 pub use Rattle.ann_outside.specs.Causes
 pub use Rattle.ann_outside.specs.Starts
-pub use Rattle.annex_model.specs.Messages
-pub use Rattle.kit_core.specs.Stages
+pub use Rattle.kit_serve.specs.Kit.Stages
 pub use Rattle.kit_serve.specs.Limits
+pub use Rattle.kit_serve.specs.Sessions
 pub use Rattle.kit_serve.specs.Turns
 pub use Rattle.kit_serve.specs.Voices

@@ -3,8 +3,8 @@ ghost use Rattle.std.specs.Prelude.{◌≡◌, IfOk};
 ghost use Rattle.kit_memory.specs.Children.{AreProgress, IsMixed};
 
 use ann_key::{Bytes, NoMemory};
-use kit_core::{Kit, Lines, Remote, Step};
-use kit_serve::Voice;
+use kit_serve::kit::{Lines, Remote, Step};
+use kit_serve::{KitVoice, Undescribed, Voice};
 use std::alloc::Global;
 use std::marker::Model;
 use wire_msg::{HostMsg, RemoteMsg, read_host, write_remote};
@@ -13,7 +13,7 @@ use wire_msg::{HostMsg, RemoteMsg, read_host, write_remote};
 #[derive(Drop)]
 pub struct Chatty<R: Remote> {
     alloc: Global,
-    kit: Kit<R>,
+    kit: KitVoice<R, Undescribed>,
     progress: u32,
 }
 
@@ -26,7 +26,7 @@ impl<R: Remote> Model for Chatty<R> {
 }
 
 impl<R: Remote> Chatty<R> {
-    pub(super) fn new(alloc: Global, kit: Kit<R>, progress: u32) -> Chatty<R>
+    pub(super) fn new(alloc: Global, kit: KitVoice<R, Undescribed>, progress: u32) -> Chatty<R>
         ensures { result ≡ record { kit = kit; progress = progress } }
     {
         Chatty {
@@ -76,16 +76,15 @@ fn is_transfer(line: &[u8]) -> bool {
 }
 
 impl<R: Remote> Voice for Chatty<R> {
-    ghost use Rattle.kit_core.specs.Stages.{is_last};
-    ghost use Rattle.annex_model.specs.Messages.{host_reading};
-    ghost use Rattle.std.specs.Prelude.{◌≡◌, None};
+    ghost use Rattle.kit_serve.specs.Kit.Stages.{is_last};
+    ghost use Rattle.kit_serve.specs.Sessions.{IsFoul};
     ghost use Rattle.kit_memory.specs.Children.{Chats, LacksMore};
 
     ghost spoke = { Chats R.settings R.calls };
 
     ghost is_over = { λ chatty. is_last chatty.kit.stage };
 
-    ghost is_foul = { λ chatty line. host_reading line ≡ None };
+    ghost is_foul = { λ chatty line. IsFoul chatty.kit line };
 
     ghost lacks = { LacksMore R.settings R.calls };
 

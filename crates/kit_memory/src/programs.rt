@@ -14,8 +14,8 @@ use crate::feed::Feed;
 use crate::pipe::{PipeInlet, PipeOutlet, pipe};
 use ann_key::NoMemory;
 use ann_outside::{Failed, Programs, Sink, Source, StartError, Started};
-use kit_core::{Kit, Remote};
-use kit_serve::Voice;
+use kit_serve::kit::Remote;
+use kit_serve::{KitVoice, Undescribed, Voice};
 use std::alloc::Global;
 use std::marker::{Send, Sync};
 use std::sync::Wait;
@@ -170,7 +170,8 @@ impl<'a, T: Wait + Sync, M: Maker> Programs for KitPrograms<'a, T, M> {
         let Ok((inlet, heard)) = pipe(self.rt, self.alloc) else {
             return Err(StartError::NoMemory);
         };
-        let voice = Chatty::new(self.alloc, Kit::new(self.alloc, remote), self.progress);
+        let kit = KitVoice::new(self.alloc, remote, Undescribed);
+        let voice = Chatty::new(self.alloc, kit, self.progress);
         let Ok(child) = Child::new(self.alloc, voice, heard) else {
             return Err(StartError::NoMemory);
         };

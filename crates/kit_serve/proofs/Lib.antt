@@ -1,5 +1,5 @@
-pub mod DescribedVoices
 pub mod KitVoices
 pub mod Talks
 pub mod Texts
 pub mod WholeLines
+pub mod KitLemmas

@@ -1,4 +1,3 @@
-pub mod Describing
 pub mod Ends
 pub mod Limits
 pub mod LineSinks
@@ -10,4 +9,7 @@ pub use Rattle.ann_key.specs.KeyRefs
 pub use Rattle.ann_outside.specs.Causes
 pub use Rattle.annex_model.specs.Lines
 pub use Rattle.annex_model.specs.Messages
-pub use Rattle.kit_core.specs.Stages
+pub use Rattle.kit_serve.specs.Kit.Descriptions
+pub use Rattle.kit_serve.specs.Kit.Stages
+pub use Rattle.wire_msg.specs.Shown
+pub mod Kit

@@ -1,5 +1,5 @@
 -- A sink to which whole lines alone go.
-use Rattle.std.specs.Prelude.{ℕ, ◌==◌, Bool, true, List, Option, Some, None, IsTrue}
+use Rattle.std.specs.Prelude.{ℕ, ◌==◌, Bool, true, if◌then◌else◌, List, [], Option, Some, None, IsTrue}
 use Rattle.std.specs.List.{last_or}
 use Rattle.std.specs.Io.KnownBytes.{Appends}
 
@@ -16,6 +16,10 @@ is_end (Some byte) = byte == 10
 -- the last byte ends a line, or there is none
 abbrev pub ends_line : List ℕ → Bool
 ends_line bytes = is_end (last_or None bytes)
+
+-- what a flush leaves: nothing, or all where the last line has no end yet
+abbrev pub kept_back : List ℕ → List ℕ
+kept_back held = if ends_line held then [] else held
 
 -- from the one place to the other whole lines were taken
 abbrev pub TookLines : Option (List ℕ) → Option (List ℕ) → Type 0

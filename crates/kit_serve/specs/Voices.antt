@@ -5,7 +5,7 @@ use Rattle.std.specs.Io.KnownBytes.{Appends}
 use Rattle.ann_outside.specs.Causes.{StaysUntold}
 use Rattle.ann_outside.specs.Told.{SinkTold, SourceTold}
 use Rattle.annex_model.specs.Lines.{text, has_newline, Cut}
-use Rattle.kit_core.specs.declared.kit.Step.{Step}
+use Rattle.kit_serve.specs.declared.kit.kit.Step.{Step}
 use Rattle.kit_serve.specs.Limits.{longest_line, is_short, next_line}
 use Rattle.kit_serve.specs.declared.end.End.{End}
 use Rattle.kit_serve.specs.declared.end.End.TheVariants.{Eof, Bad, ReadFault, WriteFault, Memory}

@@ -10,11 +10,11 @@ ghost use Rattle.wire_msg.specs.Shown.{remote_shown};
 ghost use Rattle.kit_serve.specs.LineSinks.{ends_line};
 ghost use Rattle.kit_serve.specs.Telling.{Says, Tells, line_of};
 
+use crate::kit::first_line;
 use crate::streams::Mouth;
 use crate::telling::NotTold;
 use ann_key::{Bytes, KeyRef, NoMemory};
 use ann_outside::{Failed, Sink, write_all};
-use kit_core::first_line;
 use std::alloc::Global;
 use std::marker::Model;
 use std::snapshot::Snapshot;

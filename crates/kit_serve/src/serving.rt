@@ -1,18 +1,21 @@
-ghost use Rattle.std.specs.Prelude.{◌≡◌, ◌+◌, [], ℕ, true, false, Some, Err, OnOk, IfErr, IfSome};
+ghost use Rattle.std.specs.Prelude.{◌≡◌, ◌+◌, [], ℕ, List, true, false, Some, Err, OnOk, IfErr, IfSome};
 ghost use Rattle.annex_model.specs.Lines.{has_newline};
+ghost use Rattle.kit_serve.specs.Kit.Descriptions.{untold};
+ghost use Rattle.kit_serve.specs.Kit.Stages.{Follows};
 ghost use Rattle.kit_serve.specs.Limits.{longest_line, read_size};
 ghost use Rattle.kit_serve.specs.declared.end.End.TheVariants.{Eof, Bad, ReadFault, WriteFault, Memory};
 ghost use Rattle.kit_serve.specs.Sessions.{Serves, told_of};
 ghost use Rattle.kit_serve.specs.Turns.{end_of, sink_half, source_half, Leaves, LeavesSource, MayTurn, ReadsOn, ReadsOnce, Turned, streams_of};
 ghost use Rattle.kit_serve.specs.Voices.{bytes_of, Bytes, Hears, Talking, Talked};
 
+use crate::describer::{Describer, SelfDescribed, Undescribed};
 use crate::end::End;
+use crate::kit::{Describe, Remote};
 use crate::streams::{Ear, Mouth};
-use crate::voice::Voice;
+use crate::voice::{KitVoice, Voice};
 use crate::writing::{write_lines, write_version};
 use ann_key::NoMemory;
 use ann_outside::{Failed, Sink, Source};
-use kit_core::{Kit, Remote};
 use std::alloc::Global;
 use wire_line::{Next, Splitter};
 
@@ -25,9 +28,9 @@ pub const READ_SIZE: usize = 4096;
 /// How a remote was served, and the remote.
 #[derive(Drop)]
 pub struct Served<R> {
-    /// The exit status of a program that did nothing else: 0 where the host's lines came to an end; 1 where a line of it spells no
-    /// message, is longer than 131,072 bytes, or has no place where it stands; 4 and 5 where reading or writing failed; 7
-    /// where no memory was found.
+    /// The exit status of a program that did nothing else: 0 where the host's lines came to an end; 1 where a line of it is longer than
+    /// 131,072 bytes, has no place where it stands, or spells no message while a value is awaited; 4 and 5 where reading or writing
+    /// failed; 7 where no memory was found.
     pub status: u8,
     pub remote: R,
 }
@@ -159,9 +162,34 @@ pub fn talk<V: Voice, S: Ear, W: Mouth>(
     }
 }
 
+// Serves the remote with the answers aside of that describer.
+fn serve_by<R: Remote, D: Describer<R> + Drop, S: Source, W: Sink>(
+    alloc: Global,
+    voice: KitVoice<R, D>,
+    source: &mut S,
+    sink: &mut W,
+) -> Served<R>
+    requires fresh { (settings : List (List ℕ)) → Follows settings voice [] }
+    requires open { ((S.told source.old).is_open ≡ true) × ((W.told sink.old).is_open ≡ true) }
+    ensures serves { Serves D.description (R.settings voice.remote) (told_of (S.told source.old) (W.told sink.old) (R.calls voice.remote)) (told_of (S.told source.new) (W.told sink.new) (R.calls result.remote)) result.status }
+    ensures end { result.status ≡ 0 → IfSome (S.told source.new).left (λ bytes. bytes ≡ []) }
+    ensures source { Leaves (source_half (S.told source.old)) (source_half (S.told source.new)) (result.status ≡ 4) }
+    ensures sink { Leaves (sink_half (W.told sink.old)) (sink_half (W.told sink.new)) (result.status ≡ 5) }
+    ensures settings { R.settings result.remote ≡ R.settings voice.remote }
+{
+    let mut voice = voice;
+    let end = talk(alloc, &mut voice, source, sink);
+    Served {
+        status: end.status(),
+        remote: voice.close(),
+    }
+}
+
 /// Serves the remote to the host behind the source and the sink until one of them ends it, and hands the remote back.
 ///
-/// It says `VERSION 1`, and then what a [`Kit`] says to the lines that the source gives. Source and sink stay open.
+/// It says `VERSION 1`, and then what a [`Kit`](crate::kit::Kit) says to the lines that the source gives. A line that spells no
+/// message is answered by UNSUPPORTED-REQUEST, so that a host may ask for what the remote doesn't know; while a value is
+/// awaited it ends it, as any request does. Source and sink stay open.
 pub fn serve<R: Remote, S: Source, W: Sink>(
     alloc: Global,
     remote: R,
@@ -170,16 +198,32 @@ pub fn serve<R: Remote, S: Source, W: Sink>(
 ) -> Served<R>
     requires source { (S.told source.old).is_open ≡ true }
     requires sink { (W.told sink.old).is_open ≡ true }
-    ensures serves { Serves (R.settings remote) (told_of (S.told source.old) (W.told sink.old) (R.calls remote)) (told_of (S.told source.new) (W.told sink.new) (R.calls result.remote)) result.status }
+    ensures serves { Serves (λ (_ : R). untold) (R.settings remote) (told_of (S.told source.old) (W.told sink.old) (R.calls remote)) (told_of (S.told source.new) (W.told sink.new) (R.calls result.remote)) result.status }
     ensures end { result.status ≡ 0 → IfSome (S.told source.new).left (λ bytes. bytes ≡ []) }
     ensures source { Leaves (source_half (S.told source.old)) (source_half (S.told source.new)) (result.status ≡ 4) }
     ensures sink { Leaves (sink_half (W.told sink.old)) (sink_half (W.told sink.new)) (result.status ≡ 5) }
     ensures settings { R.settings result.remote ≡ R.settings remote }
 {
-    let mut kit = Kit::new(alloc, remote);
-    let end = talk(alloc, &mut kit, source, sink);
-    Served {
-        status: end.status(),
-        remote: kit.close(),
-    }
+    let voice = KitVoice::new(alloc, remote, Undescribed);
+    serve_by(alloc, voice, source, sink)
+}
+
+/// Serves a remote that says what it is. It differs from [`serve`] in this alone: LISTCONFIGS, GETCOST, GETAVAILABILITY, GETINFO and
+/// WHEREIS are answered by its [`Describe`].
+pub fn serve_described<R: Remote + Describe, S: Source, W: Sink>(
+    alloc: Global,
+    remote: R,
+    source: &mut S,
+    sink: &mut W,
+) -> Served<R>
+    requires source { (S.told source.old).is_open ≡ true }
+    requires sink { (W.told sink.old).is_open ≡ true }
+    ensures serves { Serves R.description (R.settings remote) (told_of (S.told source.old) (W.told sink.old) (R.calls remote)) (told_of (S.told source.new) (W.told sink.new) (R.calls result.remote)) result.status }
+    ensures end { result.status ≡ 0 → IfSome (S.told source.new).left (λ bytes. bytes ≡ []) }
+    ensures source { Leaves (source_half (S.told source.old)) (source_half (S.told source.new)) (result.status ≡ 4) }
+    ensures sink { Leaves (sink_half (W.told sink.old)) (sink_half (W.told sink.new)) (result.status ≡ 5) }
+    ensures settings { R.settings result.remote ≡ R.settings remote }
+{
+    let voice = KitVoice::new(alloc, remote, SelfDescribed);
+    serve_by(alloc, voice, source, sink)
 }

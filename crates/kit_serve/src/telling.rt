@@ -1,10 +1,13 @@
 // What a remote says of its own accord while it works on a request.
-ghost use Rattle.std.specs.Prelude.{◌≡◌, not, None, true, IfOk, IsTrue, length};
+ghost use Rattle.std.specs.Prelude.{◌≡◌, ◌<◌, [], not, None, Some, true, false, IfErr, IfOk, IsTrue, length};
+ghost use Rattle.std.specs.Io.{WritesAtMost};
+ghost use Rattle.std.specs.Io.KnownBytes.{WriteAppends};
 ghost use Rattle.ann_key.specs.KeyRefs.{text_of};
 ghost use Rattle.annex_model.specs.Lines.{has_newline};
 ghost use Rattle.annex_model.specs.Messages.{is_sent_key, is_word};
-ghost use Rattle.ann_outside.specs.Causes.{HasCause};
-ghost use Rattle.kit_serve.specs.LineSinks.{ends_line};
+ghost use Rattle.ann_outside.specs.Causes.{HasCause, StaysUntold};
+ghost use Rattle.kit_serve.specs.LineSinks.{ends_line, kept_back};
+ghost use Rattle.kit_serve.specs.Telling.{Says};
 
 use crate::line_sink::LineSink;
 use crate::streams::Mouth;
@@ -92,7 +95,8 @@ fn ends_line(bytes: &[u8]) -> bool
 
 // Adds all of the piece.
 fn hold(held: &mut Vec<u8>, piece: &[u8]) -> Result<usize, Failed>
-    ensures { IfOk result (λ n. n ≡ length piece.now) }
+    ensures all { IfOk result (λ n. n ≡ length piece.now) }
+    ensures held { WriteAppends (Some held.old.items) (Some held.new.items) result piece.now }
 {
     match held.extend_from_slice(piece) {
         Ok(()) => Ok(piece.len()),
@@ -100,32 +104,58 @@ fn hold(held: &mut Vec<u8>, piece: &[u8]) -> Result<usize, Failed>
     }
 }
 
+// Says what is held, and holds nothing more.
+fn say_held<W: Mouth>(lines: &mut LineSink<W>, held: &mut Vec<u8>) -> Result<(), Failed>
+    requires { IsTrue (ends_line held.old.items) }
+    ensures says { Says W.told lines.old lines.new held.old.items result }
+    ensures held { held.new.items ≡ [] }
+{
+    let done = lines.say(held);
+    held.clear();
+    done
+}
+
 impl<'a, T: Wait, W: Mouth> SharedSink<'a, T, W> {
     // Says what is held, if its last line has its end.
     fn pass_on(&mut self) -> Result<(), Failed>
-        ensures { self.new ≡ record self.old { held = self.new.held } }
+        ensures held { self.new.held.items ≡ kept_back self.old.held.items }
+        ensures waits { ends_line self.old.held.items ≡ false → IfErr result (λ _. ⊥) }
+        ensures rest { self.new ≡ record self.old { held = self.new.held } }
     {
         if !ends_line(&self.held) {
             return Ok(());
         }
-        let done = {
-            let mut lines = self.lines.lock(self.rt);
-            lines.say(&self.held)
-        };
-        self.held.clear();
-        done
+        let mut lines = self.lines.lock(self.rt);
+        say_held(&mut lines, &mut self.held)
     }
 }
 
 impl<'a, T: Wait, W: Mouth> Sink for SharedSink<'a, T, W> {
     ghost told = { λ s. record { faults = s.faults; taken = None; is_open = s.is_open; number = None } };
 
-    fn write(&mut self, piece: &[u8]) -> Result<usize, Failed> {
+    fn write(&mut self, piece: &[u8]) -> Result<usize, Failed>
+        requires { (⟦<SharedSink<'a, T, W> as Sink>⟧.told self.old).is_open ≡ true }
+        ensures bound { WritesAtMost result piece.now }
+        ensures some { 0 < length piece.now → IfOk result (λ n. 0 < n) }
+        ensures bytes { WriteAppends (⟦<SharedSink<'a, T, W> as Sink>⟧.told self.old).taken (⟦<SharedSink<'a, T, W> as Sink>⟧.told self.new).taken result piece.now }
+        ensures silent { StaysUntold (⟦<SharedSink<'a, T, W> as Sink>⟧.told self.old).taken (⟦<SharedSink<'a, T, W> as Sink>⟧.told self.new).taken }
+        ensures cause { HasCause (⟦<SharedSink<'a, T, W> as Sink>⟧.told self.old).faults (⟦<SharedSink<'a, T, W> as Sink>⟧.told self.new).faults result }
+        ensures stays { ((⟦<SharedSink<'a, T, W> as Sink>⟧.told self.new).is_open ≡ true)
+            × ((⟦<SharedSink<'a, T, W> as Sink>⟧.told self.new).number ≡ (⟦<SharedSink<'a, T, W> as Sink>⟧.told self.old).number) }
+        ensures held { WriteAppends (Some self.old.held.items) (Some self.new.held.items) result piece.now }
+    {
         let done = hold(&mut self.held, piece);
         counted(&mut self.faults, done)
     }
 
-    fn flush(&mut self) -> Result<(), Failed> {
+    fn flush(&mut self) -> Result<(), Failed>
+        requires { (⟦<SharedSink<'a, T, W> as Sink>⟧.told self.old).is_open ≡ true }
+        ensures bytes { (⟦<SharedSink<'a, T, W> as Sink>⟧.told self.new).taken ≡ (⟦<SharedSink<'a, T, W> as Sink>⟧.told self.old).taken }
+        ensures cause { HasCause (⟦<SharedSink<'a, T, W> as Sink>⟧.told self.old).faults (⟦<SharedSink<'a, T, W> as Sink>⟧.told self.new).faults result }
+        ensures open { (⟦<SharedSink<'a, T, W> as Sink>⟧.told self.new).is_open ≡ true }
+        ensures number { (⟦<SharedSink<'a, T, W> as Sink>⟧.told self.new).number ≡ (⟦<SharedSink<'a, T, W> as Sink>⟧.told self.old).number }
+        ensures held { self.new.held.items ≡ kept_back self.old.held.items }
+    {
         let done = self.pass_on();
         counted(&mut self.faults, done)
     }

@@ -3,9 +3,9 @@ ghost use Rattle.std.specs.Io.KnownBytes.{Appends};
 ghost use Rattle.annex_model.specs.Lines.{text};
 ghost use Rattle.ann_outside.specs.Causes.{HasCause, StaysUntold};
 
+use crate::kit::Lines;
 use crate::streams::Mouth;
 use ann_outside::{Failed, Sink, write_all};
-use kit_core::Lines;
 
 /// Writes the line and its byte 10. After `Failed` the sink has taken the first bytes of them.
 pub fn write_line<W: Sink>(sink: &mut W, line: &[u8]) -> Result<(), Failed>

@@ -1,7 +1,7 @@
 ghost use Rattle.std.specs.Prelude.{[], None};
 
 use ann_key::{KeyRef, NoMemory};
-use kit_core::{Remote, Said, Values};
+use kit_serve::kit::{Remote, Said, Values};
 
 /// The smallest remote: it has no setting, keeps nothing, and says so.
 #[derive(Clone, Copy)]

@@ -206,7 +206,11 @@ fn a_child_says_what_its_kit_says(rt: HostRuntime) -> Result<(), Fail> {
             3,
             b"VERSION 1\nERROR unexpected message\n",
         ),
-        (b"BOO\nPREPARE\n", 0, b"VERSION 1\n"),
+        (
+            b"BOO\nPREPARE\n",
+            0,
+            b"VERSION 1\nUNSUPPORTED-REQUEST\nPREPARE-SUCCESS\n",
+        ),
     ];
     for (says, lines, heard) in rows {
         let mut programs = KitPrograms::with_progress(&rt, alloc, Empties, lines);

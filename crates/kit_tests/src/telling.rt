@@ -2,11 +2,11 @@
 ghost use Rattle.std.specs.Prelude.{◌≡◌, [], None, true, IfOk, IsTrue};
 ghost use Rattle.ann_key.specs.KeyRefs.{text_of};
 ghost use Rattle.annex_model.specs.Messages.{is_sent_key};
-ghost use Rattle.kit_core.specs.Calls.{is_line_said};
+ghost use Rattle.kit_serve.specs.Kit.Calls.{is_line_said};
 
 use ann_key::{Bytes, KeyRef, NoMemory};
 use ann_outside::{Failed, MemSource, Sink, Source};
-use kit_core::{Remote, Said, Values};
+use kit_serve::kit::{Remote, Said, Values};
 use kit_serve::{Mouth, NotTold, Teller, serve, share};
 use std::alloc::Global;
 use std::process::Abort;
@@ -115,6 +115,10 @@ impl<'a, T: Wait, W: Mouth> Remote for Talker<'a, T, W> {
         Ok(Said::Yes)
     }
 
+    fn initialize(&mut self, _values: &Values) -> Result<Said, NoMemory> {
+        Ok(Said::No)
+    }
+
     fn store(&mut self, key: KeyRef<'_>, _file: &str) -> Result<Said, NoMemory> {
         Ok(self.answer(key))
     }
@@ -132,12 +136,13 @@ impl<'a, T: Wait, W: Mouth> Remote for Talker<'a, T, W> {
     }
 }
 
-// One request for a remote with no settings.
+// A line that spells no message, and requests, for a remote with no settings.
 fn asked(alloc: Global) -> Result<MemSource, NoMemory>
     ensures { IfOk result (λ s. (⟦<MemSource as Source>⟧.told s).is_open ≡ true) }
 {
     let mut lines = Vec::new(alloc);
-    lines.push(Bytes::copy(alloc, b"PREPARE\nTRANSFER STORE WORM--a f\n")?)?;
+    let said = b"INITREMOTE\nCLAIMURL x\nPREPARE\nTRANSFER STORE WORM--a f\n";
+    lines.push(Bytes::copy(alloc, said)?)?;
     Ok(MemSource::new(lines, Vec::new(alloc)))
 }
 
@@ -148,11 +153,15 @@ static ROWS: [Row; 2] = [
     (
         0,
         0,
-        b"VERSION 1\n|PREPARE-SUCCESS\n|<PROGRESS 1\n|DEBUG half\n|INFO \n|SETSTATE WORM--a s t\n|\
+        b"VERSION 1\n|INITREMOTE-FAILURE \n|UNSUPPORTED-REQUEST\n|PREPARE-SUCCESS\n|<PROGRESS 1\n|DEBUG half\n|INFO \n|SETSTATE WORM--a s t\n|\
           SETURLPRESENT WORM--a http://x\n|SETCONFIG name a value\n|PROGRESS 18446744073709551615\n|\
           >TRANSFER-SUCCESS STORE WORM--a\n|",
     ),
-    (4, 5, b"VERSION 1\n|PREPARE-SUCCESS\n|<PROGRESS 1\n|>"),
+    (
+        6,
+        5,
+        b"VERSION 1\n|INITREMOTE-FAILURE \n|UNSUPPORTED-REQUEST\n|PREPARE-SUCCESS\n|<PROGRESS 1\n|>",
+    ),
 ];
 
 #[test]

@@ -4,8 +4,8 @@ use Rattle.std.specs.Prelude.{if◌then◌else◌, codes, Result, Ok, Err, IfOk}
 use Rattle.ann_key.specs.declared.bytes.NoMemory.{NoMemory}
 use Rattle.annex_model.specs.Messages.{HostMessage}
 use Rattle.journal_model.specs.declared.verdict.Verdict.{Verdict}
-use Rattle.kit_core.specs.declared.call.Said.{Said}
-use Rattle.kit_core.specs.declared.call.Said.TheVariants.{Yes, No}
+use Rattle.kit_serve.specs.declared.kit.call.Said.{Said}
+use Rattle.kit_serve.specs.declared.kit.call.Said.TheVariants.{Yes, No}
 use Rattle.mirror_children.specs.Children.{ChildValue}
 use Rattle.mirror_children.specs.Asking.{AskedTo}
 use Rattle.mirror_children.specs.Rule.{all_said, check_said, failure, is_absent, is_done, last_refusal, refusal, retrieve_said, Answers, AnswersOver, Rules, RulesAll, RulesCheck, RulesRetrieve}

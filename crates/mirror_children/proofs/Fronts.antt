@@ -13,8 +13,8 @@ use Rattle.journal_model.specs.Parts.{part}
 use Rattle.journal_model.specs.Projection.{Ends, final_in}
 use Rattle.host_core.specs.Steps.{next_job}
 use Rattle.child_link.specs.Alone.{AskedAlone}
-use Rattle.kit_core.specs.declared.call.Said.{Said}
-use Rattle.kit_core.specs.declared.call.Said.TheVariants.{Yes, No}
+use Rattle.kit_serve.specs.declared.kit.call.Said.{Said}
+use Rattle.kit_serve.specs.declared.kit.call.Said.TheVariants.{Yes, No}
 use Rattle.mirror_children.specs.Children.{ChildValue, AreServing, IsServing}
 use Rattle.mirror_children.specs.Asking.{AskedTo, AsksAt, AsksEach, LeavesAt}
 use Rattle.mirror_children.specs.Rule.{all_said, check_said, failure, is_absent, is_done, is_enough, is_starved, last_refusal, refusal, retrieve_said, Answers, AreAsBefore, AsksFront, GoesOn, IsAsBefore, IsAsked}

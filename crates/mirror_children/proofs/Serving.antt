@@ -16,12 +16,12 @@ use Rattle.journal_model.specs.Journal.{any, asks, is_started, is_tagged, open_j
 use Rattle.journal_model.specs.Legality.{Legal, is_done, is_empty, is_greeted, is_in_turn, is_prepared, is_text, prepares}
 use Rattle.journal_model.specs.Shares.{are_by, by_asker, by_link}
 use Rattle.journal_model.proofs.Looks.{any-append, each_of-append, verdict_of-append}
-use Rattle.talk_serial.specs.declared.request.Request.{Request}
-use Rattle.talk_serial.specs.Requests.{message_of, name_of}
-use Rattle.talk_serial.proofs.Reading.{unnamed}
+use Rattle.host_talk.specs.declared.request.request.Request.{Request}
+use Rattle.host_talk.specs.Request.Requests.{message_of, name_of}
+use Rattle.host_talk.proofs.RequestLemmas.Reading.{unnamed}
 use Rattle.host_core.specs.Steps.{group_of, is_named_well, may_request, next_job}
 use Rattle.child_link.specs.Alone.{AskedAlone, KeepsLink}
-use Rattle.child_start.proofs.Jobs.{idle_asked}
+use Rattle.child_life.proofs.StartLemmas.Jobs.{idle_asked}
 use Rattle.mirror_children.specs.Children.{ChildValue, IsLinked, IsServing}
 use Rattle.mirror_children.specs.Rule.{is_mirrored, IsAsked}
 use Rattle.mirror_children.proofs.Told.{asked_told}

@@ -14,8 +14,8 @@ use Rattle.journal_model.specs.Projection.{Ends, final_in}
 use Rattle.host_core.specs.Steps.{next_job}
 use Rattle.journal_model.specs.Shares.{is_memory}
 use Rattle.child_link.specs.Alone.{AskedAlone}
-use Rattle.kit_core.specs.declared.call.Said.{Said}
-use Rattle.kit_core.specs.declared.call.Said.TheVariants.{Yes, No, Failure}
+use Rattle.kit_serve.specs.declared.kit.call.Said.{Said}
+use Rattle.kit_serve.specs.declared.kit.call.Said.TheVariants.{Yes, No, Failure}
 use Rattle.mirror_children.specs.Children.{ChildValue}
 
 -- ---- verdicts

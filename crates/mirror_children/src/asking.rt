@@ -1,7 +1,7 @@
 // Asking the children of a mirror, one after the other.
 ghost use Rattle.std.specs.Prelude.{◌≡◌, ◌==◌, ◌<◌, ◌+◌, ◌||◌, not, true, codes, IfOk, IsTrue, OnErr, length};
-ghost use Rattle.talk_serial.specs.Requests.{message_of};
-ghost use Rattle.kit_core.specs.Calls.{is_line_said};
+ghost use Rattle.host_talk.specs.Request.Requests.{message_of};
+ghost use Rattle.kit_serve.specs.Kit.Calls.{is_line_said};
 ghost use Rattle.mirror_children.specs.Asking.{goes_while, AsksAt, AsksEach, LeavesAt};
 ghost use Rattle.mirror_children.specs.Children.{AreServing};
 ghost use Rattle.mirror_children.specs.Rule.{failure, is_mirrored, RulesAll, RulesCheck, RulesRetrieve};
@@ -10,10 +10,10 @@ use crate::child::Child;
 use crate::saying::{is_absent, is_done, is_starved};
 use ann_key::NoMemory;
 use ann_outside::{Sink, Source};
+use host_talk::request::Request;
 use journal_model::Verdict;
-use kit_core::Said;
+use kit_serve::kit::Said;
 use std::alloc::Global;
-use talk_serial::Request;
 
 // Puts the request to the child at this place.
 fn ask_at<I: Sink, O: Source, S>(

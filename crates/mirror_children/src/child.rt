@@ -4,9 +4,9 @@ ghost use Rattle.journal_model.specs.Journal.{is_started};
 ghost use Rattle.journal_model.specs.Legality.{Legal};
 ghost use Rattle.host_core.specs.Steps.{is_named_well, may_request};
 ghost use Rattle.child_link.specs.Alone.{AskedAlone, KeepsLink};
-ghost use Rattle.child_start.specs.Cores.{IsSameCore};
-ghost use Rattle.talk_serial.specs.Requests.{message_of, name_of};
-ghost use Rattle.kit_core.specs.Calls.{is_line_said};
+ghost use Rattle.child_life.specs.Start.Cores.{IsSameCore};
+ghost use Rattle.host_talk.specs.Request.Requests.{message_of, name_of};
+ghost use Rattle.kit_serve.specs.Kit.Calls.{is_line_said};
 ghost use Rattle.mirror_children.specs.Children.{IsServing};
 ghost use Rattle.mirror_children.specs.Rule.{IsAsBefore, IsAsked, is_mirrored, refusal};
 
@@ -15,12 +15,12 @@ use ann_key::NoMemory;
 use ann_outside::{Sink, Source};
 use child_link::{Lone, OwnDoor};
 use host_core::Core;
+use host_talk::request::Request;
 use journal_look::Journal;
 use journal_model::Verdict;
-use kit_core::Said;
+use kit_serve::kit::Said;
 use std::alloc::Global;
 use std::marker::Model;
-use talk_serial::Request;
 
 /// A child that was started: the number of its setting, its core, its link, and by what its program is waited for.
 #[derive(Drop)]

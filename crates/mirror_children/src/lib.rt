@@ -3,8 +3,9 @@
 
 mod asking;
 mod child;
+pub mod plan;
 mod saying;
 
 pub use asking::{ask_all, ask_any, ask_check};
 pub use child::Child;
-pub use saying::mirror_failure;
+pub use saying::{mirror_failure, text_at};

@@ -3,13 +3,13 @@ ghost use Rattle.std.specs.Prelude.{◌≡◌, IfOk, IsTrue};
 ghost use Rattle.annex_model.specs.Messages.{remote_reading};
 ghost use Rattle.annex_model.specs.Tags.{untag, without_tag};
 ghost use Rattle.journal_model.specs.Output.{text_of_reading, text_at};
-ghost use Rattle.kit_core.specs.Calls.{is_line_said};
+ghost use Rattle.kit_serve.specs.Kit.Calls.{is_line_said};
 ghost use Rattle.mirror_children.specs.Rule.{is_absent, is_done, is_starved, mirror_failure, verdict_text};
 
 use ann_key::NoMemory;
 use journal_look::{Journal, line_at};
 use journal_model::{Verdict, Why};
-use kit_core::Said;
+use kit_serve::kit::Said;
 use std::alloc::Global;
 use wire_msg::{read_remote, text_of, untag};
 
@@ -52,8 +52,8 @@ fn text_in(line: &[u8]) -> &[u8]
     }
 }
 
-// The text that the line at a place ends with.
-fn text_at(journal: &Journal, at: u64) -> &[u8]
+/// The text that the line at a place ends with.
+pub fn text_at(journal: &Journal, at: u64) -> &[u8]
     ensures { result.now ≡ text_at journal.entry.now.entries at }
 {
     text_in(without_tag(line_at(journal, at)))

@@ -8,10 +8,10 @@ use Rattle.annex_model.specs.Lines.{has_newline}
 use Rattle.annex_model.specs.Messages.{HostMessage, Transfer, is_sent_key}
 use Rattle.journal_model.specs.declared.verdict.Verdict.{Verdict}
 use Rattle.journal_model.specs.Legality.{is_text}
-use Rattle.kit_core.specs.declared.call.Said.{Said}
+use Rattle.kit_serve.specs.declared.kit.call.Said.{Said}
 use Rattle.mirror_children.specs.Children.{ChildValue}
 use Rattle.mirror_children.specs.Rule.{AreAsBefore, Rules, is_mirrored}
-use Rattle.mirror_starts.specs.Outcomes.{MirrorValue}
+use Rattle.mirror_remote.specs.Starts.Outcomes.{MirrorValue}
 use Rattle.mirror_children.proofs.Fronts.{before_refl}
 use Rattle.std.proofs.lemmas.Bool.{and_from as both_true}
 

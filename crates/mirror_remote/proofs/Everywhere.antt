@@ -5,16 +5,16 @@ use Rattle.ann_key.specs.declared.bytes.NoMemory.{NoMemory}
 use Rattle.std.specs.List.{list_all, list_any}
 use Rattle.annex_model.specs.Messages.{HostMessage, Transfer, Checkpresent, Remove}
 use Rattle.journal_model.specs.declared.verdict.Verdict.{Verdict}
-use Rattle.kit_core.specs.declared.call.Said.{Said}
-use Rattle.kit_core.specs.declared.call.Said.TheVariants.{Yes, No, Failure}
-use Rattle.kit_core.specs.declared.call.Asked.{Asked}
-use Rattle.kit_core.specs.declared.call.Asked.TheVariants.{Prepare as AskPrepare, Store as AskStore, Retrieve as AskRetrieve, Check as AskCheck, Remove as AskRemove}
-use Rattle.mirror_plan.specs.declared.plan.Plan.{Plan}
-use Rattle.mirror_plan.specs.Settings.{first_bad, plans_in}
+use Rattle.kit_serve.specs.declared.kit.call.Said.{Said}
+use Rattle.kit_serve.specs.declared.kit.call.Said.TheVariants.{Yes, No, Failure}
+use Rattle.kit_serve.specs.declared.kit.call.Asked.{Asked}
+use Rattle.kit_serve.specs.declared.kit.call.Asked.TheVariants.{Prepare as AskPrepare, Initialize as AskInitialize, Store as AskStore, Retrieve as AskRetrieve, Check as AskCheck, Remove as AskRemove}
+use Rattle.mirror_children.specs.declared.plan.plan.Plan.{Plan}
+use Rattle.mirror_children.specs.Plan.Settings.{first_bad, plans_in}
 use Rattle.mirror_children.specs.Children.{ChildValue}
 use Rattle.mirror_children.specs.Rule.{all_said, check_said, failure, retrieve_said, Rules, is_absent, is_done, is_enough, last_refusal, Answers, AsksFront, GoesOn}
 use Rattle.mirror_remote.specs.Mirrors.{BeginsTo, PreparesTo}
-use Rattle.mirror_starts.specs.Outcomes.{MirrorValue}
+use Rattle.mirror_remote.specs.Starts.Outcomes.{MirrorValue}
 use Rattle.mirror_remote.specs.Sessions.{is_prepare, is_prepared_after, prepared_by, AllDid, AreCalls, Called, IsFresh, Keeps}
 use Rattle.std.proofs.lemmas.Bool.{and_parts as both, eqb-true as same_number}
 
@@ -83,6 +83,7 @@ asks_nobody goes q says (c ∷ old) new r none k = absurd cc
 pub refuses_all : (asked : Asked) (answer : Result Said NoMemory) (old new : MirrorValue) → is_prepare asked ≡ false → old.children ≡ [] → Keeps asked answer old new
     → (new.children ≡ []) × IfOk answer (λ said. said ≡ failure (codes "not prepared"))
 refuses_all (AskPrepare values) answer old new other none keeps = absurd cc
+refuses_all (AskInitialize values) answer old new other none keeps = absurd cc
 refuses_all (AskStore key file) answer old new other none keeps = asks_nobody is_done (Transfer true key file) all_said old.children new.children answer none keeps.0
 refuses_all (AskRetrieve key file) answer old new other none keeps = asks_nobody (λ v. not (is_done v)) (Transfer false key file) retrieve_said old.children new.children answer none keeps.0
 refuses_all (AskCheck key) answer old new other none keeps = asks_nobody is_done (Checkpresent key) check_said old.children new.children answer none keeps.0
@@ -103,6 +104,10 @@ emptied (AskPrepare values) (Ok Yes) was old new known keeps h = absurd cc
 emptied (AskPrepare values) (Ok No) was old new known keeps h = unready (first_bad values) (plans_in values) old new No (λ e. absurd cc) keeps
 emptied (AskPrepare values) (Ok (Failure text)) was old new known keeps h = unready (first_bad values) (plans_in values) old new (Failure text) (λ e. absurd cc) keeps
 emptied (AskPrepare values) (Err e) was old new known keeps h = keeps.none
+emptied (AskInitialize values) (Ok Yes) was old new known keeps h = absurd cc
+emptied (AskInitialize values) (Ok No) was old new known keeps h = unready (first_bad values) (plans_in values) old new No (λ e. absurd cc) keeps
+emptied (AskInitialize values) (Ok (Failure text)) was old new known keeps h = unready (first_bad values) (plans_in values) old new (Failure text) (λ e. absurd cc) keeps
+emptied (AskInitialize values) (Err e) was old new known keeps h = keeps.none
 emptied (AskStore key file) answer was old new known keeps h = (refuses_all (AskStore key file) answer old new refl (known h) keeps).0
 emptied (AskRetrieve key file) answer was old new known keeps h = (refuses_all (AskRetrieve key file) answer old new refl (known h) keeps).0
 emptied (AskCheck key) answer was old new known keeps h = (refuses_all (AskCheck key) answer old new refl (known h) keeps).0

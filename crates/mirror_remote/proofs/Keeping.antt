@@ -5,16 +5,16 @@ use Rattle.ann_key.specs.declared.bytes.NoMemory.{NoMemory}
 use Rattle.ann_outside.specs.Causes.{Stays}
 use Rattle.annex_model.specs.Messages.{HostMessage}
 use Rattle.journal_model.specs.declared.verdict.Verdict.{Verdict}
-use Rattle.kit_core.specs.declared.call.Said.{Said}
+use Rattle.kit_serve.specs.declared.kit.call.Said.{Said}
 use Rattle.mirror_children.specs.Children.{ChildValue, AreServing}
-use Rattle.mirror_starts.specs.Stops.{LogValue, StoppedValue, AreSoundLogs, AreWired, StopsAll}
+use Rattle.mirror_remote.specs.Starts.Stops.{LogValue, StoppedValue, AreSoundLogs, AreWired, StopsAll}
 use Rattle.mirror_children.specs.Rule.{Rules}
 use Rattle.mirror_remote.specs.Mirrors.{EndedValue, Finishes, IsSoundMirror}
-use Rattle.mirror_starts.specs.Outcomes.{IsKept, MirrorValue}
-use Rattle.mirror_starts.proofs.Begun.{closed_as}
+use Rattle.mirror_remote.specs.Starts.Outcomes.{IsKept, MirrorValue}
+use Rattle.mirror_remote.proofs.StartsLemmas.Begun.{closed_as}
 use Rattle.mirror_remote.proofs.Everywhere.{asks_nobody}
 use Rattle.mirror_children.proofs.Fronts.{front_length}
-use Rattle.mirror_starts.proofs.Stopping.{sound_children}
+use Rattle.mirror_remote.proofs.StartsLemmas.Stopping.{sound_children}
 
 rules_many : (goes : Verdict → Bool) (q : HostMessage) (says : List ChildValue → List Verdict → Said) (old new : List ChildValue) (r : Result Said NoMemory) → Rules goes q says old new r → length new ≡ length old
 rules_many goes q says [] new (Ok said) k = ap (λ (cs : List ChildValue). length cs) k.0

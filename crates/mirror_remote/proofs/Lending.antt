@@ -6,8 +6,8 @@ use Rattle.std.proofs.lemmas.Bool.{eqb-true}
 use Rattle.std.proofs.lemmas.List.{nil_from_length}
 use Rattle.journal_model.specs.declared.entry.Entry.{Entry}
 use Rattle.mirror_children.specs.Children.{ChildValue}
-use Rattle.mirror_starts.specs.Stops.{LogValue}
-use Rattle.mirror_starts.specs.Outcomes.{MirrorValue}
+use Rattle.mirror_remote.specs.Starts.Stops.{LogValue}
+use Rattle.mirror_remote.specs.Starts.Outcomes.{MirrorValue}
 use Rattle.mirror_remote.specs.Mirrors.{journals_of}
 
 -- whether there are children

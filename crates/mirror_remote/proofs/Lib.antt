@@ -3,3 +3,4 @@ mod Lending
 mod Everywhere
 mod Prepared
 mod Keeping
+pub mod StartsLemmas

@@ -3,18 +3,18 @@ use Rattle.std.proofs.Common.{◌≡◌, ◌⊎◌, inl, inr, ℕ, suc, ◌<◌,
 use Rattle.std.specs.Prelude.{codes, Result, Ok, Err, IfOk}
 use Rattle.ann_key.specs.declared.bytes.NoMemory.{NoMemory}
 use Rattle.ann_outside.specs.Causes.{Rose}
-use Rattle.child_end.specs.Programs.{AddsAll}
-use Rattle.kit_core.specs.declared.call.Said.{Said}
-use Rattle.kit_core.specs.declared.call.Said.TheVariants.{Yes}
-use Rattle.mirror_plan.specs.declared.plan.Plan.{Plan}
-use Rattle.mirror_plan.specs.Settings.{first_bad, plans_in}
+use Rattle.child_life.specs.End.Programs.{AddsAll}
+use Rattle.kit_serve.specs.declared.kit.call.Said.{Said}
+use Rattle.kit_serve.specs.declared.kit.call.Said.TheVariants.{Yes}
+use Rattle.mirror_children.specs.declared.plan.plan.Plan.{Plan}
+use Rattle.mirror_children.specs.Plan.Settings.{first_bad, plans_in}
 use Rattle.mirror_children.specs.Rule.{failure, mirror_failure}
-use Rattle.mirror_starts.specs.declared.starting.Standing.{Standing}
-use Rattle.mirror_starts.specs.declared.starting.Standing.TheVariants.{Ready, Unready, NoMemory as Lacking}
-use Rattle.mirror_starts.specs.Readiness.{IsUnreadyAs, IsUnstartedAs, starts_of}
-use Rattle.mirror_starts.specs.Outcomes.{AreAllReady, Empties, IsCutShort, IsStuck, MirrorValue, StartsAs}
-use Rattle.mirror_starts.proofs.Begun.{rose_later, stays_adds}
-use Rattle.mirror_starts.proofs.Preparing.{cut_none, nothing_done, stuck_cut}
+use Rattle.mirror_remote.specs.declared.starts.starting.Standing.{Standing}
+use Rattle.mirror_remote.specs.declared.starts.starting.Standing.TheVariants.{Ready, Unready, NoMemory as Lacking}
+use Rattle.mirror_remote.specs.Starts.Readiness.{IsUnreadyAs, IsUnstartedAs, starts_of}
+use Rattle.mirror_remote.specs.Starts.Outcomes.{AreAllReady, Empties, IsCutShort, IsStuck, MirrorValue, StartsAs}
+use Rattle.mirror_remote.proofs.StartsLemmas.Begun.{rose_later, stays_adds}
+use Rattle.mirror_remote.proofs.StartsLemmas.Preparing.{cut_none, nothing_done, stuck_cut}
 use Rattle.mirror_remote.specs.Mirrors.{Begins, BeginsTo, Prepares, PreparesTo, Says}
 use Rattle.ann_outside.proofs.Across.{stays_both}
 

@@ -1,7 +1,7 @@
 -- What a mirror says of itself.
 use Rattle.std.specs.Prelude.{ℕ, List, map, codes}
-use Rattle.kit_core.specs.declared.describe.Pair.{Pair}
-use Rattle.mirror_plan.specs.Settings.{names}
+use Rattle.kit_serve.specs.declared.kit.describe.Pair.{Pair}
+use Rattle.mirror_children.specs.Plan.Settings.{names}
 
 -- a setting with its meaning
 abbrev pub config_of : List ℕ → Pair

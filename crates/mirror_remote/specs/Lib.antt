@@ -1,12 +1,14 @@
 pub mod Mirrors
 pub mod Describing
 pub mod Sessions
+pub mod Lasting
 pub mod Rows
 pub use Rattle.ann_key.specs.KeyRefs
 pub use Rattle.annex_model.specs.Lines
 pub use Rattle.annex_model.specs.Messages
-pub use Rattle.kit_core.specs.Calls
+pub use Rattle.kit_serve.specs.Kit.Calls
 pub use Rattle.mirror_children.specs.Children
 pub use Rattle.mirror_children.specs.Rule
-pub use Rattle.mirror_plan.specs.Settings
-pub use Rattle.mirror_starts.specs.Outcomes
+pub use Rattle.mirror_children.specs.Plan.Settings
+pub use Rattle.mirror_remote.specs.Starts.Outcomes
+pub mod Starts

@@ -5,15 +5,15 @@ use Rattle.ann_key.specs.declared.bytes.NoMemory.{NoMemory}
 use Rattle.ann_outside.specs.Causes.{Stays}
 use Rattle.journal_model.specs.declared.entry.Entry.{Entry}
 use Rattle.child_link.specs.Wires.{WireValue}
-use Rattle.kit_core.specs.declared.call.Said.{Said}
-use Rattle.kit_core.specs.declared.call.Said.TheVariants.{Yes}
-use Rattle.mirror_plan.specs.declared.plan.Plan.{Plan}
-use Rattle.mirror_plan.specs.Settings.{first_bad, plans_in}
+use Rattle.kit_serve.specs.declared.kit.call.Said.{Said}
+use Rattle.kit_serve.specs.declared.kit.call.Said.TheVariants.{Yes}
+use Rattle.mirror_children.specs.declared.plan.plan.Plan.{Plan}
+use Rattle.mirror_children.specs.Plan.Settings.{first_bad, plans_in}
 use Rattle.mirror_children.specs.Rule.{failure, mirror_failure}
-use Rattle.mirror_starts.specs.declared.starting.Standing.{Standing}
-use Rattle.mirror_starts.specs.declared.starting.Standing.TheVariants.{Ready, Unready, NoMemory as Lacking}
-use Rattle.mirror_starts.specs.Stops.{LogValue, AreClosed, AreSoundChildren, AreSoundLogs, AreWired}
-use Rattle.mirror_starts.specs.Outcomes.{AreAllReady, Empties, IsCutShort, IsStuck, MirrorValue}
+use Rattle.mirror_remote.specs.declared.starts.starting.Standing.{Standing}
+use Rattle.mirror_remote.specs.declared.starts.starting.Standing.TheVariants.{Ready, Unready, NoMemory as Lacking}
+use Rattle.mirror_remote.specs.Starts.Stops.{LogValue, AreClosed, AreSoundChildren, AreSoundLogs, AreWired}
+use Rattle.mirror_remote.specs.Starts.Outcomes.{AreAllReady, Empties, IsCutShort, IsStuck, MirrorValue}
 
 -- each journal is legal, and each job's part in it fits
 pub record IsSoundMirror (m : MirrorValue) : Type 0 where

@@ -2,8 +2,8 @@
 use Rattle.std.specs.Prelude.{ℕ, List, [], ◌∷◌, None}
 use Rattle.journal_model.specs.declared.entry.What.TheVariants.{Got}
 use Rattle.journal_model.specs.declared.entry.Entry.{Entry}
-use Rattle.reg_file.specs.Registers.{nothing_set}
-use Rattle.mirror_starts.specs.Openings.{mirror_opening}
+use Rattle.registers.specs.Registers.{nothing_set}
+use Rattle.mirror_remote.specs.Starts.Openings.{mirror_opening}
 use Rattle.mirror_children.specs.Children.{ChildValue}
 
 -- the child of the setting of this number, with this journal

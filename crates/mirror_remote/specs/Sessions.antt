@@ -3,13 +3,13 @@ use Rattle.std.specs.Prelude.{◌≡◌, Bool, true, false, List, [], ◌∷◌,
 use Rattle.ann_key.specs.declared.bytes.NoMemory.{NoMemory}
 use Rattle.annex_model.specs.Messages.{HostMessage, Transfer, Checkpresent, Remove}
 use Rattle.journal_model.specs.declared.verdict.Verdict.{Verdict}
-use Rattle.kit_core.specs.declared.call.Said.{Said}
-use Rattle.kit_core.specs.declared.call.Said.TheVariants.{Yes}
-use Rattle.kit_core.specs.declared.call.Asked.{Asked}
-use Rattle.kit_core.specs.declared.call.Asked.TheVariants.{Prepare as AskPrepare, Store as AskStore, Retrieve as AskRetrieve, Check as AskCheck, Remove as AskRemove}
+use Rattle.kit_serve.specs.declared.kit.call.Said.{Said}
+use Rattle.kit_serve.specs.declared.kit.call.Said.TheVariants.{Yes}
+use Rattle.kit_serve.specs.declared.kit.call.Asked.{Asked}
+use Rattle.kit_serve.specs.declared.kit.call.Asked.TheVariants.{Prepare as AskPrepare, Initialize as AskInitialize, Store as AskStore, Retrieve as AskRetrieve, Check as AskCheck, Remove as AskRemove}
 use Rattle.mirror_children.specs.Children.{ChildValue}
 use Rattle.mirror_children.specs.Rule.{IsAsked, is_done, RulesAll, RulesCheck, RulesRetrieve}
-use Rattle.mirror_starts.specs.Outcomes.{MirrorValue}
+use Rattle.mirror_remote.specs.Starts.Outcomes.{MirrorValue}
 use Rattle.mirror_remote.specs.Mirrors.{Prepares}
 
 -- what was asked of a mirror, and what it answered
@@ -24,6 +24,7 @@ RestStays old new = (new.logs ≡ old.logs) × (new.programs ≡ old.programs)
 -- what each of the five calls keeps to
 abbrev pub Keeps : Asked → Result Said NoMemory → MirrorValue → MirrorValue → Type 0
 Keeps (AskPrepare values) answer old new = Prepares values old new answer
+Keeps (AskInitialize values) answer old new = Prepares values old new answer
 Keeps (AskStore key file) answer old new = RulesAll (Transfer true key file) old.children new.children answer × RestStays old new
 Keeps (AskRetrieve key file) answer old new = RulesRetrieve (Transfer false key file) old.children new.children answer × RestStays old new
 Keeps (AskCheck key) answer old new = RulesCheck (Checkpresent key) old.children new.children answer × RestStays old new
@@ -40,12 +41,15 @@ IsFresh m = (m.children ≡ []) × (m.logs ≡ [])
 
 abbrev pub is_prepare : Asked → Bool
 is_prepare (AskPrepare values) = true
+is_prepare (AskInitialize values) = true
 is_prepare asked = false
 
 -- whether a mirror is prepared after a call, by whether it was so before
 abbrev pub prepared_by : Asked → Result Said NoMemory → Bool → Bool
 prepared_by (AskPrepare values) (Ok Yes) was = true
 prepared_by (AskPrepare values) answer was = false
+prepared_by (AskInitialize values) (Ok Yes) was = true
+prepared_by (AskInitialize values) answer was = false
 prepared_by asked answer was = was
 
 -- the last prepare said Yes, or the mirror was prepared before and there was none

@@ -1,12 +1,13 @@
 // What a mirror says of itself.
 ghost use Rattle.std.specs.Prelude.{◌≡◌, ◌++◌, ◌∷◌, [], IfOk, OnOk};
-ghost use Rattle.kit_core.specs.declared.describe.Where.TheVariants.{Untold};
+ghost use Rattle.kit_serve.specs.declared.kit.describe.Where.TheVariants.{Untold};
 ghost use Rattle.mirror_remote.specs.Describing.{configs, config_of};
 
+use crate::lasting::LastingMirror;
 use crate::mirror::MirrorRemote;
 use ann_key::{Bytes, KeyRef, NoMemory};
 use ann_outside::Programs;
-use kit_core::{Availability, Describe, Pair, Where};
+use kit_serve::kit::{Availability, Describe, Pair, Where};
 use std::alloc::Global;
 
 const MEANING: &[u8] = b"a program that serves a remote, and its settings as NAME=VALUE";
@@ -66,5 +67,29 @@ impl<P: Programs> Describe for MirrorRemote<P> {
 
     fn whereis(&self, _alloc: Global, _key: KeyRef<'_>) -> Result<Where, NoMemory> {
         Ok(Where::Untold)
+    }
+}
+
+impl<P: Programs> Describe for LastingMirror<P> {
+    ghost description = { λ m. ⟦<MirrorRemote<P> as Describe>⟧.description m.mirror };
+
+    fn configs(&self, alloc: Global) -> Result<Vec<Pair>, NoMemory> {
+        self.mirror.configs(alloc)
+    }
+
+    fn cost(&self) -> Option<u64> {
+        self.mirror.cost()
+    }
+
+    fn availability(&self) -> Option<Availability> {
+        self.mirror.availability()
+    }
+
+    fn info(&self, alloc: Global) -> Result<Vec<Pair>, NoMemory> {
+        self.mirror.info(alloc)
+    }
+
+    fn whereis(&self, alloc: Global, key: KeyRef<'_>) -> Result<Where, NoMemory> {
+        self.mirror.whereis(alloc, key)
     }
 }

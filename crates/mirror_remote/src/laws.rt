@@ -4,12 +4,12 @@ ghost use Rattle.ann_key.specs.declared.bytes.NoMemory.{NoMemory};
 ghost use Rattle.annex_model.specs.Messages.{HostMessage};
 ghost use Rattle.journal_model.specs.declared.verdict.Why.TheVariants.{Eof};
 ghost use Rattle.journal_model.specs.declared.verdict.Verdict.TheVariants.{Done, Failed, Absent, Unknown, Unsupported, Ended, Unsent};
-ghost use Rattle.kit_core.specs.declared.call.Asked.{Asked};
-ghost use Rattle.kit_core.specs.declared.call.Said.{Said};
-ghost use Rattle.kit_core.specs.declared.call.Said.TheVariants.{Yes, No, Failure};
+ghost use Rattle.kit_serve.specs.declared.kit.call.Asked.{Asked};
+ghost use Rattle.kit_serve.specs.declared.kit.call.Said.{Said};
+ghost use Rattle.kit_serve.specs.declared.kit.call.Said.TheVariants.{Yes, No, Failure};
 ghost use Rattle.mirror_children.specs.Children.{ChildValue};
 ghost use Rattle.mirror_children.specs.Rule.{all_said, check_said, failure, is_done, is_enough, retrieve_said, Answers};
-ghost use Rattle.mirror_starts.specs.Outcomes.{MirrorValue};
+ghost use Rattle.mirror_remote.specs.Starts.Outcomes.{MirrorValue};
 ghost use Rattle.mirror_remote.specs.Sessions.{is_prepare, is_prepared_after, AllDid, AreCalls, Called, IsFresh, Keeps};
 ghost use Rattle.mirror_remote.specs.Rows.{two, two_saying};
 

@@ -3,8 +3,13 @@
 #![tactic(auto)]
 
 mod describing;
+mod lasting;
 pub mod laws;
 mod mirror;
 mod requests;
+pub mod starts;
+mod unready;
 
+pub use lasting::LastingMirror;
 pub use mirror::{Ended, MirrorRemote};
+pub use unready::unready_text;

@@ -3,22 +3,25 @@ ghost use Rattle.std.specs.Prelude.{◌≡◌, [], not, true, false, slice_get, 
 ghost use Rattle.ann_key.specs.KeyRefs.{text_of};
 ghost use Rattle.annex_model.specs.Lines.{has_newline};
 ghost use Rattle.annex_model.specs.Messages.{is_sent_key, Transfer, Checkpresent, Remove};
-ghost use Rattle.kit_core.specs.Calls.{are_lines, is_line_said};
-ghost use Rattle.mirror_plan.specs.Settings.{names};
+ghost use Rattle.kit_serve.specs.Kit.Calls.{are_lines, is_line_said};
+ghost use Rattle.mirror_children.specs.Plan.Settings.{names};
+ghost use Rattle.std.specs.List.{list_any};
 ghost use Rattle.std.specs.Option.{option_copied};
 ghost use Rattle.mirror_children.specs.Rule.{RulesAll, RulesCheck, RulesRetrieve};
-ghost use Rattle.mirror_starts.specs.Outcomes.{Empties};
+ghost use Rattle.mirror_remote.specs.Starts.Outcomes.{Empties};
+ghost use Rattle.mirror_remote.specs.Lasting.{are_spent, is_spent};
 ghost use Rattle.mirror_remote.specs.Mirrors.{Begins, Finishes, IsSoundMirror, Prepares, Says, journals_of};
 
 use crate::requests::{check_of, remove_of, transfer_of};
+use crate::starts::{Standing, Stopped, start_all, stop_all};
 use ann_key::{KeyRef, NoMemory};
-use ann_outside::Programs;
+use ann_outside::{Programs, Sink, Source};
 use child_link::Wire;
-use journal_look::Journal;
-use kit_core::{Said, Values};
+use journal_look::{Journal, why_of};
+use journal_model::Why;
+use kit_serve::kit::{Said, Values};
+use mirror_children::plan::{Plan, Plans, read_plans};
 use mirror_children::{Child, ask_all, ask_any, ask_check, mirror_failure};
-use mirror_plan::{Plan, Plans, read_plans};
-use mirror_starts::{Standing, Stopped, start_all, stop_all};
 use std::alloc::Global;
 use std::marker::Model;
 use std::mem;
@@ -35,7 +38,7 @@ pub struct MirrorRemote<P: Programs> {
 }
 
 impl<P: Programs> Model for MirrorRemote<P> {
-    ghost use Rattle.mirror_starts.specs.Outcomes.{IsKept, MirrorValue, mirror_value};
+    ghost use Rattle.mirror_remote.specs.Starts.Outcomes.{IsKept, MirrorValue, mirror_value};
 
     ghost Value = { MirrorValue };
 
@@ -92,6 +95,13 @@ where
         }
     }
 
+    /// Whether there is no child, or one of them has ended since its journal is full. It takes no memory.
+    pub fn are_spent(&self) -> bool
+        ensures { result ≡ are_spent self.now.children }
+    {
+        self.children.is_empty() || any_spent(&self.children)
+    }
+
     /// Closes the children of the last `prepare`, and waits for their programs to end. It takes no memory.
     pub fn finish(self) -> Ended<P>
         ensures { Finishes self result }
@@ -124,6 +134,19 @@ where
     let mut stopped = mem::replace(&mut mirror.stopped, Stopped::none(mirror.alloc));
     stop_all(&mut mirror.programs, children, &mut stopped);
     let (_journals, _wires) = stopped.finish();
+}
+
+// Whether the child has ended since its journal is full.
+fn is_spent<I: Sink, O: Source, S>(child: &Child<I, O, S>) -> bool
+    ensures { result ≡ is_spent child.now }
+{
+    matches!(why_of(child.journal(), 1), Some(Why::Full))
+}
+
+fn any_spent<I: Sink, O: Source, S>(children: &[Child<I, O, S>]) -> bool
+    ensures { result ≡ list_any is_spent children.now }
+{
+    children.iter().any(|child| is_spent(child))
 }
 
 // What is said of a start that ended so.

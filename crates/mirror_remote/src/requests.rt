@@ -3,12 +3,12 @@ ghost use Rattle.std.specs.Prelude.{◌≡◌, not, true, IfOk, IsTrue};
 ghost use Rattle.ann_key.specs.KeyRefs.{text_of};
 ghost use Rattle.annex_model.specs.Lines.{has_newline};
 ghost use Rattle.annex_model.specs.Messages.{is_sent_key, Transfer, Checkpresent, Remove};
-ghost use Rattle.talk_serial.specs.Requests.{message_of};
+ghost use Rattle.host_talk.specs.Request.Requests.{message_of};
 ghost use Rattle.mirror_children.specs.Rule.{is_mirrored};
 
 use ann_key::{Key, KeyRef, NoMemory, Text};
+use host_talk::request::Request;
 use std::alloc::Global;
-use talk_serial::Request;
 
 /// To store the content of a key, or to retrieve it.
 pub(crate) fn transfer_of(

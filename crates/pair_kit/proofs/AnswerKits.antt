@@ -8,11 +8,11 @@ use Rattle.std.proofs.lemmas.List.Elements.{filter-append}
 use Rattle.std.proofs.lemmas.List.Folds.{list_all-append}
 use Rattle.annex_model.specs.Messages.{Getconfig, remote_line}
 use Rattle.annex_model.specs.Messages.{HostMessage, Prepare, Initremote, Transfer, Checkpresent, Remove, Export, Value, Creds, HostError, host_reading}
-use Rattle.kit_core.specs.declared.call.Call.{Call}
-use Rattle.kit_core.specs.Kits.{Heard, messages, is_value, is_error, is_readying, request_of, values_of, next_setting, awaits_value, is_unexpected, ends_kit, is_over, is_prepared, final_line, Due, Silence, Line, Asks, refusal, transfer_asked, readying, work_due, expected_due, live_due, due_of, said_by, IsAskedBy, lines_to, IsServed}
-use Rattle.kit_core.specs.Stages.{stage_of, is_free}
-use Rattle.kit_core.proofs.Behind.{request_pushed, values_pushed, some_behind-push, request_of-push, values_of-push, messages-push}
-use Rattle.kit_core.proofs.Waiting.{free_followed}
+use Rattle.kit_serve.specs.declared.kit.call.Call.{Call}
+use Rattle.kit_serve.specs.Kit.Kits.{Heard, messages, is_value, is_error, is_readying, request_of, values_of, next_setting, awaits_value, is_unexpected, ends_kit, is_over, is_prepared, final_line, Due, Silence, Line, Asks, refusal, transfer_asked, readying, work_due, expected_due, live_due, due_of, said_by, IsAskedBy, lines_to, IsServed}
+use Rattle.kit_serve.specs.Kit.Stages.{stage_of, is_free}
+use Rattle.kit_serve.proofs.KitLemmas.Behind.{request_pushed, values_pushed, some_behind-push, request_of-push, values_of-push, messages-push}
+use Rattle.kit_serve.proofs.KitLemmas.Waiting.{free_followed}
 use Rattle.pair_kit.specs.declared.taken.Taken.{Taken}
 use Rattle.pair_kit.specs.Cues.{settings}
 use Rattle.pair_kit.specs.Pairs.{heard, is_spelled, are_spelled, taken_lines}

@@ -2,8 +2,8 @@
 use Rattle.std.proofs.Common.{◌≡◌, List, [], ◌∷◌, ◌++◌, Option, Some, option_map, sym, ap, ◌∙◌, append_assoc, append-nil, ℕ}
 use Rattle.std.proofs.lemmas.List.Sums.{fold-append}
 use Rattle.annex_model.specs.Messages.{HostMessage, host_reading}
-use Rattle.kit_core.specs.Kits.{Heard, messages, lines_to}
-use Rattle.kit_core.specs.Stages.{stage_of, is_free}
+use Rattle.kit_serve.specs.Kit.Kits.{Heard, messages, lines_to}
+use Rattle.kit_serve.specs.Kit.Stages.{stage_of, is_free}
 use Rattle.pair_kit.specs.Cues.{settings}
 use Rattle.pair_kit.specs.declared.taken.Taken.{Taken}
 use Rattle.pair_kit.specs.Pairs.{heard, heard_by}

@@ -1,8 +1,8 @@
 -- The calls of a cue.
 use Rattle.std.proofs.Common.{◌≡◌, List, [], ◌∷◌, ◌++◌, Option, None, Some, subst}
 use Rattle.std.specs.Prelude.{IfSome, option_to_list}
-use Rattle.kit_core.specs.declared.call.Said.{Said}
-use Rattle.kit_core.specs.declared.call.Call.{Call}
+use Rattle.kit_serve.specs.declared.kit.call.Said.{Said}
+use Rattle.kit_serve.specs.declared.kit.call.Call.{Call}
 use Rattle.pair_kit.specs.Cues.{AreSaid}
 
 pub said_front : (word : Said) (xs ys : List Call) → AreSaid word (xs ++ ys) → AreSaid word xs

@@ -3,13 +3,13 @@ use Rattle.std.proofs.Common.{ℕ, ◌≡◌, Bool, true, false, cond, List, [],
 use Rattle.std.specs.Prelude.{IfSome, codes}
 use Rattle.std.specs.Str.{is_utf8}
 use Rattle.annex_model.specs.Messages.{HostMessage, Prepare, Initremote, Transfer, Checkpresent, Remove, Value, Error}
-use Rattle.kit_core.specs.declared.call.Said.{Said}
-use Rattle.kit_core.specs.declared.call.Said.TheVariants.{Yes}
-use Rattle.kit_core.specs.declared.call.Asked.{Asked}
-use Rattle.kit_core.specs.declared.call.Asked.TheVariants.{Prepare as AskPrepare, Store as AskStore, Retrieve as AskRetrieve, Check as AskCheck, Remove as AskRemove}
-use Rattle.kit_core.specs.declared.call.Call.{Call}
-use Rattle.kit_core.specs.Kits.{Heard, Due, Silence, Line, Asks, readying, transfer_asked, refusal, due_of, asked_by, live_due, expected_due, work_due, is_unexpected, awaits_value, is_over, is_prepared, messages, next_setting, values_of, with_call, IsAskedBy, lines_to}
-use Rattle.kit_core.specs.Stages.{KitValue, Follows, Steps}
+use Rattle.kit_serve.specs.declared.kit.call.Said.{Said}
+use Rattle.kit_serve.specs.declared.kit.call.Said.TheVariants.{Yes}
+use Rattle.kit_serve.specs.declared.kit.call.Asked.{Asked}
+use Rattle.kit_serve.specs.declared.kit.call.Asked.TheVariants.{Prepare as AskPrepare, Store as AskStore, Retrieve as AskRetrieve, Check as AskCheck, Remove as AskRemove}
+use Rattle.kit_serve.specs.declared.kit.call.Call.{Call}
+use Rattle.kit_serve.specs.Kit.Kits.{Heard, Due, Silence, Line, Asks, readying, transfer_asked, refusal, due_of, asked_by, live_due, expected_due, work_due, is_unexpected, awaits_value, is_over, is_prepared, messages, next_setting, values_of, with_call, IsAskedBy, lines_to}
+use Rattle.kit_serve.specs.Kit.Stages.{KitValue, Follows, Steps}
 use Rattle.pair_kit.specs.Shelves.{Items}
 use Rattle.pair_kit.specs.Cues.{CueValue, told_calls, settings, as_list}
 use Rattle.pair_kit.specs.Works.{word, word_for, call_for, StepsBy}

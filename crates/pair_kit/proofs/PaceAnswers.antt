@@ -18,8 +18,8 @@ use Rattle.annex_model.specs.Hearings.{Aside, Settles, by_answer, hearing_of, he
 use Rattle.annex_model.proofs.FrontsTalk.{said-append}
 use Rattle.annex_model.proofs.Leads.{asked_more}
 use Rattle.annex_model.proofs.Readings.{canonical_read}
-use Rattle.reg_file.specs.Registers.{IsKept, config_of, is_line, is_word, are_texts}
-use Rattle.reg_file.specs.Tables.{Texts, text_at}
+use Rattle.registers.specs.Registers.{IsKept, config_of, is_line, is_word, are_texts}
+use Rattle.registers.specs.Tables.{Texts, text_at}
 use Rattle.journal_model.specs.declared.verdict.Why.TheVariants.{Error as ErrorAt, Version as VersionFault}
 use Rattle.journal_model.specs.declared.verdict.Verdict.{Verdict}
 use Rattle.journal_model.specs.declared.entry.What.{What}
@@ -34,10 +34,10 @@ use Rattle.journal_model.proofs.Linking.{got_more}
 use Rattle.journal_model.proofs.Looks.{entry, any-append, each_of-append, verdict_of-append, silent_lines}
 use Rattle.journal_model.proofs.PartsGrow.{part_from-append}
 use Rattle.journal_model.proofs.Replying.{IsPlaced, tag_kept}
-use Rattle.kit_core.specs.declared.kit.Stage.TheVariants.{Waiting}
-use Rattle.kit_core.specs.Kits.{is_over, request_of as request_of_messages}
-use Rattle.kit_core.specs.Stages.{is_free, stage_of}
-use Rattle.kit_core.proofs.Behind.{request_of-push}
+use Rattle.kit_serve.specs.declared.kit.kit.Stage.TheVariants.{Waiting}
+use Rattle.kit_serve.specs.Kit.Kits.{is_over, request_of as request_of_messages}
+use Rattle.kit_serve.specs.Kit.Stages.{is_free, stage_of}
+use Rattle.kit_serve.proofs.KitLemmas.Behind.{request_of-push}
 use Rattle.pair_kit.specs.Cues.{settings}
 use Rattle.pair_kit.specs.Answered.{line_for}
 use Rattle.pair_kit.specs.Paces.{written_lines, written, replies_to, is_message_line, IsSilent, IsBusy}

@@ -29,7 +29,7 @@ use Rattle.journal_model.proofs.PartsGrow.{NamesNoLine, come_names_none, part_fr
 use Rattle.journal_model.proofs.Projecting.{invariant, asked_parts}
 use Rattle.journal_model.proofs.Replying.{tag_kept}
 use Rattle.journal_model.proofs.Verdicts.{unasked_none}
-use Rattle.kit_core.specs.Kits.{is_over, request_of as request_of_messages}
+use Rattle.kit_serve.specs.Kit.Kits.{is_over, request_of as request_of_messages}
 use Rattle.pair_kit.specs.Cues.{settings}
 use Rattle.pair_kit.specs.Answered.{line_for}
 use Rattle.pair_kit.specs.Paces.{written_lines, written, replies_to, is_message_line, IsSilent, IsIdle, IsBusy, KeepsStep}

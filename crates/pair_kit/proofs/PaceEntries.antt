@@ -14,8 +14,8 @@ use Rattle.journal_model.specs.Parts.{part, part_from}
 use Rattle.journal_model.proofs.Looks.{entry, any-append, each_of-append}
 use Rattle.journal_model.proofs.PartsGrow.{NamesNoLine, part_from-append}
 use Rattle.journal_model.proofs.Replying.{IsPlaced, tag_kept}
-use Rattle.kit_core.specs.Kits.{is_over, request_of as request_of_messages}
-use Rattle.kit_core.specs.Stages.{stage_of}
+use Rattle.kit_serve.specs.Kit.Kits.{is_over, request_of as request_of_messages}
+use Rattle.kit_serve.specs.Kit.Stages.{stage_of}
 use Rattle.pair_kit.specs.Cues.{settings}
 use Rattle.pair_kit.specs.Answered.{line_for, request_of}
 use Rattle.pair_kit.specs.Paces.{written_lines, written, replies_to, is_message_line, IsExpected, IsSilent, IsIdle, IsBusy, KeepsStep}

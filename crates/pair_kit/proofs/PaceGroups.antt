@@ -4,7 +4,7 @@ use Rattle.std.specs.Prelude.{◌&&◌, ◌||◌}
 use Rattle.std.specs.List.{list_all}
 use Rattle.std.proofs.lemmas.Bool.{not-true, and_parts as both, eqb-true as same_number}
 use Rattle.annex_model.specs.Messages.{RemoteMessage}
-use Rattle.reg_file.specs.Registers.{IsKept}
+use Rattle.registers.specs.Registers.{IsKept}
 use Rattle.journal_model.specs.declared.verdict.Why.{Why}
 use Rattle.journal_model.specs.declared.verdict.Why.TheVariants.{Foul, Error, Version}
 use Rattle.journal_model.specs.declared.verdict.Verdict.{Verdict}

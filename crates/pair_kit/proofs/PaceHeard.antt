@@ -21,10 +21,10 @@ use Rattle.journal_model.specs.Wires.{sent_lines}
 use Rattle.journal_model.proofs.Growing.{Legal-induction}
 use Rattle.journal_model.proofs.Linking.{got_more}
 use Rattle.journal_model.proofs.Soft.{soft_stretch}
-use Rattle.kit_core.specs.declared.kit.Stage.{Stage}
-use Rattle.kit_core.specs.Kits.{Heard, messages, is_over, request_of, IsServed, IsAskedBy, due_of, said_by, lines_to, lines_behind}
-use Rattle.kit_core.specs.Stages.{stage_of}
-use Rattle.kit_core.proofs.Behind.{messages-push, lines_behind-push}
+use Rattle.kit_serve.specs.declared.kit.kit.Stage.{Stage}
+use Rattle.kit_serve.specs.Kit.Kits.{Heard, messages, is_over, request_of, IsServed, IsAskedBy, due_of, said_by, lines_to, lines_behind}
+use Rattle.kit_serve.specs.Kit.Stages.{stage_of}
+use Rattle.kit_serve.proofs.KitLemmas.Behind.{messages-push, lines_behind-push}
 use Rattle.pair_kit.specs.declared.taken.Taken.{Taken}
 use Rattle.pair_kit.specs.Cues.{settings}
 use Rattle.pair_kit.specs.Pairs.{PairValue, heard, is_spelled, are_spelled, taken_lines, said_lines}

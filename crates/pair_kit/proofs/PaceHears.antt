@@ -22,7 +22,7 @@ use Rattle.journal_model.proofs.Looks.{entry, open_unsettled, settled_none}
 use Rattle.journal_model.proofs.PartsGrow.{come_names_none}
 use Rattle.journal_model.proofs.Projecting.{invariant}
 use Rattle.journal_model.proofs.Registering.{settings-append, settings_from-none}
-use Rattle.kit_core.specs.Stages.{stage_of}
+use Rattle.kit_serve.specs.Kit.Stages.{stage_of}
 use Rattle.host_core.specs.Steps.{group_of}
 use Rattle.pair_kit.specs.Cues.{settings}
 use Rattle.pair_kit.specs.Pairs.{PairValue}

@@ -12,18 +12,18 @@ use Rattle.annex_model.specs.Tags.{names_async}
 use Rattle.annex_model.specs.Talks.{final_of, is_aside}
 use Rattle.journal_model.specs.Due.{is_error}
 use Rattle.journal_model.specs.Replies.{is_setting}
-use Rattle.kit_core.specs.declared.call.Said.{Said}
-use Rattle.kit_core.specs.declared.call.Said.TheVariants.{Yes, No, Failure}
-use Rattle.kit_core.specs.declared.call.Asked.{Asked}
-use Rattle.kit_core.specs.declared.call.Asked.TheVariants.{Prepare as AskPrepare, Check as AskCheck, Remove as AskRemove}
-use Rattle.kit_core.specs.declared.call.Call.{Call}
-use Rattle.kit_core.specs.declared.kit.Stage.{Stage}
-use Rattle.kit_core.specs.declared.kit.Stage.TheVariants.{Waiting, Readying}
-use Rattle.kit_core.specs.Calls.{is_line_said}
-use Rattle.kit_core.specs.Kits.{Heard, messages, has_line_fields, is_error as is_host_error, is_readying, is_prepared, is_unexpected, ends_kit, is_over, awaits_value, next_setting, request_of, values_of, final_line, Due, Asks, refusal, readying, transfer_asked, work_due, expected_due, live_due, due_of, said_by, IsAskedBy}
-use Rattle.kit_core.specs.Stages.{is_free, stage_by, stage_of}
-use Rattle.kit_core.proofs.Behind.{request_pushed, values_pushed, some_behind-push, request_of-push, values_of-push}
-use Rattle.kit_core.proofs.Endless.{final_free}
+use Rattle.kit_serve.specs.declared.kit.call.Said.{Said}
+use Rattle.kit_serve.specs.declared.kit.call.Said.TheVariants.{Yes, No, Failure}
+use Rattle.kit_serve.specs.declared.kit.call.Asked.{Asked}
+use Rattle.kit_serve.specs.declared.kit.call.Asked.TheVariants.{Prepare as AskPrepare, Check as AskCheck, Remove as AskRemove}
+use Rattle.kit_serve.specs.declared.kit.call.Call.{Call}
+use Rattle.kit_serve.specs.declared.kit.kit.Stage.{Stage}
+use Rattle.kit_serve.specs.declared.kit.kit.Stage.TheVariants.{Waiting, Readying}
+use Rattle.kit_serve.specs.Kit.Calls.{is_line_said}
+use Rattle.kit_serve.specs.Kit.Kits.{Heard, messages, has_line_fields, is_error as is_host_error, is_readying, is_prepared, is_unexpected, ends_kit, is_over, awaits_value, next_setting, request_of, values_of, final_line, Due, Asks, refusal, readying, transfer_asked, work_due, expected_due, live_due, due_of, said_by, IsAskedBy}
+use Rattle.kit_serve.specs.Kit.Stages.{is_free, stage_by, stage_of}
+use Rattle.kit_serve.proofs.KitLemmas.Behind.{request_pushed, values_pushed, some_behind-push, request_of-push, values_of-push}
+use Rattle.kit_serve.proofs.KitLemmas.Endless.{final_free}
 use Rattle.pair_kit.specs.Cues.{settings}
 use Rattle.pair_kit.specs.Paces.{is_name, is_line_call}
 use Rattle.ann_key.proofs.Lists.{same_name as own}

@@ -12,11 +12,11 @@ use Rattle.annex_model.specs.Turns.{turn_of, is_at}
 use Rattle.journal_model.specs.declared.entry.Entry.{Entry}
 use Rattle.journal_model.specs.Journal.{any, offers}
 use Rattle.journal_model.specs.Legality.{is_text, suits_child}
-use Rattle.kit_core.specs.declared.kit.Stage.TheVariants.{Waiting}
-use Rattle.kit_core.specs.Kits.{is_error as is_host_error, is_unexpected, is_over, awaits_value, is_readying, next_setting, request_of, values_of}
-use Rattle.kit_core.specs.Stages.{is_free, stage_by, stage_of}
-use Rattle.kit_core.proofs.Behind.{request_pushed, request_of-push}
-use Rattle.kit_core.proofs.KeyLines.{fields_free, read_free}
+use Rattle.kit_serve.specs.declared.kit.kit.Stage.TheVariants.{Waiting}
+use Rattle.kit_serve.specs.Kit.Kits.{is_error as is_host_error, is_unexpected, is_over, awaits_value, is_readying, next_setting, request_of, values_of}
+use Rattle.kit_serve.specs.Kit.Stages.{is_free, stage_by, stage_of}
+use Rattle.kit_serve.proofs.KitLemmas.Behind.{request_pushed, request_of-push}
+use Rattle.kit_serve.proofs.KitLemmas.KeyLines.{fields_free, read_free}
 use Rattle.pair_kit.specs.Cues.{settings}
 use Rattle.pair_kit.specs.Paces.{is_name}
 use Rattle.pair_kit.proofs.PaceKits.{Expects}

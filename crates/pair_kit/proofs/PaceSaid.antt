@@ -12,11 +12,11 @@ use Rattle.annex_model.proofs.Readings.{canonical_remote_read, spelled_of_host}
 use Rattle.journal_model.specs.Due.{is_error}
 use Rattle.journal_model.specs.Replies.{is_setting}
 use Rattle.journal_model.proofs.Asking.{read_askable}
-use Rattle.kit_core.specs.declared.kit.Stage.{Stage}
-use Rattle.kit_core.specs.Kits.{Heard, messages, has_line_fields, ends_kit, some_behind, is_over, request_of, due_of, said_by, lines_to, lines_behind, IsAskedBy, IsServedBehind}
-use Rattle.kit_core.specs.Stages.{stage_of}
-use Rattle.kit_core.proofs.Behind.{messages-push, some_behind-push}
-use Rattle.kit_core.proofs.Fields.{spelled_fields}
+use Rattle.kit_serve.specs.declared.kit.kit.Stage.{Stage}
+use Rattle.kit_serve.specs.Kit.Kits.{Heard, messages, has_line_fields, ends_kit, some_behind, is_over, request_of, due_of, said_by, lines_to, lines_behind, IsAskedBy, IsServedBehind}
+use Rattle.kit_serve.specs.Kit.Stages.{stage_of}
+use Rattle.kit_serve.proofs.KitLemmas.Behind.{messages-push, some_behind-push}
+use Rattle.kit_serve.proofs.KitLemmas.Fields.{spelled_fields}
 use Rattle.pair_kit.specs.declared.taken.Taken.{Taken}
 use Rattle.pair_kit.specs.Cues.{settings}
 use Rattle.pair_kit.specs.Pairs.{heard, taken_lines, said_lines}

@@ -1,7 +1,7 @@
 -- What stands under a name, where bytes were put or taken away.
 use Rattle.std.proofs.Common.{ℕ, ◌≡◌, Bool, true, false, cond, List, Some, None, bytes_eq, refl, sym, ap, ◌∙◌}
 use Rattle.std.proofs.lemmas.Slice.Eq.{bytes_eq-Decides}
-use Rattle.reg_file.proofs.Tables.{value_at-put, value_at-without}
+use Rattle.registers.proofs.Tables.{value_at-put, value_at-without}
 use Rattle.pair_kit.specs.Shelves.{Items, content, without, with_item}
 
 swapped : (xs ys : List ℕ) → bytes_eq xs ys ≡ bytes_eq ys xs

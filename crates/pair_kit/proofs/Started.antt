@@ -2,10 +2,10 @@
 use Rattle.std.proofs.Common.{ℕ, ◌≡◌, Bool, false, List, [], ◌∷◌, refl, ap, ◌∙◌}
 use Rattle.std.specs.Prelude.{codes}
 use Rattle.annex_model.specs.Lines.{text}
-use Rattle.kit_core.specs.declared.call.Said.TheVariants.{Yes}
-use Rattle.kit_core.specs.declared.kit.Stage.{Stage}
-use Rattle.kit_core.specs.declared.kit.Stage.TheVariants.{Waiting}
-use Rattle.kit_core.specs.Stages.{KitValue, Follows}
+use Rattle.kit_serve.specs.declared.kit.call.Said.TheVariants.{Yes}
+use Rattle.kit_serve.specs.declared.kit.kit.Stage.{Stage}
+use Rattle.kit_serve.specs.declared.kit.kit.Stage.TheVariants.{Waiting}
+use Rattle.kit_serve.specs.Kit.Stages.{KitValue, Follows}
 use Rattle.pair_kit.specs.declared.taken.Taken.{Taken}
 use Rattle.pair_kit.specs.Cues.{CueValue, settings}
 use Rattle.pair_kit.specs.Pairs.{new_pair}

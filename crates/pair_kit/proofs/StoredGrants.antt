@@ -10,13 +10,13 @@ use Rattle.annex_model.specs.Messages.{HostMessage, AskExtensions, Prepare, Init
 use Rattle.annex_model.specs.Messages.{IsAskable, IsSayable, is_sent_key, host_reading, remote_reading, remote_line}
 use Rattle.annex_model.specs.Talks.{final_of, is_same}
 use Rattle.annex_model.proofs.Readings.{canonical_remote_read}
-use Rattle.kit_core.specs.declared.call.Said.{Said}
-use Rattle.kit_core.specs.declared.call.Said.TheVariants.{Yes, No, Failure}
-use Rattle.kit_core.specs.declared.call.Asked.{Asked}
-use Rattle.kit_core.specs.declared.call.Asked.TheVariants.{Prepare as AskPrepare, Store as AskStore, Retrieve as AskRetrieve, Check as AskCheck, Remove as AskRemove}
-use Rattle.kit_core.specs.Kits.{Heard, Due, Silence, Line, Asks, messages, request_of, values_of, next_setting, awaits_value, is_readying, is_over, is_unexpected, is_error, is_value, is_prepared, readying, refusal, transfer_asked, final_line, work_due, expected_due, live_due, due_of, asked_by, said_by}
-use Rattle.kit_core.proofs.Behind.{request_pushed, request_of-push, messages-push}
-use Rattle.kit_core.proofs.Following.{over_pushed}
+use Rattle.kit_serve.specs.declared.kit.call.Said.{Said}
+use Rattle.kit_serve.specs.declared.kit.call.Said.TheVariants.{Yes, No, Failure}
+use Rattle.kit_serve.specs.declared.kit.call.Asked.{Asked}
+use Rattle.kit_serve.specs.declared.kit.call.Asked.TheVariants.{Prepare as AskPrepare, Initialize as AskInitialize, Store as AskStore, Retrieve as AskRetrieve, Check as AskCheck, Remove as AskRemove}
+use Rattle.kit_serve.specs.Kit.Kits.{Heard, Due, Silence, Line, Asks, messages, request_of, values_of, next_setting, awaits_value, is_readying, is_over, is_unexpected, is_error, is_value, is_prepared, readying, refusal, transfer_asked, final_line, work_due, expected_due, live_due, due_of, asked_by, said_by}
+use Rattle.kit_serve.proofs.KitLemmas.Behind.{request_pushed, request_of-push, messages-push}
+use Rattle.kit_serve.proofs.KitLemmas.Following.{over_pushed}
 use Rattle.pair_kit.specs.declared.answer.Answer.{Answer}
 use Rattle.pair_kit.specs.Shelves.{Items, content}
 use Rattle.pair_kit.specs.Cues.{settings}
@@ -88,6 +88,7 @@ abbrev pub Suits : Option HostMessage → Option HostMessage → Bool → Due �
 Suits request read free Silence = Unit {0}
 Suits request read free (Line line) = (is_grant line ≡ false) × IsSayable line
 Suits request read free (Asks (AskPrepare values)) = is_readying request ≡ true
+Suits request read free (Asks (AskInitialize values)) = is_readying request ≡ true
 Suits request read free (Asks (AskStore key file)) = IsCall request read free (Transfer true key file)
 Suits request read free (Asks (AskRetrieve key file)) = IsCall request read free (Transfer false key file)
 Suits request read free (Asks (AskCheck key)) = IsCall request read free (Checkpresent key)
@@ -222,6 +223,7 @@ Grants q (Some bytes) answers = IsOne q bytes answers
 abbrev pub Effect : Items → Items → Option Asked → List Answer → Type 0
 Effect keys files None answers = AreStill answers
 Effect keys files (Some (AskPrepare values)) answers = AreStill answers
+Effect keys files (Some (AskInitialize values)) answers = AreStill answers
 Effect keys files (Some (AskStore key file)) answers = Grants (Transfer true key file) (content file files) answers
 Effect keys files (Some (AskRetrieve key file)) answers = Grants (Transfer false key file) (content key keys) answers
 Effect keys files (Some (AskCheck key)) answers = AreStill answers
@@ -282,6 +284,9 @@ pub effect : (keys files : Items) (c : ℕ) (text : List ℕ) (request : Option 
 effect keys files c text request free Silence s = silent c text free []
 effect keys files c text request free (Line line) s = still_said c text free line [] s.0 s.1
 effect keys files c text request free (Asks (AskPrepare values)) s =
+    let line = prepare_line request s in
+    still_said c text free (final_line request Yes) [] line.0 line.1
+effect keys files c text request free (Asks (AskInitialize values)) s =
     let line = prepare_line request s in
     still_said c text free (final_line request Yes) [] line.0 line.1
 effect keys files c text request free (Asks (AskStore key file)) s = transfer_effect c text request free true key file (codes "no such file") (content file files) s

@@ -5,10 +5,10 @@ use Rattle.std.proofs.lemmas.List.Elements.{filter_map-append}
 use Rattle.annex_model.specs.Lines.{text, has_newline}
 use Rattle.annex_model.specs.Messages.{HostMessage, host_reading}
 use Rattle.wire_line.specs.HeldBytes.{first_line, after_line}
-use Rattle.kit_core.specs.declared.call.Said.{Said}
-use Rattle.kit_core.specs.declared.call.Call.{Call}
-use Rattle.kit_core.specs.Kits.{Heard, lines_to}
-use Rattle.kit_core.specs.Stages.{KitValue, Follows, is_free}
+use Rattle.kit_serve.specs.declared.kit.call.Said.{Said}
+use Rattle.kit_serve.specs.declared.kit.call.Call.{Call}
+use Rattle.kit_serve.specs.Kit.Kits.{Heard, lines_to}
+use Rattle.kit_serve.specs.Kit.Stages.{KitValue, Follows, is_free}
 use Rattle.pair_kit.specs.declared.taken.Taken.{Taken}
 use Rattle.pair_kit.specs.Shelves.{Items}
 use Rattle.pair_kit.specs.Cues.{CueValue, settings}

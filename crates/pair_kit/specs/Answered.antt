@@ -7,8 +7,8 @@ use Rattle.journal_model.specs.declared.entry.What.{What}
 use Rattle.journal_model.specs.declared.entry.What.TheVariants.{Ask}
 use Rattle.journal_model.specs.declared.entry.Entry.{Entry}
 use Rattle.journal_model.specs.Journal.{each_of, first_of, line_at, verdict_of}
-use Rattle.kit_core.specs.Kits.{Heard, messages, lines_to}
-use Rattle.kit_core.specs.Stages.{stage_of, is_free}
+use Rattle.kit_serve.specs.Kit.Kits.{Heard, messages, lines_to}
+use Rattle.kit_serve.specs.Kit.Stages.{stage_of, is_free}
 use Rattle.pair_kit.specs.declared.taken.Taken.{Taken}
 use Rattle.pair_kit.specs.declared.answer.Answer.{Answer}
 use Rattle.pair_kit.specs.Cues.{settings}

@@ -1,9 +1,9 @@
 -- The remote of a kit in the world. It says one word, which it was given before, to each of its calls, and keeps its calls.
 use Rattle.std.specs.Prelude.{ℕ, ◌≡◌, List, [], ◌∷◌, Option, Some, None, IsTrue, codes}
-use Rattle.kit_core.specs.declared.call.Said.{Said}
-use Rattle.kit_core.specs.declared.call.Asked.TheVariants.{Prepare}
-use Rattle.kit_core.specs.declared.call.Call.{Call}
-use Rattle.kit_core.specs.Calls.{is_line_said}
+use Rattle.kit_serve.specs.declared.kit.call.Said.{Said}
+use Rattle.kit_serve.specs.declared.kit.call.Asked.TheVariants.{Prepare}
+use Rattle.kit_serve.specs.declared.kit.call.Call.{Call}
+use Rattle.kit_serve.specs.Kit.Calls.{is_line_said}
 
 -- the word, and the calls
 pub record CueValue : Type 0 where

@@ -9,6 +9,6 @@ pub mod Paces
 pub mod Peace
 pub mod Stored
 pub use Rattle.annex_model.specs.Lines
-pub use Rattle.kit_core.specs.Stages
-pub use Rattle.reg_file.specs.Tables
+pub use Rattle.kit_serve.specs.Kit.Stages
+pub use Rattle.registers.specs.Tables
 pub use Rattle.wire_line.specs.HeldBytes

@@ -1,7 +1,7 @@
 -- What came of a kit's work.
 use Rattle.std.specs.Prelude.{ℕ, ◌≡◌, true, false, List, Option, Some, None}
 use Rattle.annex_model.specs.Messages.{HostMessage}
-use Rattle.kit_core.specs.declared.call.Asked.{Asked}
+use Rattle.kit_serve.specs.declared.kit.call.Asked.{Asked}
 use Rattle.pair_kit.specs.declared.work.Work.{Work}
 use Rattle.pair_kit.specs.declared.work.Work.TheVariants.{Nothing, Over, Line}
 use Rattle.pair_kit.specs.Shelves.{Items}

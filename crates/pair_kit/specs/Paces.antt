@@ -7,17 +7,17 @@ use Rattle.annex_model.specs.Lines.{has_newline}
 use Rattle.annex_model.specs.Messages.{HostMessage, Export, host_reading}
 use Rattle.annex_model.specs.Talks.{said}
 use Rattle.annex_model.specs.Hearings.{request_in}
-use Rattle.reg_file.specs.Registers.{IsKept}
+use Rattle.registers.specs.Registers.{IsKept}
 use Rattle.journal_model.specs.declared.entry.Entry.{Entry}
 use Rattle.journal_model.specs.Beginnings.{MayBegin}
 use Rattle.journal_model.specs.Journal.{each_of, writes, got_lines, open_jobs, asked_jobs, is_live, is_mute, is_tagged}
 use Rattle.journal_model.specs.Parts.{part}
 use Rattle.journal_model.specs.Registers.{settings as settings_made}
-use Rattle.kit_core.specs.declared.call.Call.{Call}
-use Rattle.kit_core.specs.declared.kit.Stage.TheVariants.{Waiting}
-use Rattle.kit_core.specs.Calls.{is_line_said}
-use Rattle.kit_core.specs.Kits.{is_over, request_of as request_of_messages}
-use Rattle.kit_core.specs.Stages.{stage_of}
+use Rattle.kit_serve.specs.declared.kit.call.Call.{Call}
+use Rattle.kit_serve.specs.declared.kit.kit.Stage.TheVariants.{Waiting}
+use Rattle.kit_serve.specs.Kit.Calls.{is_line_said}
+use Rattle.kit_serve.specs.Kit.Kits.{is_over, request_of as request_of_messages}
+use Rattle.kit_serve.specs.Kit.Stages.{stage_of}
 use Rattle.pair_kit.specs.declared.taken.Taken.{Taken}
 use Rattle.pair_kit.specs.Cues.{settings}
 use Rattle.pair_kit.specs.Pairs.{pair_of}

@@ -3,10 +3,10 @@ use Rattle.std.specs.Prelude.{ℕ, ◌-◌, ◌==◌, ◌&&◌, not, nat_le, Boo
 use Rattle.std.specs.List.{list_all}
 use Rattle.annex_model.specs.Lines.{text}
 use Rattle.annex_model.specs.Messages.{host_reading}
-use Rattle.kit_core.specs.declared.kit.Stage.TheVariants.{Waiting}
-use Rattle.kit_core.specs.declared.call.Said.TheVariants.{Yes}
-use Rattle.kit_core.specs.Kits.{Heard, lines_said}
-use Rattle.kit_core.specs.Stages.{KitValue}
+use Rattle.kit_serve.specs.declared.kit.kit.Stage.TheVariants.{Waiting}
+use Rattle.kit_serve.specs.declared.kit.call.Said.TheVariants.{Yes}
+use Rattle.kit_serve.specs.Kit.Kits.{Heard, lines_said}
+use Rattle.kit_serve.specs.Kit.Stages.{KitValue}
 use Rattle.pair_kit.specs.declared.taken.Taken.{Taken}
 use Rattle.pair_kit.specs.Cues.{CueValue, settings}
 

@@ -1,6 +1,6 @@
 -- Bytes under names: keys with what is stored, or files with what is in them.
 use Rattle.std.specs.Prelude.{ℕ, List, [], Option, fold}
-use Rattle.reg_file.specs.Tables.{Texts, value_at, put, without as all_but}
+use Rattle.registers.specs.Tables.{Texts, value_at, put, without as all_but}
 
 -- names and bytes, in the rising byte order of the names
 abbrev pub Items : Type 0

@@ -3,13 +3,13 @@ use Rattle.std.specs.Prelude.{ℕ, ◌≡◌, ◌&&◌, not, nat_le, Bool, true,
 use Rattle.annex_model.specs.Lines.{has_newline, text}
 use Rattle.annex_model.specs.Messages.{HostMessage, Transfer, Checkpresent, host_reading}
 use Rattle.wire_line.specs.HeldBytes.{first_line, after_line}
-use Rattle.kit_core.specs.declared.call.Said.{Said}
-use Rattle.kit_core.specs.declared.call.Said.TheVariants.{Yes, No, Failure}
-use Rattle.kit_core.specs.declared.call.Asked.{Asked}
-use Rattle.kit_core.specs.declared.call.Asked.TheVariants.{Prepare as AskPrepare, Store as AskStore, Retrieve as AskRetrieve, Check as AskCheck, Remove as AskRemove}
-use Rattle.kit_core.specs.declared.call.Call.{Call}
-use Rattle.kit_core.specs.Kits.{Heard, due_of, asked_by, lines_to, is_value, IsAskedBy}
-use Rattle.kit_core.specs.Stages.{KitValue, Follows, is_free}
+use Rattle.kit_serve.specs.declared.kit.call.Said.{Said}
+use Rattle.kit_serve.specs.declared.kit.call.Said.TheVariants.{Yes, No, Failure}
+use Rattle.kit_serve.specs.declared.kit.call.Asked.{Asked}
+use Rattle.kit_serve.specs.declared.kit.call.Asked.TheVariants.{Prepare as AskPrepare, Initialize as AskInitialize, Store as AskStore, Retrieve as AskRetrieve, Check as AskCheck, Remove as AskRemove}
+use Rattle.kit_serve.specs.declared.kit.call.Call.{Call}
+use Rattle.kit_serve.specs.Kit.Kits.{Heard, due_of, asked_by, lines_to, is_value, IsAskedBy}
+use Rattle.kit_serve.specs.Kit.Stages.{KitValue, Follows, is_free}
 use Rattle.pair_kit.specs.Shelves.{Items, content, without, with_item}
 use Rattle.pair_kit.specs.Cues.{CueValue, settings}
 use Rattle.pair_kit.specs.declared.answer.Answer.{Answer}
@@ -44,6 +44,7 @@ is_there (Some bytes) = Yes
 -- what it says to a call
 abbrev pub word : Items → Items → Asked → Said
 word keys files (AskPrepare values) = Yes
+word keys files (AskInitialize values) = Yes
 word keys files (AskStore key file) = found (content file files) (codes "no such file")
 word keys files (AskRetrieve key file) = found (content key keys) (codes "no such key")
 word keys files (AskCheck key) = is_there (content key keys)

@@ -6,7 +6,7 @@ use Rattle.journal_model.specs.declared.opening.Opening.{Opening}
 use Rattle.journal_model.specs.Journal.{each_of, writes, sends, is_started, got_lines}
 use Rattle.journal_model.specs.Legality.{Legal, count, is_start}
 use Rattle.journal_model.specs.Wires.{sent_lines}
-use Rattle.kit_core.specs.Stages.{Follows}
+use Rattle.kit_serve.specs.Kit.Stages.{Follows}
 use Rattle.pair_kit.specs.Shelves.{Items}
 use Rattle.pair_kit.specs.Cues.{settings}
 use Rattle.pair_kit.specs.declared.answer.Answer.{Answer}

@@ -3,12 +3,12 @@ ghost use Rattle.std.specs.Prelude.{◌≡◌, ◌++◌, ◌∷◌, [], not, Som
 ghost use Rattle.ann_key.specs.KeyRefs.{text_of};
 ghost use Rattle.annex_model.specs.Lines.{has_newline};
 ghost use Rattle.annex_model.specs.Messages.{is_sent_key};
-ghost use Rattle.kit_core.specs.declared.call.Asked.TheVariants.{Prepare, Store, Retrieve, Check, Remove};
-ghost use Rattle.kit_core.specs.Calls.{called, are_lines, is_line_said};
+ghost use Rattle.kit_serve.specs.declared.kit.call.Asked.TheVariants.{Prepare, Store, Retrieve, Check, Remove};
+ghost use Rattle.kit_serve.specs.Kit.Calls.{called, are_lines, is_line_said};
 ghost use Rattle.pair_kit.specs.Cues.{as_list, told_calls, settings};
 
 use ann_key::{Key, KeyRef, NoMemory, Text};
-use kit_core::{Asked, Call, Remote, Said, Values};
+use kit_serve::kit::{Asked, Call, Remote, Said, Values};
 use std::alloc::Global;
 use std::marker::Model;
 

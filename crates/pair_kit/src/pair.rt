@@ -4,9 +4,9 @@ ghost use Rattle.annex_model.specs.Lines.{has_newline, text};
 ghost use Rattle.annex_model.specs.Messages.{IsAskable};
 ghost use Rattle.wire_line.specs.HeldBytes.{first_line, after_line};
 ghost use Rattle.wire_msg.specs.Shown.{host_shown};
-ghost use Rattle.kit_core.specs.Calls.{is_line_said};
-ghost use Rattle.kit_core.specs.Kits.{has_line_fields};
-ghost use Rattle.kit_core.specs.Stages.{Follows};
+ghost use Rattle.kit_serve.specs.Kit.Calls.{is_line_said};
+ghost use Rattle.kit_serve.specs.Kit.Kits.{has_line_fields};
+ghost use Rattle.kit_serve.specs.Kit.Stages.{Follows};
 ghost use Rattle.pair_kit.specs.Cues.{settings};
 ghost use Rattle.pair_kit.specs.Pairs.{heard, new_pair, moved_to_kit, moved_to_host, written_to};
 ghost use Rattle.pair_kit.specs.Shelves.{content};
@@ -19,7 +19,7 @@ use crate::shelf::Shelf;
 use crate::taken::Taken;
 use crate::work::Work;
 use ann_key::{Bytes, NoMemory};
-use kit_core::{Asked, Call, Kit, Lines, Said};
+use kit_serve::kit::{Asked, Call, Kit, Lines, Said};
 use std::alloc::Global;
 use std::marker::Model;
 use wire_msg::{HostMsg, read_host};
@@ -178,7 +178,9 @@ fn serve(
             keys.remove(key.view().text());
             Ok(Bytes::from_vec(Vec::new(alloc)))
         }
-        Asked::Prepare(_) | Asked::Check(_) => Ok(Bytes::from_vec(Vec::new(alloc))),
+        Asked::Prepare(_) | Asked::Initialize(_) | Asked::Check(_) => Ok(Bytes::from_vec(Vec::new(
+            alloc,
+        ))),
     }
 }
 

@@ -14,7 +14,7 @@ pub struct Shelf {
 }
 
 impl Model for Shelf {
-    ghost use Rattle.reg_file.specs.Tables.{Rises, texts_of};
+    ghost use Rattle.registers.specs.Tables.{Rises, texts_of};
     ghost use Rattle.pair_kit.specs.Shelves.{Items};
 
     ghost Value = { Items };

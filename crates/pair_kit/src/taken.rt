@@ -1,5 +1,5 @@
 use ann_key::Bytes;
-use kit_core::Call;
+use kit_serve::kit::Call;
 
 /// A line that a kit took, without its byte 10, and the call that its remote had for it.
 #[derive(Drop)]

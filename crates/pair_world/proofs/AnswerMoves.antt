@@ -21,7 +21,7 @@ use Rattle.journal_model.specs.Journal.{each_of, first_of, open_jobs, is_open, i
 use Rattle.journal_model.specs.Due.{due_after}
 use Rattle.journal_model.specs.Legality.{is_empty}
 use Rattle.journal_model.proofs.Looks.{entry, each_of-append, first_of-append, verdict_of-append}
-use Rattle.kit_core.specs.Kits.{is_over}
+use Rattle.kit_serve.specs.Kit.Kits.{is_over}
 use Rattle.host_core.specs.declared.event.Event.{Event}
 use Rattle.host_core.specs.declared.event.Event.TheVariants.{Got as GotEvent, Stop as StopEvent, Sent as SentEvent}
 use Rattle.host_core.specs.declared.event.Reply.{Reply}

@@ -10,10 +10,10 @@ use Rattle.wire_line.specs.HeldBytes.{first_line}
 use Rattle.journal_model.specs.Journal.{is_ended, unsent}
 use Rattle.journal_model.specs.Legality.{is_empty}
 use Rattle.journal_model.proofs.Testing.{by_either}
-use Rattle.kit_core.specs.declared.call.Asked.{Asked}
-use Rattle.kit_core.specs.declared.kit.Stage.{Stage}
-use Rattle.kit_core.specs.Kits.{Heard, messages, lines_to}
-use Rattle.kit_core.specs.Stages.{stage_of, is_free}
+use Rattle.kit_serve.specs.declared.kit.call.Asked.{Asked}
+use Rattle.kit_serve.specs.declared.kit.kit.Stage.{Stage}
+use Rattle.kit_serve.specs.Kit.Kits.{Heard, messages, lines_to}
+use Rattle.kit_serve.specs.Kit.Stages.{stage_of, is_free}
 use Rattle.host_core.specs.declared.event.Reply.{Reply}
 use Rattle.host_core.specs.declared.event.Reply.TheVariants.{Child}
 use Rattle.pair_kit.specs.Shelves.{Items}

@@ -25,7 +25,7 @@ use Rattle.journal_model.proofs.Soft.{is_soft, soft_verdicts, soft_got, soft_str
 use Rattle.journal_model.proofs.Linking.{sent_count, sent_count-append, got_more}
 use Rattle.journal_model.proofs.Mouths.{lines_same, covered_more}
 use Rattle.journal_model.proofs.Fresh.{other_child}
-use Rattle.talk_serial.specs.Requests.{message_of, name_of}
+use Rattle.host_talk.specs.Request.Requests.{message_of, name_of}
 use Rattle.host_core.specs.declared.event.Event.{Event}
 use Rattle.host_core.specs.declared.event.Event.TheVariants.{Claim as ClaimEvent, Start as StartEvent, NoStart as NoStartEvent, Ask as AskEvent, Lookup, Look, Listen, Fetch, Got as GotEvent, Stop, Sent as SentEvent, Mute as MuteEvent, Answer as AnswerEvent, Note as NoteEvent, Layouts as LayoutsEvent, Shut}
 use Rattle.host_core.specs.declared.event.Reply.{Reply}

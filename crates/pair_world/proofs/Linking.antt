@@ -21,9 +21,9 @@ use Rattle.journal_model.proofs.Looks.{any-append}
 use Rattle.journal_model.proofs.Linking.{sent_count, got_more}
 use Rattle.journal_model.proofs.Mouths.{lines_same, covered_more}
 use Rattle.journal_model.proofs.Fresh.{fresh}
-use Rattle.kit_core.specs.declared.call.Asked.{Asked}
-use Rattle.kit_core.specs.Kits.{Heard, lines_said, lines_to}
-use Rattle.kit_core.proofs.Behind.{lines_behind-push}
+use Rattle.kit_serve.specs.declared.kit.call.Asked.{Asked}
+use Rattle.kit_serve.specs.Kit.Kits.{Heard, lines_said, lines_to}
+use Rattle.kit_serve.proofs.KitLemmas.Behind.{lines_behind-push}
 use Rattle.host_core.specs.declared.event.Event.{Event}
 use Rattle.host_core.specs.declared.event.Event.TheVariants.{Got as GotEvent, Stop as StopEvent, Sent as SentEvent}
 use Rattle.host_core.specs.declared.event.Reply.{Reply}

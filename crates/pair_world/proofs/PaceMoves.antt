@@ -7,7 +7,7 @@ use Rattle.std.proofs.lemmas.List.Folds.{list_all-append}
 use Rattle.annex_model.specs.Lines.{has_newline}
 use Rattle.annex_model.specs.Messages.{HostMessage}
 use Rattle.wire_line.specs.HeldBytes.{first_line}
-use Rattle.reg_file.specs.Registers.{IsKept}
+use Rattle.registers.specs.Registers.{IsKept}
 use Rattle.journal_model.specs.declared.verdict.Why.{Why}
 use Rattle.journal_model.specs.declared.verdict.Why.TheVariants.{Eof, LongLine, Full}
 use Rattle.journal_model.specs.declared.entry.What.TheVariants.{Got, End as EndEntry}
@@ -18,9 +18,9 @@ use Rattle.journal_model.specs.Journal.{any, is_started, is_ended, is_mute, is_l
 use Rattle.journal_model.specs.Legality.{is_empty, may_come}
 use Rattle.journal_model.specs.Registers.{settings as settings_made}
 use Rattle.journal_model.proofs.Looks.{any-append}
-use Rattle.kit_core.specs.declared.call.Asked.{Asked}
-use Rattle.kit_core.specs.declared.call.Asked.TheVariants.{Prepare as AskPrepare, Store as AskStore, Retrieve as AskRetrieve, Check as AskCheck, Remove as AskRemove}
-use Rattle.kit_core.specs.Calls.{is_line_said}
+use Rattle.kit_serve.specs.declared.kit.call.Asked.{Asked}
+use Rattle.kit_serve.specs.declared.kit.call.Asked.TheVariants.{Prepare as AskPrepare, Initialize as AskInitialize, Store as AskStore, Retrieve as AskRetrieve, Check as AskCheck, Remove as AskRemove}
+use Rattle.kit_serve.specs.Kit.Calls.{is_line_said}
 use Rattle.host_core.specs.declared.event.Event.{Event}
 use Rattle.host_core.specs.declared.event.Event.TheVariants.{Got as GotEvent, Stop as StopEvent, Sent as SentEvent}
 use Rattle.host_core.specs.declared.event.Reply.{Reply}
@@ -92,6 +92,7 @@ whole_put old new c p h own pairs d =
 -- the word of a remote is a line
 word_free : (keys files : Items) (asked : Asked) → is_line_said (word keys files asked) ≡ true
 word_free keys files (AskPrepare values) = refl
+word_free keys files (AskInitialize values) = refl
 word_free keys files (AskStore key file) = go (content file files)
   where
     go : (o : Option (List ℕ)) → is_line_said (found o (codes "no such file")) ≡ true

@@ -1,7 +1,7 @@
 -- Each move leaves the world standing.
 use Rattle.std.proofs.Common.{◌≡◌, ◌<◌, ◌^◌, [], length}
 use Rattle.std.specs.Prelude.{Result, Ok, Err, IfOk, OnOk}
-use Rattle.reg_file.specs.Registers.{IsKept}
+use Rattle.registers.specs.Registers.{IsKept}
 use Rattle.journal_model.specs.Beginnings.{MayBegin}
 use Rattle.pair_world.specs.declared.step.Move.{Move}
 use Rattle.pair_world.specs.declared.step.Moved.{Moved}

@@ -8,12 +8,12 @@ use Rattle.wire_line.specs.HeldBytes.{first_line}
 use Rattle.host_core.specs.declared.event.Reply.{Reply}
 use Rattle.journal_model.specs.Journal.{unsent, is_ended}
 use Rattle.journal_model.specs.Legality.{is_empty}
-use Rattle.kit_core.specs.declared.call.Asked.{Asked}
-use Rattle.kit_core.specs.declared.call.Asked.TheVariants.{Prepare as AskPrepare, Store as AskStore, Retrieve as AskRetrieve, Check as AskCheck, Remove as AskRemove}
-use Rattle.kit_core.specs.Kits.{Heard, messages, request_of, is_over, is_unexpected, awaits_value, due_of, lines_to}
-use Rattle.kit_core.specs.Stages.{is_free}
-use Rattle.kit_core.proofs.Behind.{request_of-push}
-use Rattle.kit_core.proofs.Waiting.{free_followed}
+use Rattle.kit_serve.specs.declared.kit.call.Asked.{Asked}
+use Rattle.kit_serve.specs.declared.kit.call.Asked.TheVariants.{Prepare as AskPrepare, Initialize as AskInitialize, Store as AskStore, Retrieve as AskRetrieve, Check as AskCheck, Remove as AskRemove}
+use Rattle.kit_serve.specs.Kit.Kits.{Heard, messages, request_of, is_over, is_unexpected, awaits_value, due_of, lines_to}
+use Rattle.kit_serve.specs.Kit.Stages.{is_free}
+use Rattle.kit_serve.proofs.KitLemmas.Behind.{request_of-push}
+use Rattle.kit_serve.proofs.KitLemmas.Waiting.{free_followed}
 use Rattle.pair_kit.specs.declared.answer.Answer.{Answer}
 use Rattle.pair_world.specs.declared.step.Move.{Move}
 use Rattle.pair_world.specs.declared.step.Move.TheVariants.{Event as EventMove, Write, ToKit, Work, ToHost, Hear, End as EndMove}
@@ -194,6 +194,7 @@ kept_effect : (answers : List Answer) (keys files : Items) (asked : Option Asked
     → AreKept (answers ++ added) (keys_after keys files asked)
 kept_effect answers keys files None added e h = kept_still answers keys added e h
 kept_effect answers keys files (Some (AskPrepare values)) added e h = kept_still answers keys added e h
+kept_effect answers keys files (Some (AskInitialize values)) added e h = kept_still answers keys added e h
 kept_effect answers keys files (Some (AskStore key file)) added e h = kept_stored answers keys key file (content file files) added e h
 kept_effect answers keys files (Some (AskRetrieve key file)) added e h = kept_retrieved answers keys key file (content key keys) added refl e h
 kept_effect answers keys files (Some (AskCheck key)) added e h = kept_still answers keys added e h
@@ -245,6 +246,7 @@ filed_retrieved files key file (Some bytes) added one = filed_one files (Transfe
 filed_effect : (keys files : Items) (asked : Option Asked) (added : List Answer) → Effect keys files asked added → files_after keys files asked ≡ fold filed files added
 filed_effect keys files None added e = filed_still files added e
 filed_effect keys files (Some (AskPrepare values)) added e = filed_still files added e
+filed_effect keys files (Some (AskInitialize values)) added e = filed_still files added e
 filed_effect keys files (Some (AskStore key file)) added e = filed_stored files key file (content file files) added e
 filed_effect keys files (Some (AskRetrieve key file)) added e = filed_retrieved files key file (content key keys) added e
 filed_effect keys files (Some (AskCheck key)) added e = filed_still files added e

@@ -8,7 +8,7 @@ use Rattle.journal_model.specs.declared.verdict.Why.TheVariants.{Eof, LongLine, 
 use Rattle.journal_model.specs.Journal.{is_started, is_ended, unsent}
 use Rattle.journal_model.specs.Legality.{is_empty}
 use Rattle.journal_model.specs.Limits.{longest_line as longest_of_child}
-use Rattle.kit_core.specs.declared.call.Asked.{Asked}
+use Rattle.kit_serve.specs.declared.kit.call.Asked.{Asked}
 use Rattle.host_core.specs.declared.event.Event.{Event}
 use Rattle.host_core.specs.declared.event.Event.TheVariants.{Got as GotEvent, Stop as StopEvent, Sent as SentEvent, Mute as MuteEvent}
 use Rattle.host_core.specs.declared.event.Reply.{Reply}

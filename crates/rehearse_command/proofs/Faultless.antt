@@ -20,9 +20,9 @@ use Rattle.journal_model.proofs.Growing.{Near, Legal-induction}
 use Rattle.journal_model.proofs.Linking.{why_alone, why_of-append}
 use Rattle.journal_model.proofs.Looks.{any-append}
 use Rattle.journal_model.proofs.Soft.{is_soft}
-use Rattle.child_end.specs.Programs.{RoseBy, is_failed_start}
+use Rattle.child_life.specs.End.Programs.{RoseBy, is_failed_start}
 use Rattle.child_link.specs.Wires.{WireValue}
-use Rattle.child_end.specs.Wires.{AreWires, IsWire, came, came_in}
+use Rattle.child_life.specs.End.Wires.{AreWires, IsWire, came, came_in}
 use Rattle.rehearse_command.specs.Rehearsals.{IsQuiet, is_fault}
 use Rattle.ann_key.proofs.Booleans.{true_and_false as not_both, left_false as either_left, right_false as either_right}
 use Rattle.journal_model.proofs.Bounds.{due_soft}

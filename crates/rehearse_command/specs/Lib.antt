@@ -1,1 +1,3 @@
 pub mod Rehearsals
+pub mod World
+pub mod Walk

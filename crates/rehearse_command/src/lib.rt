@@ -5,6 +5,8 @@ mod made;
 mod ready;
 mod rehearsing;
 mod remotes;
+pub mod walk;
+pub mod world;
 
 pub use made::{RehearsalEnd, Rehearsed};
 pub use rehearsing::rehearse;

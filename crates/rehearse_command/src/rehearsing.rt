@@ -14,7 +14,7 @@ use crate::ready::{Ready, WORKERS, prepare};
 use crate::remotes::Remotes;
 use ann_key::NoMemory;
 use ann_outside::{Desk, Desks, Programs, Sink, Source};
-use child_end::journal_of;
+use child_life::end::journal_of;
 use child_link::Wire;
 use host_core::Core;
 use journal_audit::{Audit, audit};

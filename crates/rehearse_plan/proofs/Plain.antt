@@ -7,8 +7,8 @@ use Rattle.std.proofs.lemmas.Bool.Decides.{nat_tests}
 use Rattle.std.proofs.lemmas.Str.{IsUtf8-from_ascii, is_utf8-from_IsUtf8}
 use Rattle.ann_key.specs.Keys.{is_sendable}
 use Rattle.ann_key.specs.Numbers.{is_digit}
-use Rattle.chunk_log.proofs.Cuts.{list_all-append, list_all-weaken}
-use Rattle.chunk_log.proofs.StampBack.{decimal_reads, Decimal}
+use Rattle.task_text.proofs.ChunkLogLemmas.Cuts.{list_all-append, list_all-weaken}
+use Rattle.task_text.proofs.ChunkLogLemmas.StampBack.{decimal_reads, Decimal}
 use Rattle.std.proofs.lemmas.Bool.{and_parts as both}
 
 -- neither blank nor a control

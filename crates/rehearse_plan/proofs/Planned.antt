@@ -15,10 +15,10 @@ use Rattle.task_text.specs.TaskLines.{IsTask, has_chunk, is_file, is_task_key}
 use Rattle.task_text.specs.declared.task.Task.{Task}
 use Rattle.task_text.specs.declared.task.Work.{Work}
 use Rattle.task_text.specs.declared.task.Work.TheVariants.{Store, Get, Check, Drop}
-use Rattle.chunk_log.specs.ChunkLines.{IsWrittenUuid}
-use Rattle.chunk_log.proofs.Uuids.{nil_written}
-use Rattle.chunk_log.specs.declared.note.Note.{Note}
-use Rattle.reg_file.specs.Registers.{RegisterFile}
+use Rattle.task_text.specs.ChunkLog.ChunkLines.{IsWrittenUuid}
+use Rattle.task_text.proofs.ChunkLogLemmas.Uuids.{nil_written}
+use Rattle.task_text.specs.declared.chunk_log.note.Note.{Note}
+use Rattle.registers.specs.Registers.{RegisterFile}
 use Rattle.cli_words.specs.Identities.{nobody}
 use Rattle.journal_model.specs.Beginnings.{MayBegin}
 use Rattle.journal_model.specs.Replies.{IsLineIdentity}

@@ -4,7 +4,7 @@ use Rattle.std.specs.List.{range_with_len}
 use Rattle.ann_outside.specs.Files.{Files}
 use Rattle.cli_words.specs.Identities.{nobody}
 use Rattle.journal_model.specs.declared.opening.Opening.{Opening}
-use Rattle.reg_file.specs.Registers.{nothing_set}
+use Rattle.registers.specs.Registers.{nothing_set}
 use Rattle.task_text.specs.declared.task.Task.{Task}
 use Rattle.task_text.specs.declared.task.Work.{Work}
 use Rattle.task_text.specs.declared.task.Work.TheVariants.{Store, Get, Check, Drop}

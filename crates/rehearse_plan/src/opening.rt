@@ -6,11 +6,11 @@ ghost use Rattle.rehearse_plan.specs.declared.tasks.TheConstants.{MOST_TASKS};
 
 use crate::tasks::tasks_of;
 use ann_key::NoMemory;
-use chunk_log::NoteBook;
 use cli_words::nobody;
 use journal_model::Opening;
-use reg_file::Registers;
+use registers::Registers;
 use std::alloc::Global;
+use task_text::chunk_log::NoteBook;
 
 // The registers in which the remote's directory is set, and nothing else.
 fn registers(alloc: Global) -> Result<Registers, NoMemory>

@@ -7,11 +7,11 @@ mod mirrored;
 
 ghost use Rattle.std.specs.Prelude.{◌≡◌, true};
 
+use ann_os::remote_words::{Wish, print, read_wish};
 use ann_os::{OsErrors, OsInput, OsOutput};
 use ann_outside::Sink;
 use kit_serve::{Served, serve_described};
 use mirrored::Mirrored;
-use remote_words::{Wish, print, read_wish};
 use std::io::Stdout;
 use std::process::ExitCode;
 
@@ -34,7 +34,7 @@ fn serve_mirror(rt: &HostRuntime, out: &mut OsOutput<Stdout>) -> u8
     requires { (⟦<OsOutput<Stdout> as Sink>⟧.told out.old).is_open ≡ true }
 {
     let mut input = OsInput::new(rt.stdin());
-    let mirror = Mirrored::new(rt.alloc(), rt);
+    let mirror = Mirrored::new(rt);
     let Served { status, remote } = serve_described(rt.alloc(), mirror, &mut input, out);
     remote.finish();
     status

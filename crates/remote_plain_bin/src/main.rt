@@ -7,11 +7,11 @@ ghost use Rattle.std.specs.Prelude.{◌≡◌, true};
 mod passing;
 mod program;
 
+use ann_os::remote_words::{Wish, print, read_wish};
 use ann_os::{OsErrors, OsInput, OsOutput, OsPrograms};
 use ann_outside::{Programs, Sink, Source, StartError, Started};
 use passing::{Shared, hear_remote, last_status, remote_status, start_hearing};
 use program::named_program;
-use remote_words::{Wish, print, read_wish};
 use std::alloc::{AllocError, AllocGlobal, Global};
 use std::marker::Send;
 use std::process::{ExitCode, Processes, SystemProcess};

@@ -4,8 +4,8 @@
 ghost use Rattle.std.specs.Prelude.{◌≡◌, true};
 
 use ann_outside::{Failed, Sink, Source};
-use plain_carry::{End, FromHost, FromRemote, carry};
-use plain_words::Plain;
+use plain_lines::carry::{End, FromHost, FromRemote, carry};
+use plain_lines::words::Plain;
 use std::alloc::{AllocError, Global};
 use std::marker::Send;
 use std::sync::atomic::{AtomicU64, Ordering};

@@ -16,8 +16,8 @@ use Rattle.journal_model.proofs.Looks.{any-append, each_of-append}
 use Rattle.journal_model.proofs.Testing.{all-each, all-join, by_either}
 use Rattle.host_core.specs.Steps.{are_all_claimed}
 use Rattle.child_link.proofs.Linked.{any_narrower}
-use Rattle.child_start.proofs.Begun.{later_unstarted}
-use Rattle.child_end.specs.Wires.{came, came_in}
+use Rattle.child_life.proofs.StartLemmas.Begun.{later_unstarted}
+use Rattle.child_life.specs.End.Wires.{came, came_in}
 use Rattle.task_model.specs.declared.setup.Setup.{Setup}
 use Rattle.run_starts.specs.Starting.{AllOffer, children, is_offered, is_ready_untagged, started_in}
 use Rattle.run_starts.specs.Rounds.{AllLostWell, AllStandNext, is_of_run}
@@ -28,8 +28,8 @@ use Rattle.run_starts.proofs.Losing.{lost_both}
 use Rattle.run_starts.proofs.Nexts.{next_both, next_first}
 use Rattle.run_starts.proofs.Tests.{any_same, children_up_to, neither_nor, offers_both}
 use Rattle.run_starts.proofs.Unready.{and_true}
-use Rattle.run_pools.specs.Slots.{AllInTurn, AreSpent, IsManned, StandsInTurn, are_spent, in_pool, is_first_start, offers_tags, spends}
-use Rattle.crew_laws.specs.Rounds.{IsAtRest}
+use Rattle.run_children.specs.PoolChildren.Slots.{AllInTurn, AreSpent, IsManned, StandsInTurn, are_spent, in_pool, is_first_start, offers_tags, spends}
+use Rattle.crew_work.specs.Laws.Rounds.{IsAtRest}
 use Rattle.run_children.specs.Desks.{DesksDid, HaveDesks}
 use Rattle.run_children.specs.JobRuns.{RanJobs}
 use Rattle.run_children.specs.Posts.{AllPosted}
@@ -43,8 +43,8 @@ use Rattle.std.proofs.lemmas.Bool.{ne_eqb as differ}
 use Rattle.ann_key.proofs.Numbers.{same_number as same}
 use Rattle.ann_key.proofs.Booleans.{or_neither as neither, or_left, or_right, and_assoc as and_behind}
 use Rattle.journal_model.proofs.Working.{count-append, count_none}
-use Rattle.run_pools.proofs.Own.{shut_open}
-use Rattle.run_pools.proofs.SlotLaws.{turn_both}
+use Rattle.run_children.proofs.PoolChildrenLemmas.Own.{shut_open}
+use Rattle.run_children.proofs.PoolChildrenLemmas.SlotLaws.{turn_both}
 use Rattle.journal_model.proofs.Across.{none_so as any_none}
 
 -- ---- the numbers of the children

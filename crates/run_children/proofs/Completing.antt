@@ -26,18 +26,18 @@ use Rattle.task_text.specs.declared.task.Work.TheVariants as W
 use Rattle.task_model.specs.declared.setup.Setup.{Setup}
 use Rattle.task_model.specs.Askings.{TaskStretch, closing, run_askings, run_notings, run_turn}
 use Rattle.task_model.specs.Ran.{HasTaskCauses, is_of_content}
-use Rattle.crew_worker.specs.Works.{CausedInTurn, TaskDone, turns_of}
-use Rattle.task_laws.specs.ChildrenWell.{AreKeysRead, ChildrenWell, IsDoneWell}
-use Rattle.task_laws.specs.RunWell.{AreAskedWell}
-use Rattle.task_laws.specs.WentWell.{IsFoundWell, IsSuccess, is_asked_well, is_called_well, success_of}
-use Rattle.task_laws.proofs.LastRuns.{answered_is_last}
-use Rattle.task_laws.proofs.RunsWell.{one_succeeds, run_asks}
-use Rattle.task_laws.proofs.WellTasks.{well_unless_refused}
+use Rattle.crew_work.specs.Worker.Works.{CausedInTurn, TaskDone, turns_of}
+use Rattle.run_starts.specs.TaskLaws.ChildrenWell.{AreKeysRead, ChildrenWell, IsDoneWell}
+use Rattle.run_starts.specs.TaskLaws.RunWell.{AreAskedWell}
+use Rattle.run_starts.specs.TaskLaws.WentWell.{IsFoundWell, IsSuccess, is_asked_well, is_called_well, success_of}
+use Rattle.run_starts.proofs.TaskLawsLemmas.LastRuns.{answered_is_last}
+use Rattle.run_starts.proofs.TaskLawsLemmas.RunsWell.{one_succeeds, run_asks}
+use Rattle.run_starts.proofs.TaskLawsLemmas.WellTasks.{well_unless_refused}
 use Rattle.run_children.specs.Completeness.{DesksFound, FindsWell, JobsComplete}
 use Rattle.run_children.specs.Desks.{AreDone, DesksDid, HasDesk, HaveDesks, IsTaskDone, claimed_for, claims_for, desk_of}
 use Rattle.run_children.proofs.NoneUnserved.{none_unserved}
 use Rattle.run_children.proofs.OneAnswer.{Stands, answered_once, only_one}
-use Rattle.task_laws.proofs.OneStore.{task_above as task_number}
+use Rattle.run_starts.proofs.TaskLawsLemmas.OneStore.{task_above as task_number}
 use Rattle.ann_key.proofs.Numbers.{same_number as same}
 use Rattle.std.proofs.lemmas.Bool.{eqb-true as same_number}
 use Rattle.ann_key.proofs.Booleans.{true_and_false as true_not_false, or_left, or_right}

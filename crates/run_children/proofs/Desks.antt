@@ -11,9 +11,9 @@ use Rattle.journal_model.specs.Journal.{each_of}
 use Rattle.journal_model.specs.Shares.{are_by}
 use Rattle.journal_model.proofs.Holding.{claimed}
 use Rattle.task_model.specs.declared.setup.Setup.{Setup}
-use Rattle.crew_worker.specs.Works.{RanFor, TaskDone, all_calls, turns_of}
-use Rattle.crew_worker.proofs.Working.{calls_both, caused_both, run_lasts, turns_both}
-use Rattle.crew_laws.specs.Tasks.{claimed_turn, turns_by}
+use Rattle.crew_work.specs.Worker.Works.{RanFor, TaskDone, all_calls, turns_of}
+use Rattle.crew_work.proofs.WorkerLemmas.Working.{calls_both, caused_both, run_lasts, turns_both}
+use Rattle.crew_work.specs.Laws.Tasks.{claimed_turn, turns_by}
 use Rattle.task_model.specs.declared.turn.TaskTurn.{TaskTurn}
 use Rattle.run_starts.specs.Stints.{AllHaveRun, HasRun, TasksDone}
 use Rattle.run_starts.proofs.Runs.{gained_more, gained_nothing}

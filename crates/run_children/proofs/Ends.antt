@@ -16,25 +16,25 @@ use Rattle.child_link.specs.Alone.{Closes}
 use Rattle.child_link.proofs.Roles.{all_right}
 use Rattle.child_link.proofs.Writings.{written_apart}
 use Rattle.child_link.specs.Writings.{is_written_first}
-use Rattle.crew_laws.specs.Laws.{GoesOn}
-use Rattle.crew_laws.specs.Rounds.{IsAtRest, IsWired, LinkValue}
-use Rattle.crew_tagged.specs.Crewing.{DesksDid as CrewDesks}
-use Rattle.crew_tagged.specs.TaggedRounds.{TaggedLeaves}
-use Rattle.child_end.specs.Wires.{IsHeld, is_mains}
-use Rattle.child_end.proofs.Held.{lone_held}
+use Rattle.crew_work.specs.Laws.Laws.{GoesOn}
+use Rattle.crew_work.specs.Laws.Rounds.{IsAtRest, IsWired, LinkValue}
+use Rattle.crew_rounds.specs.Tagged.Crewing.{DesksDid as CrewDesks}
+use Rattle.crew_rounds.specs.Tagged.TaggedRounds.{TaggedLeaves}
+use Rattle.child_life.specs.End.Wires.{IsHeld, is_mains}
+use Rattle.child_life.proofs.EndLemmas.Held.{lone_held}
 use Rattle.task_model.specs.declared.setup.Setup.{Setup}
-use Rattle.crew_worker.specs.Works.{TaskDone}
+use Rattle.crew_work.specs.Worker.Works.{TaskDone}
 use Rattle.run_starts.proofs.Stinting.{may_close}
-use Rattle.crew_threads.specs.declared.slot.Refused.{Refused}
-use Rattle.crew_tagged.specs.declared.outcome.Outcome.{Outcome}
-use Rattle.crew_tagged.specs.declared.outcome.Outcome.TheVariants.{Done, NoMemory, NoThreads}
-use Rattle.crew_tagged.specs.Outcomes.{IfDone, IfKept}
-use Rattle.crew_tagged.specs.Tagged.{TaggedCan}
+use Rattle.threads.specs.declared.roles.slot.Refused.{Refused}
+use Rattle.crew_rounds.specs.declared.tagged.outcome.Outcome.{Outcome}
+use Rattle.crew_rounds.specs.declared.tagged.outcome.Outcome.TheVariants.{Done, NoMemory, NoThreads}
+use Rattle.crew_rounds.specs.Tagged.Outcomes.{IfDone, IfKept}
+use Rattle.crew_rounds.specs.Tagged.Tagged.{TaggedCan}
 use Rattle.run_children.specs.Servings.{CanBeServed, ServesAlone}
 use Rattle.run_children.proofs.RoundDid.{in_range}
-use Rattle.crew_laws.proofs.Laboring.{started_lasts as started_then}
+use Rattle.crew_work.proofs.LawsLemmas.Laboring.{started_lasts as started_then}
 use Rattle.std.proofs.lemmas.Bool.{and_parts as both, ne_eqb as differ}
-use Rattle.run_pools.proofs.Own.{rest_shut}
+use Rattle.run_children.proofs.PoolChildrenLemmas.Own.{rest_shut}
 
 -- entries of numbers from 1 on, of which the main thread made all that is of the child: none is
 none_of_mains : (c m : ℕ) (xs : List Entry) → list_all (λ (e : Entry). list_any (λ (n : ℕ). n == e.by) (range_with_len 1 m)) xs ≡ true

@@ -13,17 +13,17 @@ use Rattle.journal_model.specs.Journal.{any, is_tagged}
 use Rattle.journal_model.specs.Legality.{Legal, count, is_start}
 use Rattle.child_link.specs.Alone.{Closes}
 use Rattle.host_core.specs.Steps.{are_all_claimed}
-use Rattle.crew_threads.specs.declared.slot.Refused.{Refused}
-use Rattle.child_start.specs.Greetings.{AreNumbered, Greeted, IsReady}
-use Rattle.child_end.specs.Programs.{AddsAll, told}
+use Rattle.threads.specs.declared.roles.slot.Refused.{Refused}
+use Rattle.child_life.specs.Start.Greetings.{AreNumbered, Greeted, IsReady}
+use Rattle.child_life.specs.End.Programs.{AddsAll, told}
 use Rattle.child_link.specs.Wires.{IsLeft, WireValue}
-use Rattle.child_end.specs.Wires.{IsHeld, IsLaid}
-use Rattle.crew_laws.specs.Rounds.{LinkValue}
+use Rattle.child_life.specs.End.Wires.{IsHeld, IsLaid}
+use Rattle.crew_work.specs.Laws.Rounds.{LinkValue}
 use Rattle.task_model.specs.declared.setup.Setup.{Setup}
 use Rattle.run_starts.specs.Starting.{is_any_start}
 use Rattle.run_starts.specs.Stints.{ear_of, main_entry, mouth_of}
 use Rattle.run_starts.proofs.Leaving.{rose_still, stays_none}
-use Rattle.run_pools.specs.Pools.{IsUngathered, Serves as Seat}
+use Rattle.run_children.specs.PoolChildren.Pools.{IsUngathered, Serves as Seat}
 use Rattle.run_children.specs.Pools.{IsLinkLeft, LeavesPool, PoolServed}
 use Rattle.run_children.specs.Servings.{CanBeServed, FirstServed, Serves, ServesUnless, Starved, plainly}
 use Rattle.run_children.specs.Starts.{RunLacksMemory, OneJobStart, StartsAll}

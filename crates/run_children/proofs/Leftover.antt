@@ -21,7 +21,7 @@ use Rattle.run_starts.specs.Starting.{AllOffer, children, is_any_start, is_offer
 use Rattle.run_starts.specs.Rounds.{AllLostWell, AllStandNext, EndsClosed, is_of_run, left_answer, start_untaken}
 use Rattle.run_starts.specs.Stints.{AnswersLeft, Kept, answered_so, main_entry}
 use Rattle.run_starts.proofs.Ending.{left_ends, left_quiet}
-use Rattle.crew_worker.proofs.Working.{ends_behind}
+use Rattle.crew_work.proofs.WorkerLemmas.Working.{ends_behind}
 use Rattle.host_core.specs.Steps.{are_all_claimed}
 use Rattle.run_starts.proofs.Apart.{ended_on, ready_same}
 use Rattle.run_starts.proofs.Leaving.{kept_still}
@@ -31,8 +31,8 @@ use Rattle.run_starts.proofs.Runs.{IsOfNoCall, gained_nothing}
 use Rattle.run_starts.proofs.Tests.{any_same, children_up_to, no_children, offers_both, offers_none}
 use Rattle.run_starts.proofs.Turns.{claim_takes, none_fails}
 use Rattle.run_starts.proofs.Zeros.{left_still, rests_one}
-use Rattle.run_pools.proofs.SlotLaws.{LeavesClaimed, leaves_claimed, leaves_front, turn_both, turn_where as turn_manned}
-use Rattle.run_pools.specs.Slots.{AllInTurn, AreSpent, IsManned, are_spent, is_first_start}
+use Rattle.run_children.proofs.PoolChildrenLemmas.SlotLaws.{LeavesClaimed, leaves_claimed, leaves_front, turn_both, turn_where as turn_manned}
+use Rattle.run_children.specs.PoolChildren.Slots.{AllInTurn, AreSpent, IsManned, are_spent, is_first_start}
 use Rattle.run_children.specs.Desks.{DeskDid, DesksDid, HaveDesks}
 use Rattle.run_children.specs.Posts.{AllPosted}
 use Rattle.run_children.specs.Unserved.{UnservedAnswers}
@@ -44,7 +44,7 @@ use Rattle.run_children.proofs.Slots.{manned_still}
 use Rattle.run_children.proofs.Spent.{all_spent_both}
 use Rattle.ann_key.proofs.Booleans.{left_false as either_left}
 use Rattle.journal_model.proofs.Working.{count-append, count_none}
-use Rattle.run_pools.proofs.Own.{unasked}
+use Rattle.run_children.proofs.PoolChildrenLemmas.Own.{unasked}
 use Rattle.journal_model.proofs.Across.{idle_on}
 
 -- ---- what they are not

@@ -32,3 +32,4 @@ pub mod Succeeding
 pub mod OneAnswer
 pub mod Completing
 pub mod TaskFiles
+pub mod PoolChildrenLemmas

@@ -15,9 +15,9 @@ use Rattle.task_model.specs.TaskRuns.{failed_start, refusal_of}
 use Rattle.run_starts.specs.Starting.{children, is_spent, is_unclosed, up_to}
 use Rattle.run_starts.specs.Rounds.{start_untaken}
 use Rattle.run_starts.specs.Stints.{main_entry}
-use Rattle.task_laws.specs.ChildrenWell.{ChildrenWell, is_muting, is_no_start, is_refusal, is_unclosed_end}
-use Rattle.task_laws.proofs.NoZero.{Calm, before, calm, none_failed}
-use Rattle.run_pools.specs.Slots.{are_spent, is_first_start, is_lost, is_pool_spent, spends}
+use Rattle.run_starts.specs.TaskLaws.ChildrenWell.{ChildrenWell, is_muting, is_no_start, is_refusal, is_unclosed_end}
+use Rattle.run_starts.proofs.TaskLawsLemmas.NoZero.{Calm, before, calm, none_failed}
+use Rattle.run_children.specs.PoolChildren.Slots.{are_spent, is_first_start, is_lost, is_pool_spent, spends}
 use Rattle.run_children.specs.Unserved.{UnservedAnswers}
 use Rattle.run_children.specs.JobsWell.{NoneUnserved}
 

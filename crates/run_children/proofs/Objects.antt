@@ -12,17 +12,17 @@ use Rattle.journal_model.specs.Legality.{count, is_start}
 use Rattle.journal_model.specs.Shares.{is_of_child}
 use Rattle.journal_model.proofs.Looks.{each_of-append}
 use Rattle.child_link.proofs.Linked.{any_narrower}
-use Rattle.child_end.specs.Programs.{AddsAll, RoseBy, is_failed_start, told, told_in}
+use Rattle.child_life.specs.End.Programs.{AddsAll, RoseBy, is_failed_start, told, told_in}
 use Rattle.child_link.specs.Wires.{WireValue}
-use Rattle.child_end.specs.Wires.{came, came_in}
+use Rattle.child_life.specs.End.Wires.{came, came_in}
 use Rattle.run_starts.specs.Starting.{is_any_start}
 use Rattle.run_starts.specs.Stints.{AreLinked, AreUpTo, IsLinked, Kept, StartsOne, main_entry}
 use Rattle.run_starts.proofs.Leaving.{linked_both, linked_on, none_told, rose_both, failed_start_is, as_many}
 use Rattle.run_starts.proofs.Tests.{none_came}
 use Rattle.run_children.specs.Starts.{StartsAll}
-use Rattle.run_pools.proofs.Seating.{shifted}
+use Rattle.run_children.proofs.PoolChildrenLemmas.Seating.{shifted}
 use Rattle.journal_model.proofs.Working.{count-append, count_none}
-use Rattle.child_end.proofs.Across.{adds_both}
+use Rattle.child_life.proofs.EndLemmas.Across.{adds_both}
 
 -- ---- counts of faults
 

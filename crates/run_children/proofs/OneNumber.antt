@@ -11,7 +11,7 @@ use Rattle.journal_model.specs.Journal.{is_tagged}
 use Rattle.journal_model.specs.Shares.{by_link, is_closed, is_memory}
 use Rattle.journal_model.proofs.Testing.{all-split, by_either}
 use Rattle.child_link.proofs.Linked.{ear_links, mouth_links}
-use Rattle.crew_laws.specs.Posts.{Ear, Ender, Idle, Lone, Mouth, Worker, gives_up, makes, serves, works}
+use Rattle.crew_work.specs.Laws.Posts.{Ear, Ender, Idle, Lone, Mouth, Worker, gives_up, makes, serves, works}
 use Rattle.run_children.specs.PostLaws.{HasOneNumber}
 use Rattle.run_children.specs.Posts.{AllPosted, PostedOver, is_paired, names, post_over, since_start}
 use Rattle.run_children.proofs.Pairing.{serves_names}

@@ -9,13 +9,13 @@ use Rattle.journal_model.specs.Journal.{accepts_async, any, is_started, is_tagge
 use Rattle.journal_model.specs.Shares.{are_by, is_closed}
 use Rattle.journal_model.proofs.Looks.{any-append, entry}
 use Rattle.journal_model.proofs.Testing.{all-each, all-join, any-more, by_either}
-use Rattle.crew_laws.specs.Laws.{Distinct, children_of}
-use Rattle.crew_laws.specs.Posts.{serves}
-use Rattle.crew_laws.specs.Rounds.{LinkValue}
+use Rattle.crew_work.specs.Laws.Laws.{Distinct, children_of}
+use Rattle.crew_work.specs.Laws.Posts.{serves}
+use Rattle.crew_work.specs.Laws.Rounds.{LinkValue}
 use Rattle.run_children.specs.Posts.{are_paired, is_paired, names, since_start}
 use Rattle.run_children.proofs.PoolPosts.{Posted, at_place}
 use Rattle.run_children.proofs.Since.{since_more}
-use Rattle.run_pools.proofs.SlotLaws.{offered_starts as offer_starts}
+use Rattle.run_children.proofs.PoolChildrenLemmas.SlotLaws.{offered_starts as offer_starts}
 use Rattle.std.proofs.lemmas.Bool.{and_parts as both, ne_eqb as differ, eqb-true as same_number, eq-eqb as equal_test}
 use Rattle.ann_key.proofs.Booleans.{or_false, or_left, or_true}
 

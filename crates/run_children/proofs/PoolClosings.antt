@@ -14,23 +14,23 @@ use Rattle.journal_model.specs.Makers.{is_of_task}
 use Rattle.journal_model.specs.Shares.{are_by, is_closed, is_of_child}
 use Rattle.journal_model.proofs.Testing.{all-each, all-join, by_either}
 use Rattle.journal_model.proofs.Working.{holder_apart}
-use Rattle.crew_laws.specs.Laws.{children_of}
-use Rattle.crew_laws.specs.Rounds.{IsAtRest, LinkValue}
-use Rattle.child_end.specs.Wires.{IsHeld}
-use Rattle.child_end.proofs.Held.{held_apart, held_closed}
+use Rattle.crew_work.specs.Laws.Laws.{children_of}
+use Rattle.crew_work.specs.Laws.Rounds.{IsAtRest, LinkValue}
+use Rattle.child_life.specs.End.Wires.{IsHeld}
+use Rattle.child_life.proofs.EndLemmas.Held.{held_apart, held_closed}
 use Rattle.run_starts.specs.Rounds.{is_of_run}
 use Rattle.run_starts.specs.Starting.{is_any_start}
 use Rattle.run_starts.proofs.Apart.{ended_on}
 use Rattle.run_starts.proofs.Losing.{loses_task}
 use Rattle.run_starts.proofs.Stinting.{Closing, closing, of_closing}
 use Rattle.run_starts.proofs.Tests.{each_none}
-use Rattle.run_pools.specs.Pools.{changes_claim}
-use Rattle.run_pools.specs.Slots.{in_pool}
+use Rattle.run_children.specs.PoolChildren.Pools.{changes_claim}
+use Rattle.run_children.specs.PoolChildren.Slots.{in_pool}
 use Rattle.run_children.specs.PoolSteps.{ClosesAll}
 use Rattle.std.proofs.lemmas.Bool.{and_parts as both, ne_eqb as differ, eqb-true as same_number, eq-eqb as equal_test}
 use Rattle.ann_key.proofs.Numbers.{same_number as same}
 use Rattle.ann_key.proofs.Booleans.{or_right}
-use Rattle.run_pools.proofs.Own.{rest_shut, shut_open}
+use Rattle.run_children.proofs.PoolChildrenLemmas.Own.{rest_shut, shut_open}
 use Rattle.journal_model.proofs.Across.{none_so as any_none, idle_on}
 
 -- ---- what closings append

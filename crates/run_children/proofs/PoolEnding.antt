@@ -13,16 +13,16 @@ use Rattle.journal_model.specs.Legality.{Legal, count, is_start, may_stop}
 use Rattle.journal_model.specs.Shares.{are_by, is_of_child}
 use Rattle.child_link.specs.Alone.{Closes}
 use Rattle.child_link.specs.Wires.{WireValue}
-use Rattle.child_end.specs.Wires.{IsHeld, IsLaid, came}
-use Rattle.child_end.proofs.Held.{lone_held}
-use Rattle.crew_laws.specs.Laws.{children_of}
-use Rattle.crew_laws.specs.Rounds.{LinkValue}
+use Rattle.child_life.specs.End.Wires.{IsHeld, IsLaid, came}
+use Rattle.child_life.proofs.EndLemmas.Held.{lone_held}
+use Rattle.crew_work.specs.Laws.Laws.{children_of}
+use Rattle.crew_work.specs.Laws.Rounds.{LinkValue}
 use Rattle.task_model.specs.declared.setup.Setup.{Setup}
 use Rattle.run_starts.proofs.Leaving.{rose_still, stays_none}
 use Rattle.run_starts.proofs.Stinting.{may_close}
-use Rattle.crew_tagged.specs.PoolChildren.{MayServe}
-use Rattle.crew_pool.specs.Pool.{AreSameLinks}
-use Rattle.run_pools.specs.Pools.{IsPool, IsUngathered, SeatValue, Serves}
+use Rattle.crew_rounds.specs.Tagged.PoolChildren.{MayServe}
+use Rattle.crew_rounds.specs.Pool.Pool.{AreSameLinks}
+use Rattle.run_children.specs.PoolChildren.Pools.{IsPool, IsUngathered, SeatValue, Serves}
 use Rattle.run_children.specs.Pools.{PoolServed}
 use Rattle.run_children.specs.PoolSteps.{AreLaid, ClosesAll, RoundsPool, ServesFirst, ServesLinks, StarvedLinks, serving}
 use Rattle.run_children.specs.Posts.{since_start}
@@ -32,7 +32,7 @@ use Rattle.run_children.proofs.PoolMiddle.{Middle, middle_alone, middle_none, mi
 use Rattle.run_children.proofs.PoolTags.{later_ascend, seated_serving}
 use Rattle.run_children.proofs.PoolWhole.{pool_can, pool_low, pool_mains, pool_served, pool_untagged}
 use Rattle.run_children.proofs.PoolWires.{Settled, leaves_pool, wire_stays}
-use Rattle.crew_pool.proofs.Backs.{links_still as link_same}
+use Rattle.crew_rounds.proofs.PoolLemmas.Backs.{links_still as link_same}
 
 -- a link for each seat that serves
 pub pool_serving : {wanted : Type 0} {whole : Bool} {o : Opening} {jobs : ℕ} {program : List ℕ} {old g : List Entry} {first : LinkValue} {before after : ProgramsTold} {seats : List SeatValue} {links : List LinkValue}

@@ -13,25 +13,25 @@ use Rattle.journal_model.specs.Journal.{is_started}
 use Rattle.journal_model.specs.Legality.{may_stop}
 use Rattle.journal_model.specs.Shares.{is_of_child}
 use Rattle.child_link.specs.Alone.{Closes, KeepsLink}
-use Rattle.crew_laws.specs.Laws.{Distinct, children_of}
-use Rattle.crew_laws.specs.Rounds.{IsAtRest, LinkValue}
+use Rattle.crew_work.specs.Laws.Laws.{Distinct, children_of}
+use Rattle.crew_work.specs.Laws.Rounds.{IsAtRest, LinkValue}
 use Rattle.child_link.specs.Wires.{WireValue}
-use Rattle.child_end.specs.Wires.{IsHeld, IsLaid}
-use Rattle.child_end.proofs.Held.{held_apart, lone_held}
+use Rattle.child_life.specs.End.Wires.{IsHeld, IsLaid}
+use Rattle.child_life.proofs.EndLemmas.Held.{held_apart, lone_held}
 use Rattle.task_model.specs.declared.setup.Setup.{Setup}
-use Rattle.crew_worker.specs.Works.{CanWork}
+use Rattle.crew_work.specs.Worker.Works.{CanWork}
 use Rattle.run_starts.specs.Stints.{HasServed, in_stint}
 use Rattle.run_starts.proofs.Apart.{apart_in}
 use Rattle.run_starts.proofs.Stinting.{may_close}
-use Rattle.crew_tagged.specs.PoolChildren.{MayServe, PoolCan}
-use Rattle.run_pools.specs.Pools.{OverBy, SeatValue, Serves}
+use Rattle.crew_rounds.specs.Tagged.PoolChildren.{MayServe, PoolCan}
+use Rattle.run_children.specs.PoolChildren.Pools.{OverBy, SeatValue, Serves}
 use Rattle.run_children.specs.PoolSteps.{AreLaid, AreSettled, ClosesAll, serving}
 use Rattle.run_children.proofs.PoolClosings.{Closings, closings, closings_calm}
 use Rattle.run_children.proofs.PoolMiddle.{ServedPart, served_part}
 use Rattle.ann_key.proofs.Lists.{no_items}
 use Rattle.std.proofs.lemmas.Bool.{ne_eqb as differ}
-use Rattle.crew_laws.proofs.Laboring.{started_lasts as started_then}
-use Rattle.run_pools.proofs.Own.{rest_shut}
+use Rattle.crew_work.proofs.LawsLemmas.Laboring.{started_lasts as started_then}
+use Rattle.run_children.proofs.PoolChildrenLemmas.Own.{rest_shut}
 use Rattle.journal_model.proofs.Across.{none_so as any_none}
 
 -- ---- lists that are mapped

@@ -14,8 +14,8 @@ use Rattle.journal_model.specs.declared.entry.Entry.{Entry}
 use Rattle.journal_model.specs.declared.opening.Opening.{Opening}
 use Rattle.journal_model.specs.Journal.{any, asked_jobs, is_ended, is_mute, is_started, is_tagged, open_jobs, verdict_of, why_of}
 use Rattle.journal_model.specs.Legality.{Legal, count, is_busy, is_done, is_prepared, prepares}
-use Rattle.crew_laws.specs.Tasks.{turns_by}
-use Rattle.crew_laws.proofs.Turning.{turns_by-append}
+use Rattle.crew_work.specs.Laws.Tasks.{turns_by}
+use Rattle.crew_work.proofs.LawsLemmas.Turning.{turns_by-append}
 use Rattle.journal_model.specs.Shares.{are_by, is_of_child}
 use Rattle.journal_model.proofs.Idling.{asks_none, mains_ask}
 use Rattle.journal_model.proofs.Linking.{why_is_end, why_of-append}
@@ -25,13 +25,13 @@ use Rattle.journal_model.proofs.Testing.{all-each, all-join, all-split, by_eithe
 use Rattle.journal_model.proofs.Verdicts.{unasked_none}
 use Rattle.host_core.specs.Steps.{are_all_claimed, is_gone}
 use Rattle.child_link.proofs.Linked.{any_narrower}
-use Rattle.crew_laws.specs.Laws.{children_of}
-use Rattle.crew_laws.specs.Posts.{is_mains, pool_crew}
-use Rattle.crew_laws.specs.Rounds.{IsAmong, IsAtRest, IsLostChild, LinkValue, Rounded}
-use Rattle.crew_laws.specs.Tasks.{IsThrough}
+use Rattle.crew_work.specs.Laws.Laws.{children_of}
+use Rattle.crew_work.specs.Laws.Posts.{is_mains, pool_crew}
+use Rattle.crew_work.specs.Laws.Rounds.{IsAmong, IsAtRest, IsLostChild, LinkValue, Rounded}
+use Rattle.crew_work.specs.Laws.Tasks.{IsThrough}
 use Rattle.task_model.specs.declared.setup.Setup.{Setup}
-use Rattle.crew_worker.specs.Works.{by_worker}
-use Rattle.crew_worker.proofs.Turning.{alone_only}
+use Rattle.crew_work.specs.Worker.Works.{by_worker}
+use Rattle.crew_work.proofs.WorkerLemmas.Turning.{alone_only}
 use Rattle.run_starts.specs.Rounds.{AllLostWell, is_of_run}
 use Rattle.run_starts.specs.Starting.{is_any_start, is_unclosed}
 use Rattle.run_starts.specs.Stints.{HasServed, TasksDone, in_stint}
@@ -41,10 +41,10 @@ use Rattle.run_starts.proofs.Losing.{lost_others, lost_tasks, loses_task}
 use Rattle.run_starts.proofs.Runs.{done_same, gained_nothing, worker_runs}
 use Rattle.run_starts.proofs.Served.{all_unclosed, worker_unclosed as worker_ends}
 use Rattle.run_starts.proofs.Stinting.{Closing, Part, closing, closing_claims, closing_loses, closing_part, closing_rests, of_closing, part_both, worker_loses, worker_part}
-use Rattle.crew_tagged.specs.PoolChildren.{MayServe, PoolCan}
-use Rattle.crew_pool.specs.Pool.{AreSameLinks, PoolLeaves}
-use Rattle.run_pools.specs.Pools.{changes_claim}
-use Rattle.run_pools.specs.Slots.{in_pool, is_lost}
+use Rattle.crew_rounds.specs.Tagged.PoolChildren.{MayServe, PoolCan}
+use Rattle.crew_rounds.specs.Pool.Pool.{AreSameLinks, PoolLeaves}
+use Rattle.run_children.specs.PoolChildren.Pools.{changes_claim}
+use Rattle.run_children.specs.PoolChildren.Slots.{in_pool, is_lost}
 use Rattle.run_children.specs.Desks.{DesksDid, HaveDesks, claims_for}
 use Rattle.run_children.specs.PoolSteps.{RoundsPool}
 use Rattle.run_children.specs.Posts.{AllPosted, since_start}
@@ -58,7 +58,7 @@ use Rattle.run_children.proofs.RoundDid.{any_round_did, in_range, lost_unclosed}
 use Rattle.run_children.proofs.Shutting.{AreShut, shut_next}
 use Rattle.std.proofs.lemmas.Bool.{and_parts as both, ne_eqb as differ, eqb-true as same_number}
 use Rattle.ann_key.proofs.Booleans.{left_false as either_left, or_left, or_right}
-use Rattle.run_pools.proofs.Own.{rest_shut, shut_open}
+use Rattle.run_children.proofs.PoolChildrenLemmas.Own.{rest_shut, shut_open}
 use Rattle.journal_model.proofs.Across.{none_so as any_none, idle_on}
 use Rattle.task_model.proofs.Across.{prepared_on}
 

@@ -9,19 +9,19 @@ use Rattle.journal_model.specs.declared.entry.What.TheVariants.{Claim, Start, No
 use Rattle.journal_model.specs.declared.entry.Entry.{Entry}
 use Rattle.journal_model.specs.Journal.{any, is_tagged}
 use Rattle.journal_model.specs.Legality.{turn_of_task}
-use Rattle.crew_laws.specs.Tasks.{claimed_turn, turns_by}
+use Rattle.crew_work.specs.Laws.Tasks.{claimed_turn, turns_by}
 use Rattle.journal_model.specs.Shares.{is_closed}
 use Rattle.journal_model.proofs.Idling.{are_mains, asks_none}
 use Rattle.journal_model.proofs.Looks.{entry}
-use Rattle.crew_laws.specs.Laws.{children_of}
-use Rattle.crew_laws.specs.Posts.{Idle, is_mains, lone_post, makes, pool_crew, serves}
-use Rattle.crew_laws.specs.Rounds.{LinkValue}
-use Rattle.child_start.specs.Greetings.{asks_for}
-use Rattle.child_start.specs.declared.greeting.Mode.TheVariants.{Serve}
+use Rattle.crew_work.specs.Laws.Laws.{children_of}
+use Rattle.crew_work.specs.Laws.Posts.{Idle, is_mains, lone_post, makes, pool_crew, serves}
+use Rattle.crew_work.specs.Laws.Rounds.{LinkValue}
+use Rattle.child_life.specs.Start.Greetings.{asks_for}
+use Rattle.child_life.specs.declared.start.greeting.Mode.TheVariants.{Serve}
 use Rattle.run_starts.specs.Starting.{is_any_start}
 use Rattle.run_starts.specs.Rounds.{is_of_run}
 use Rattle.run_starts.proofs.Later.{late}
-use Rattle.run_pools.specs.Slots.{in_pool}
+use Rattle.run_children.specs.PoolChildren.Slots.{in_pool}
 use Rattle.run_children.specs.Desks.{HasDesk, HaveDesks, claimed_for, claims_for, desk_of}
 use Rattle.run_children.proofs.RoundDid.{in_range}
 use Rattle.std.proofs.lemmas.Bool.{and_parts as both, ne_eqb as differ, eqb-true as same_number, eq-eqb as equal_test}

@@ -11,22 +11,22 @@ use Rattle.journal_model.specs.Journal.{is_started}
 use Rattle.journal_model.specs.Legality.{Legal}
 use Rattle.child_link.specs.Alone.{KeepsLink}
 use Rattle.child_link.specs.Writings.{LoneWired}
-use Rattle.crew_laws.specs.Laws.{GoesOn, children_of}
-use Rattle.crew_laws.specs.Rounds.{IsAtRest, LinkValue}
-use Rattle.child_end.specs.Wires.{IsHeld}
-use Rattle.child_end.proofs.Held.{lone_held}
+use Rattle.crew_work.specs.Laws.Laws.{GoesOn, children_of}
+use Rattle.crew_work.specs.Laws.Rounds.{IsAtRest, LinkValue}
+use Rattle.child_life.specs.End.Wires.{IsHeld}
+use Rattle.child_life.proofs.EndLemmas.Held.{lone_held}
 use Rattle.task_model.specs.declared.setup.Setup.{Setup}
-use Rattle.crew_worker.specs.Works.{CanWork}
+use Rattle.crew_work.specs.Worker.Works.{CanWork}
 use Rattle.run_starts.specs.Stints.{HasServed}
-use Rattle.crew_threads.specs.declared.slot.Refused.{Refused}
-use Rattle.crew_tagged.specs.PoolChildren.{MayServe, PoolCan}
-use Rattle.crew_pool.specs.Pool.{AreSameLinks, PoolLeaves}
+use Rattle.threads.specs.declared.roles.slot.Refused.{Refused}
+use Rattle.crew_rounds.specs.Tagged.PoolChildren.{MayServe, PoolCan}
+use Rattle.crew_rounds.specs.Pool.Pool.{AreSameLinks, PoolLeaves}
 use Rattle.run_children.specs.PoolSteps.{ClosesAll, RoundsPool, ServesFirst, ServesLinks, ServesLinksUnless, ServesOne, ServesThen}
 use Rattle.run_children.proofs.PoolClosings.{closes_held}
 use Rattle.run_children.proofs.PoolLinks.{all_mapped, all_unmapped, first_can, first_held, first_of_all}
 use Rattle.run_children.proofs.PoolMiddle.{ServedPart, served_calm, served_part}
-use Rattle.crew_laws.proofs.Laboring.{started_lasts as started_then}
-use Rattle.crew_pool.proofs.Backs.{links_still as link_same}
+use Rattle.crew_work.proofs.LawsLemmas.Laboring.{started_lasts as started_then}
+use Rattle.crew_rounds.proofs.PoolLemmas.Backs.{links_still as link_same}
 
 -- ---- the first link
 

@@ -20,10 +20,10 @@ use Rattle.journal_model.proofs.Projecting.{invariant}
 use Rattle.journal_model.proofs.Testing.{all-join}
 use Rattle.host_core.specs.Steps.{are_all_claimed}
 use Rattle.child_link.proofs.Linked.{any_narrower}
-use Rattle.child_start.specs.Greetings.{AreNumbered, Greeted, IsReady, is_of_greeting}
-use Rattle.child_end.specs.Programs.{AddsAll, HaveStarted, RoseBy, is_failed_start, told, told_in}
+use Rattle.child_life.specs.Start.Greetings.{AreNumbered, Greeted, IsReady, is_of_greeting}
+use Rattle.child_life.specs.End.Programs.{AddsAll, HaveStarted, RoseBy, is_failed_start, told, told_in}
 use Rattle.child_link.specs.Wires.{WireValue}
-use Rattle.child_end.specs.Wires.{IsOfStart, came, came_in}
+use Rattle.child_life.specs.End.Wires.{IsOfStart, came, came_in}
 use Rattle.task_model.specs.declared.setup.Setup.{Setup}
 use Rattle.task_model.specs.TaskRuns.{failed_start, gone_answer, or_refusal, refusal_of, unready_answer}
 use Rattle.run_starts.specs.Starting.{children, is_any_start, is_ready_untagged, started_in}
@@ -35,7 +35,7 @@ use Rattle.run_starts.proofs.Losing.{greeted_next, lost_both, lost_greeting}
 use Rattle.run_starts.proofs.Nexts.{next_both, next_quiet}
 use Rattle.run_starts.proofs.Stinting.{greeting_part, greeting_claims_none, quiet_greeting}
 use Rattle.run_starts.proofs.Tests.{each_none, no_children, none_came}
-use Rattle.run_pools.specs.Slots.{AllInTurn, begins_by_start, has_pool, in_pool, is_first_start, is_lost, is_unclaimed_since, last_slot, offers_tags, slot_of, spends}
+use Rattle.run_children.specs.PoolChildren.Slots.{AllInTurn, begins_by_start, has_pool, in_pool, is_first_start, is_lost, is_unclaimed_since, last_slot, offers_tags, slot_of, spends}
 use Rattle.run_children.specs.Desks.{DesksDid, HaveDesks}
 use Rattle.run_children.specs.Pools.{LeavesPool, ServesPool}
 use Rattle.run_children.specs.Posts.{AllPosted}
@@ -51,10 +51,10 @@ use Rattle.journal_model.proofs.Replying.{accepted}
 use Rattle.std.proofs.lemmas.Bool.{and_parts as both}
 use Rattle.ann_key.proofs.Booleans.{left_false as either_left, or_neither as neither, or_false, or_left}
 use Rattle.journal_model.proofs.Working.{count-append, count_none}
-use Rattle.run_pools.proofs.Own.{rest_shut}
-use Rattle.run_pools.proofs.SlotLaws.{turn_both}
+use Rattle.run_children.proofs.PoolChildrenLemmas.Own.{rest_shut}
+use Rattle.run_children.proofs.PoolChildrenLemmas.SlotLaws.{turn_both}
 use Rattle.run_children.proofs.PoolWhole.{tags_start as no_tags}
-use Rattle.child_end.proofs.Across.{adds_both, adds_one}
+use Rattle.child_life.proofs.EndLemmas.Across.{adds_both, adds_one}
 use Rattle.journal_model.proofs.Across.{all_in, none_so as any_none}
 use Rattle.task_model.proofs.Across.{prepared_on}
 use Rattle.ann_key.proofs.Lists.{last_or-append}

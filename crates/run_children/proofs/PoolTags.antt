@@ -18,11 +18,11 @@ use Rattle.journal_model.proofs.Holding.{due_names}
 use Rattle.journal_model.proofs.Looks.{any-append, each_of-append, entry, unsettled, verdict_of-append}
 use Rattle.journal_model.proofs.Projecting.{invariant}
 use Rattle.journal_model.proofs.Testing.{by_either}
-use Rattle.child_end.specs.Wires.{came, came_in}
-use Rattle.crew_laws.specs.Rounds.{LinkValue}
+use Rattle.child_life.specs.End.Wires.{came, came_in}
+use Rattle.crew_work.specs.Laws.Rounds.{LinkValue}
 use Rattle.run_starts.specs.Starting.{children, is_any_start, started_in}
-use Rattle.run_pools.specs.Pools.{AreSeated, OverBy, SeatValue, Serves}
-use Rattle.run_pools.specs.Slots.{offers_tags}
+use Rattle.run_children.specs.PoolChildren.Pools.{AreSeated, OverBy, SeatValue, Serves}
+use Rattle.run_children.specs.PoolChildren.Slots.{offers_tags}
 use Rattle.run_children.specs.PoolSteps.{serving}
 use Rattle.journal_model.proofs.Replying.{accepted}
 use Rattle.std.proofs.lemmas.Bool.{and_parts as both, eqb-true as same_number}

@@ -18,10 +18,10 @@ use Rattle.journal_model.proofs.Testing.{all-each, all-join, any-more, by_either
 use Rattle.host_core.specs.Steps.{are_all_claimed}
 use Rattle.child_link.proofs.Linked.{any_narrower}
 use Rattle.child_link.specs.Wires.{WireValue}
-use Rattle.child_end.specs.Wires.{came}
-use Rattle.child_start.proofs.Begun.{later_unstarted}
-use Rattle.crew_laws.specs.Laws.{Distinct, children_of}
-use Rattle.crew_laws.specs.Rounds.{LinkValue}
+use Rattle.child_life.specs.End.Wires.{came}
+use Rattle.child_life.proofs.StartLemmas.Begun.{later_unstarted}
+use Rattle.crew_work.specs.Laws.Laws.{Distinct, children_of}
+use Rattle.crew_work.specs.Laws.Rounds.{LinkValue}
 use Rattle.task_model.specs.declared.setup.Setup.{Setup}
 use Rattle.journal_model.proofs.Holding.{claimed}
 use Rattle.run_starts.specs.Rounds.{AllLostWell, is_of_run}
@@ -29,10 +29,10 @@ use Rattle.run_starts.specs.Starting.{children, is_any_start, started_in}
 use Rattle.run_starts.proofs.Apart.{ended_on}
 use Rattle.run_starts.proofs.Losing.{lost_both, lost_tasks}
 use Rattle.run_starts.proofs.Tests.{claimed_same, each_without, no_children}
-use Rattle.crew_tagged.specs.PoolChildren.{MayServe, PoolCan}
-use Rattle.run_pools.specs.Pools.{AreSeated, Gathered, SeatValue, is_among, changes_claim}
-use Rattle.run_pools.specs.Slots.{AllInTurn, IsManned, in_pool, is_lost, offers_tags}
-use Rattle.run_pools.proofs.SlotLaws.{IsFilled, LeavesClaimed, filled_on, leaves_claimed, turn_both, turn_filled, turn_quiet, pool_untagged as later_untagged}
+use Rattle.crew_rounds.specs.Tagged.PoolChildren.{MayServe, PoolCan}
+use Rattle.run_children.specs.PoolChildren.Pools.{AreSeated, Gathered, SeatValue, is_among, changes_claim}
+use Rattle.run_children.specs.PoolChildren.Slots.{AllInTurn, IsManned, in_pool, is_lost, offers_tags}
+use Rattle.run_children.proofs.PoolChildrenLemmas.SlotLaws.{IsFilled, LeavesClaimed, filled_on, leaves_claimed, turn_both, turn_filled, turn_quiet, pool_untagged as later_untagged}
 use Rattle.run_children.specs.Desks.{DesksDid, HaveDesks}
 use Rattle.run_children.specs.Pools.{LeavesPool, PoolServed}
 use Rattle.run_children.specs.PoolSteps.{ClosesAll}

@@ -13,24 +13,24 @@ use Rattle.journal_model.specs.Legality.{count}
 use Rattle.journal_model.specs.Shares.{is_of_child}
 use Rattle.journal_model.proofs.Looks.{each_of-append}
 use Rattle.child_link.proofs.Linked.{any_narrower}
-use Rattle.child_end.specs.Programs.{AddsAll, HaveStarted, RoseBy, is_failed_start, told, told_in}
+use Rattle.child_life.specs.End.Programs.{AddsAll, HaveStarted, RoseBy, is_failed_start, told, told_in}
 use Rattle.child_link.specs.Wires.{IsLeft, WireValue}
-use Rattle.child_end.specs.Wires.{IsHeld, IsOfStart, came, came_in}
-use Rattle.child_end.proofs.Held.{held_apart}
-use Rattle.crew_laws.specs.Rounds.{LinkValue}
+use Rattle.child_life.specs.End.Wires.{IsHeld, IsOfStart, came, came_in}
+use Rattle.child_life.proofs.EndLemmas.Held.{held_apart}
+use Rattle.crew_work.specs.Laws.Rounds.{LinkValue}
 use Rattle.run_starts.specs.Starting.{is_any_start}
 use Rattle.run_starts.specs.Stints.{AreLinked, IsLinked, ear_of, mouth_of}
 use Rattle.run_starts.proofs.Leaving.{none_told, rose_still, failed_start_is}
 use Rattle.run_starts.proofs.Tests.{none_came}
-use Rattle.crew_pool.specs.Pool.{AreSameLinks}
-use Rattle.run_pools.specs.Pools.{AreSeated, OverBy, SeatValue, Serves}
+use Rattle.crew_rounds.specs.Pool.Pool.{AreSameLinks}
+use Rattle.run_children.specs.PoolChildren.Pools.{AreSeated, OverBy, SeatValue, Serves}
 use Rattle.run_children.specs.Pools.{LeavesPool}
 use Rattle.run_children.specs.PoolSteps.{AreLaid, AreSettled, ClosesAll}
 use Rattle.run_children.proofs.PoolClosings.{closes_held}
 use Rattle.run_children.proofs.PoolTags.{Ascends, seated_above}
 use Rattle.std.proofs.lemmas.Bool.{ne_eqb as differ}
 use Rattle.journal_model.proofs.Working.{count-append, count_none}
-use Rattle.child_end.proofs.Across.{adds_stay}
+use Rattle.child_life.proofs.EndLemmas.Across.{adds_stay}
 
 -- ---- the wire of a link
 

@@ -7,9 +7,9 @@ use Rattle.journal_model.specs.declared.entry.What.{What}
 use Rattle.journal_model.specs.declared.entry.Entry.{Entry}
 use Rattle.journal_model.specs.Journal.{any, is_tagged}
 use Rattle.journal_model.specs.Shares.{are_by}
-use Rattle.crew_laws.specs.Laws.{Distinct, children_of}
-use Rattle.crew_laws.specs.Posts.{makes, pool_crew, serves, tagged_crew}
-use Rattle.crew_laws.specs.Rounds.{LinkValue}
+use Rattle.crew_work.specs.Laws.Laws.{Distinct, children_of}
+use Rattle.crew_work.specs.Laws.Posts.{makes, pool_crew, serves, tagged_crew}
+use Rattle.crew_work.specs.Laws.Rounds.{LinkValue}
 use Rattle.run_starts.specs.Starting.{is_any_start}
 use Rattle.run_children.specs.Posts.{AllPosted, are_paired, post_over}
 use Rattle.run_children.proofs.Pairing.{ArePaired, paired_on, tagged_started}

@@ -19,21 +19,21 @@ use Rattle.journal_model.proofs.Linking.{why_is_end}
 use Rattle.journal_model.proofs.Testing.{all-each, all-split, by_either}
 use Rattle.journal_model.proofs.Turns.{tagged_on}
 use Rattle.host_core.specs.Steps.{are_all_claimed}
-use Rattle.crew_laws.specs.Posts.{Ear, Ender, Mouth, Post, Worker, gives_up, is_mains, makes, tagged_crew, works}
-use Rattle.crew_laws.specs.Rounds.{IsAmong, IsLostChild, LinkValue, Round, Rounded}
+use Rattle.crew_work.specs.Laws.Posts.{Ear, Ender, Mouth, Post, Worker, gives_up, is_mains, makes, tagged_crew, works}
+use Rattle.crew_work.specs.Laws.Rounds.{IsAmong, IsLostChild, LinkValue, Round, Rounded}
 use Rattle.task_model.specs.declared.setup.Setup.{Setup}
 use Rattle.task_model.specs.TaskRuns.{refusal_of}
-use Rattle.crew_laws.specs.Tasks.{claimed_turn, turns_by}
-use Rattle.child_start.specs.Greetings.{asks_for}
-use Rattle.child_start.specs.declared.greeting.Mode.TheVariants.{Serve}
-use Rattle.crew_worker.specs.Works.{TaskDone}
+use Rattle.crew_work.specs.Laws.Tasks.{claimed_turn, turns_by}
+use Rattle.child_life.specs.Start.Greetings.{asks_for}
+use Rattle.child_life.specs.declared.start.greeting.Mode.TheVariants.{Serve}
+use Rattle.crew_work.specs.Worker.Works.{TaskDone}
 use Rattle.run_starts.specs.Starting.{is_spent, is_unclosed}
 use Rattle.run_starts.specs.Rounds.{is_of_run}
 use Rattle.run_starts.specs.Stints.{in_stint}
 use Rattle.run_starts.proofs.Apart.{is_unclosed_end}
 use Rattle.run_starts.proofs.Later.{late, late_from}
-use Rattle.crew_tagged.specs.Crewing.{AllRun, DeskDid as CrewDid, DesksDid as CrewDesks}
-use Rattle.crew_tagged.specs.TaggedRounds.{TaggedLeaves}
+use Rattle.crew_rounds.specs.Tagged.Crewing.{AllRun, DeskDid as CrewDid, DesksDid as CrewDesks}
+use Rattle.crew_rounds.specs.Tagged.TaggedRounds.{TaggedLeaves}
 use Rattle.run_children.specs.Desks.{AreDone, DeskDid, DesksDid, HasDesk, HaveDesks, claimed_for, claims_for, desk_of}
 use Rattle.ann_key.proofs.Booleans.{same_test, left_false as either_left, right_false as either_right, or_right}
 use Rattle.std.proofs.lemmas.Bool.{eq-eqb as equal_test, and_parts as both, ne_eqb as differ, eqb-true as same_number}

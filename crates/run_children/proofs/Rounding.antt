@@ -11,10 +11,10 @@ use Rattle.journal_model.specs.Journal.{any, asked_jobs, each_of, is_tagged, ope
 use Rattle.journal_model.specs.Legality.{Legal, is_busy}
 use Rattle.journal_model.proofs.Testing.{all-join}
 use Rattle.host_core.specs.Steps.{are_all_claimed}
-use Rattle.crew_laws.specs.Posts.{makes, tagged_crew}
-use Rattle.crew_laws.specs.Rounds.{IsAtRest}
-use Rattle.crew_tagged.specs.TaggedRounds.{TaggedLeaves}
-use Rattle.child_start.specs.Greetings.{Greeted, IsReady}
+use Rattle.crew_work.specs.Laws.Posts.{makes, tagged_crew}
+use Rattle.crew_work.specs.Laws.Rounds.{IsAtRest}
+use Rattle.crew_rounds.specs.Tagged.TaggedRounds.{TaggedLeaves}
+use Rattle.child_life.specs.Start.Greetings.{Greeted, IsReady}
 use Rattle.child_link.specs.Wires.{WireValue}
 use Rattle.task_model.specs.declared.setup.Setup.{Setup}
 use Rattle.journal_model.proofs.Holding.{claimed}
@@ -35,7 +35,7 @@ use Rattle.run_children.proofs.Posting.{none_main, posted_both, posted_main, pos
 use Rattle.run_children.proofs.RoundDid.{round_asks, round_desks, round_did, round_over, round_within}
 use Rattle.run_children.proofs.Stretching.{behind_first, closed_idle, job_start, served_idle, served_manned, served_turn, stint_job, stretch_job}
 use Rattle.std.proofs.lemmas.Bool.{and_parts as both}
-use Rattle.run_pools.proofs.Own.{rest_shut}
+use Rattle.run_children.proofs.PoolChildrenLemmas.Own.{rest_shut}
 
 module _ (o : Opening) (setup : Setup) (limit : ℕ) (offer tagged : Bool) (old g new : List Entry) (c : ℕ) (desks desks' : List DeskTold)
     (legal : Legal o old) (left : are_all_claimed o old ≡ false) (greeted : Greeted old g 0 offer c) (legal' : Legal o g) (ready : IsReady g c) (tag : tagged ≡ is_tagged g c) (s : ServesRound o setup c g new desks desks') where

@@ -7,7 +7,7 @@ use Rattle.journal_model.specs.Shares.{is_of_child}
 use Rattle.journal_model.proofs.Testing.{by_either}
 use Rattle.run_starts.specs.Stints.{in_stint}
 use Rattle.run_starts.proofs.Apart.{apart_in}
-use Rattle.run_pools.proofs.Own.{unasked}
+use Rattle.run_children.proofs.PoolChildrenLemmas.Own.{unasked}
 use Rattle.std.proofs.lemmas.Bool.{eqb-true as same_number}
 use Rattle.journal_model.proofs.Across.{none_so as any_none, idle_on}
 

@@ -18,8 +18,8 @@ use Rattle.run_starts.specs.Stints.{in_stint, main_entry}
 use Rattle.child_link.proofs.Linked.{any_narrower}
 use Rattle.run_starts.proofs.Apart.{ready_same}
 use Rattle.run_starts.proofs.Tests.{each_none, each_without}
-use Rattle.run_pools.specs.Slots.{AllInTurn, IsInSlot, IsManned, StandsInTurn, begins_by_start, first_in, has_pool, in_pool, is_first_start, is_ready_pool, is_unclaimed_since, last_slot, offers_tags, slot_of}
-use Rattle.run_pools.proofs.SlotLaws.{LeavesClaimed, filled_on, first_same, last_first, none_first, pool_of as pool_is, unfirst as no_first_in}
+use Rattle.run_children.specs.PoolChildren.Slots.{AllInTurn, IsInSlot, IsManned, StandsInTurn, begins_by_start, first_in, has_pool, in_pool, is_first_start, is_ready_pool, is_unclaimed_since, last_slot, offers_tags, slot_of}
+use Rattle.run_children.proofs.PoolChildrenLemmas.SlotLaws.{LeavesClaimed, filled_on, first_same, last_first, none_first, pool_of as pool_is, unfirst as no_first_in}
 use Rattle.std.proofs.lemmas.Bool.{leb-true as at_least, and_parts as both, ne_eqb as differ, eqb-true as same_number}
 use Rattle.ann_key.proofs.Booleans.{left_false as either_left, right_false as either_right, or_left, or_right}
 use Rattle.ann_key.proofs.Lists.{last_or-push}

@@ -13,7 +13,7 @@ use Rattle.run_starts.specs.Starting.{children, is_spent, is_unclosed, started_i
 use Rattle.run_starts.specs.Stints.{main_entry}
 use Rattle.run_starts.proofs.Apart.{spent_on}
 use Rattle.run_starts.proofs.Spending.{up_to_more, up_to_none}
-use Rattle.run_pools.specs.Slots.{are_spent, in_pool, is_first_start, is_lost, is_pool_spent, spends}
+use Rattle.run_children.specs.PoolChildren.Slots.{are_spent, in_pool, is_first_start, is_lost, is_pool_spent, spends}
 use Rattle.run_children.proofs.PoolMiddle.{lost_on}
 use Rattle.std.proofs.lemmas.Bool.{and_parts as both}
 use Rattle.ann_key.proofs.Booleans.{or_left, or_right}

@@ -25,13 +25,13 @@ use Rattle.host_core.specs.Steps.{are_all_claimed}
 use Rattle.child_link.specs.Alone.{Closes}
 use Rattle.child_link.specs.Writings.{LoneWired}
 use Rattle.child_link.proofs.Linked.{any_narrower}
-use Rattle.crew_laws.specs.Rounds.{IsAtRest}
-use Rattle.child_start.specs.Greetings.{Greeted, IsReady, is_of_greeting}
-use Rattle.child_start.proofs.Begun.{later_unstarted}
+use Rattle.crew_work.specs.Laws.Rounds.{IsAtRest}
+use Rattle.child_life.specs.Start.Greetings.{Greeted, IsReady, is_of_greeting}
+use Rattle.child_life.proofs.StartLemmas.Begun.{later_unstarted}
 use Rattle.child_link.specs.Wires.{WireValue}
-use Rattle.crew_worker.specs.KnownLayouts.{IsBook}
+use Rattle.crew_work.specs.Worker.KnownLayouts.{IsBook}
 use Rattle.task_model.specs.declared.setup.Setup.{Setup}
-use Rattle.crew_worker.specs.Works.{CanWork}
+use Rattle.crew_work.specs.Worker.Works.{CanWork}
 use Rattle.run_starts.specs.Starting.{children, is_any_start, is_ready_untagged, is_spent, is_unclosed, started_in}
 use Rattle.run_starts.specs.Rounds.{EndsClosed}
 use Rattle.run_starts.specs.Stints.{AnswersOne, HasServed, IsStart, Stint, Stretch, TurnsAway, in_stint, main_entry, next_child}
@@ -41,9 +41,9 @@ use Rattle.run_starts.proofs.Nexts.{is_quiet, quiet_starts}
 use Rattle.run_starts.proofs.Served.{all_unclosed, greeting_unclosed, new_unclosed, ready_now}
 use Rattle.run_starts.proofs.Stinting.{Closing, closing, greeting_part, greeting_rests, greeting_works, of_closing, one_idle, quiet_greeting}
 use Rattle.run_starts.proofs.Tests.{no_children}
-use Rattle.run_pools.specs.Pools.{changes_claim}
-use Rattle.run_pools.specs.Slots.{AllInTurn, IsManned, has_pool, in_pool, offers_tags, spends}
-use Rattle.run_pools.proofs.SlotLaws.{first_started, none_first, pool_of as pool_is, turn_quiet, turn_both, turn_where as turn_manned}
+use Rattle.run_children.specs.PoolChildren.Pools.{changes_claim}
+use Rattle.run_children.specs.PoolChildren.Slots.{AllInTurn, IsManned, has_pool, in_pool, offers_tags, spends}
+use Rattle.run_children.proofs.PoolChildrenLemmas.SlotLaws.{first_started, none_first, pool_of as pool_is, turn_quiet, turn_both, turn_where as turn_manned}
 use Rattle.run_children.specs.Desks.{DesksDid, HaveDesks}
 use Rattle.run_children.specs.Posts.{AllPosted, since_start}
 use Rattle.run_children.specs.Servings.{CanBeServed}
@@ -56,7 +56,7 @@ use Rattle.run_children.proofs.Slots.{manned_none, manned_one, pool_failed, pool
 use Rattle.run_children.proofs.Spent.{own_spends}
 use Rattle.run_children.proofs.PoolWhole.{tags_start as no_tags}
 use Rattle.std.proofs.lemmas.Bool.{and_parts as both}
-use Rattle.run_pools.proofs.Own.{rest_shut, shut_open}
+use Rattle.run_children.proofs.PoolChildrenLemmas.Own.{rest_shut, shut_open}
 use Rattle.journal_model.proofs.Across.{all_in, none_so as any_none, idle_on}
 use Rattle.task_model.proofs.Across.{prepared_on}
 

@@ -8,13 +8,13 @@ use Rattle.journal_model.specs.declared.entry.Entry.{Entry}
 use Rattle.journal_model.specs.declared.opening.Opening.{Opening}
 use Rattle.journal_model.specs.Legality.{Legal}
 use Rattle.task_model.specs.declared.setup.Setup.{Setup}
-use Rattle.crew_worker.specs.Works.{TaskDone}
-use Rattle.task_laws.specs.ChildrenWell.{AreKeysRead, ChildrenWell, IsDeskWell, IsDoneWell}
-use Rattle.task_laws.specs.RunWell.{AreAskedWell}
-use Rattle.task_laws.proofs.FilesStored.{file_keeps_stored, file_keeps_content}
-use Rattle.task_laws.proofs.OneStore.{keeps_stored_content}
-use Rattle.task_laws.proofs.Retrieving.{keeps_stored}
-use Rattle.task_laws.proofs.RunsWell.{one_succeeds}
+use Rattle.crew_work.specs.Worker.Works.{TaskDone}
+use Rattle.run_starts.specs.TaskLaws.ChildrenWell.{AreKeysRead, ChildrenWell, IsDeskWell, IsDoneWell}
+use Rattle.run_starts.specs.TaskLaws.RunWell.{AreAskedWell}
+use Rattle.run_starts.proofs.TaskLawsLemmas.FilesStored.{file_keeps_stored, file_keeps_content}
+use Rattle.run_starts.proofs.TaskLawsLemmas.OneStore.{keeps_stored_content}
+use Rattle.run_starts.proofs.TaskLawsLemmas.Retrieving.{keeps_stored}
+use Rattle.run_starts.proofs.TaskLawsLemmas.RunsWell.{one_succeeds}
 use Rattle.run_children.specs.Desks.{AreDone, DesksDid, IsTaskDone}
 use Rattle.run_children.specs.JobsKeep.{JobsKeep}
 use Rattle.run_children.specs.JobsWell.{JobsSucceed, all_done}

@@ -25,9 +25,9 @@ use Rattle.journal_model.proofs.Looks.{entry}
 use Rattle.journal_model.proofs.Working.{claimed_free, claims_counted, count-append, due_untasked, one_if, unclaimed_in}
 use Rattle.task_model.specs.declared.setup.Setup.{Setup}
 use Rattle.task_model.specs.declared.turn.TaskTurn.{TaskTurn}
-use Rattle.crew_worker.specs.Works.{TaskDone, all_calls, turns_of}
-use Rattle.task_laws.specs.Faithful.{Told, AreInTurn}
-use Rattle.task_laws.specs.ToldDesks.{AreToldFrom, IsToldAt, turn_done}
+use Rattle.crew_work.specs.Worker.Works.{TaskDone, all_calls, turns_of}
+use Rattle.run_starts.specs.TaskLaws.Faithful.{Told, AreInTurn}
+use Rattle.run_starts.specs.TaskLaws.ToldDesks.{AreToldFrom, IsToldAt, turn_done}
 use Rattle.run_children.specs.Desks.{DesksDid, claimed_for, claims_for, desk_of}
 use Rattle.run_children.specs.ToldDesks.{AreBlank, ArePlayedNow, AreToldAt, TasksAreTold}
 use Rattle.ann_key.proofs.Numbers.{same_number}

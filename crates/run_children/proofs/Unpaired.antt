@@ -4,7 +4,7 @@ use Rattle.std.specs.Prelude.{nat_lt}
 use Rattle.journal_model.specs.declared.entry.What.{What}
 use Rattle.journal_model.specs.declared.entry.Entry.{Entry}
 use Rattle.journal_model.specs.Journal.{is_tagged}
-use Rattle.crew_laws.specs.Posts.{Idle, Lone, makes, serves, tagged_crew}
+use Rattle.crew_work.specs.Laws.Posts.{Idle, Lone, makes, serves, tagged_crew}
 use Rattle.run_children.specs.Posts.{AllPosted, IsPosted, PostedOver, are_paired}
 
 -- one of the entries

@@ -10,7 +10,7 @@ use Rattle.journal_model.specs.Halves.{EarValue, MouthValue}
 use Rattle.journal_model.specs.Journal.{is_tagged}
 use Rattle.journal_model.specs.Legality.{Legal}
 use Rattle.child_link.specs.Wires.{WireValue}
-use Rattle.child_start.specs.Greetings.{AreNumbered, Greeted, IsReady}
+use Rattle.child_life.specs.Start.Greetings.{AreNumbered, Greeted, IsReady}
 use Rattle.task_model.specs.declared.setup.Setup.{Setup}
 use Rattle.run_children.specs.declared.ready.Begun.{Begun}
 use Rattle.run_children.specs.declared.ready.Begun.TheVariants.{Ready, Turned, NoMemory}

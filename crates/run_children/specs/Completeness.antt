@@ -14,11 +14,11 @@ use Rattle.task_text.specs.declared.task.Task.{Task}
 use Rattle.task_model.specs.Askings.{run_askings, run_turn}
 use Rattle.task_model.specs.Names.{part_of}
 use Rattle.task_model.specs.declared.setup.Setup.{Setup}
-use Rattle.crew_laws.specs.JournalRuns.{JournalRun}
-use Rattle.crew_worker.specs.Works.{TaskDone}
-use Rattle.task_laws.specs.ChildrenWell.{AreKeysRead, ChildrenWell}
-use Rattle.task_laws.specs.RunWell.{AreAskedWell}
-use Rattle.task_laws.specs.WentWell.{IsFoundWell, IsSuccess, is_called_well}
+use Rattle.crew_work.specs.Laws.JournalRuns.{JournalRun}
+use Rattle.crew_work.specs.Worker.Works.{TaskDone}
+use Rattle.run_starts.specs.TaskLaws.ChildrenWell.{AreKeysRead, ChildrenWell}
+use Rattle.run_starts.specs.TaskLaws.RunWell.{AreAskedWell}
+use Rattle.run_starts.specs.TaskLaws.WentWell.{IsFoundWell, IsSuccess, is_called_well}
 use Rattle.run_children.specs.Desks.{DesksDid}
 use Rattle.run_children.specs.JobRuns.{RanJobs}
 

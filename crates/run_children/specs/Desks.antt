@@ -10,8 +10,8 @@ use Rattle.journal_model.specs.declared.opening.Opening.{Opening}
 use Rattle.journal_model.specs.Journal.{is_tagged}
 use Rattle.journal_model.specs.Legality.{turn_of_task}
 use Rattle.task_model.specs.declared.setup.Setup.{Setup}
-use Rattle.crew_laws.specs.JournalRuns.{JournalRun}
-use Rattle.crew_worker.specs.Works.{CausedInTurn, TaskDone, all_calls, turns_of}
+use Rattle.crew_work.specs.Laws.JournalRuns.{JournalRun}
+use Rattle.crew_work.specs.Worker.Works.{CausedInTurn, TaskDone, all_calls, turns_of}
 use Rattle.run_children.specs.Unserved.{IsUnserved}
 
 -- ---- which desk

@@ -6,11 +6,11 @@ use Rattle.journal_model.specs.declared.entry.Entry.{Entry}
 use Rattle.journal_model.specs.declared.opening.Opening.{Opening}
 use Rattle.journal_model.specs.Legality.{Legal}
 use Rattle.journal_model.specs.Shares.{are_by}
-use Rattle.crew_laws.specs.Rounds.{IsAtRest}
+use Rattle.crew_work.specs.Laws.Rounds.{IsAtRest}
 use Rattle.task_model.specs.declared.setup.Setup.{Setup}
 use Rattle.run_starts.specs.Starting.{AreEnded}
 use Rattle.run_starts.specs.Rounds.{AllLostWell, is_of_run}
-use Rattle.run_pools.specs.Slots.{AreStarts}
+use Rattle.run_children.specs.PoolChildren.Slots.{AreStarts}
 use Rattle.run_children.specs.Desks.{DesksDid, HaveDesks}
 use Rattle.run_children.specs.Posts.{AllPosted}
 

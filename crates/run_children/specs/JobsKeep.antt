@@ -9,10 +9,10 @@ use Rattle.task_model.specs.declared.setup.Setup.{Setup}
 use Rattle.task_model.specs.declared.turn.TaskTurn.{TaskTurn}
 use Rattle.task_model.specs.Askings.{run_askings}
 use Rattle.task_model.specs.RunLaws.{sizes_got}
-use Rattle.task_laws.specs.Changes.{Request}
-use Rattle.task_laws.specs.Faithful.{IsFaithful, IsPlayed, Told, sent}
-use Rattle.task_laws.specs.Kept.{Keeps}
-use Rattle.task_laws.specs.Retrieval.{GotStored, KeepsContent, StoredInChunks}
+use Rattle.run_starts.specs.TaskLaws.Changes.{Request}
+use Rattle.run_starts.specs.TaskLaws.Faithful.{IsFaithful, IsPlayed, Told, sent}
+use Rattle.run_starts.specs.TaskLaws.Kept.{Keeps}
+use Rattle.run_starts.specs.TaskLaws.Retrieval.{GotStored, KeepsContent, StoredInChunks}
 
 -- With a faithful remote, a get that began afresh and is answered Got keeps what the STOREs of its keys sent, one after the other; and
 -- where one run of a task stored all chunks of its last layout, the content of that task's file. Where the get's calls were played on its desk's

@@ -5,9 +5,9 @@ use Rattle.journal_model.specs.declared.answer.Answer.{Answer}
 use Rattle.journal_model.specs.declared.entry.Entry.{Entry}
 use Rattle.journal_model.specs.declared.opening.Opening.{Opening}
 use Rattle.task_model.specs.declared.setup.Setup.{Setup}
-use Rattle.crew_worker.specs.Works.{TaskDone}
-use Rattle.task_laws.specs.ChildrenWell.{AreKeysRead, ChildrenWell, IsDeskWell, IsDoneWell}
-use Rattle.task_laws.specs.RunWell.{AreAskedWell}
+use Rattle.crew_work.specs.Worker.Works.{TaskDone}
+use Rattle.run_starts.specs.TaskLaws.ChildrenWell.{AreKeysRead, ChildrenWell, IsDeskWell, IsDoneWell}
+use Rattle.run_starts.specs.TaskLaws.RunWell.{AreAskedWell}
 use Rattle.run_children.specs.Desks.{DesksDid}
 use Rattle.run_children.specs.Unserved.{IsUnserved}
 

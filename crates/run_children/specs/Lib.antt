@@ -16,8 +16,9 @@ pub mod Completeness
 pub mod ToldDesks
 pub use Rattle.ann_outside.specs.Told
 pub use Rattle.annex_model.specs.Lines
-pub use Rattle.child_end.specs.Programs
-pub use Rattle.child_start.specs.Cores
-pub use Rattle.crew_worker.specs.Works
+pub use Rattle.child_life.specs.End.Programs
+pub use Rattle.child_life.specs.Start.Cores
+pub use Rattle.crew_work.specs.Worker.Works
 pub use Rattle.journal_model.specs.Legality
 pub use Rattle.run_starts.specs.Rounds
+pub mod PoolChildren

@@ -7,12 +7,12 @@ use Rattle.journal_model.specs.declared.opening.Opening.{Opening}
 use Rattle.journal_model.specs.Legality.{Legal}
 use Rattle.child_link.specs.Alone.{Closes}
 use Rattle.child_link.specs.Wires.{IsLeft, WireValue}
-use Rattle.crew_laws.specs.Laws.{GoesOn, children_of}
-use Rattle.crew_laws.specs.Rounds.{LinkValue}
+use Rattle.crew_work.specs.Laws.Laws.{GoesOn, children_of}
+use Rattle.crew_work.specs.Laws.Rounds.{LinkValue}
 use Rattle.task_model.specs.declared.setup.Setup.{Setup}
-use Rattle.crew_threads.specs.declared.slot.Refused.{Refused}
-use Rattle.crew_pool.specs.Pool.{PoolLeaves}
-use Rattle.run_pools.specs.Pools.{OverBy, SeatValue, Serves}
+use Rattle.threads.specs.declared.roles.slot.Refused.{Refused}
+use Rattle.crew_rounds.specs.Pool.Pool.{PoolLeaves}
+use Rattle.run_children.specs.PoolChildren.Pools.{OverBy, SeatValue, Serves}
 use Rattle.run_children.specs.Servings.{ServesAlone}
 
 -- the children are closed, one after the other

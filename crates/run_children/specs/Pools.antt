@@ -9,15 +9,15 @@ use Rattle.journal_model.specs.Halves.{EarValue, MouthValue}
 use Rattle.journal_model.specs.Journal.{any, is_ended}
 use Rattle.journal_model.specs.Legality.{Legal, count}
 use Rattle.host_core.specs.Steps.{are_all_claimed}
-use Rattle.child_end.specs.Programs.{HaveStarted, RoseBy, is_failed_start}
+use Rattle.child_life.specs.End.Programs.{HaveStarted, RoseBy, is_failed_start}
 use Rattle.child_link.specs.Wires.{WireValue}
-use Rattle.child_end.specs.Wires.{IsHeld, came}
-use Rattle.crew_laws.specs.Rounds.{IsAtRest}
+use Rattle.child_life.specs.End.Wires.{IsHeld, came}
+use Rattle.crew_work.specs.Laws.Rounds.{IsAtRest}
 use Rattle.task_model.specs.declared.setup.Setup.{Setup}
 use Rattle.run_starts.specs.Starting.{children}
 use Rattle.run_starts.specs.Rounds.{AllLostWell, is_of_run}
 use Rattle.run_starts.specs.Stints.{AreLinked, ear_of, mouth_of}
-use Rattle.run_pools.specs.Slots.{AllInTurn, IsManned, in_pool, is_lost, offers_tags}
+use Rattle.run_children.specs.PoolChildren.Slots.{AllInTurn, IsManned, in_pool, is_lost, offers_tags}
 use Rattle.run_children.specs.Desks.{DesksDid, HaveDesks}
 use Rattle.run_children.specs.Posts.{AllPosted}
 

@@ -6,7 +6,7 @@ use Rattle.journal_model.specs.declared.entry.What.TheVariants.{Claim}
 use Rattle.journal_model.specs.declared.entry.Entry.{Entry}
 use Rattle.journal_model.specs.Journal.{is_started, is_tagged, starts}
 use Rattle.journal_model.specs.Shares.{is_of_child}
-use Rattle.crew_laws.specs.Posts.{Idle, Lone, Post, makes, serves, tagged_crew}
+use Rattle.crew_work.specs.Laws.Posts.{Idle, Lone, Post, makes, serves, tagged_crew}
 
 -- The post of a number over the child: over one that takes tags that of a tagged crew; over another a worker has it for itself, from
 -- number 2 on.

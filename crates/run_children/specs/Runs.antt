@@ -6,7 +6,7 @@ use Rattle.journal_model.specs.declared.opening.Opening.{Opening}
 use Rattle.child_link.specs.Wires.{WireValue}
 use Rattle.task_text.specs.declared.task.Task.{Task}
 use Rattle.task_model.specs.declared.setup.Setup.{Setup}
-use Rattle.crew_worker.specs.Works.{AreTasks}
+use Rattle.crew_work.specs.Worker.Works.{AreTasks}
 
 -- The tasks are those of the opening, each one that some line spells, and no line ends in the folder's name.
 pub record IsHanded (o : Opening) (handed : List Task) (setup : Setup) : Type 0 where

@@ -12,15 +12,15 @@ use Rattle.journal_model.specs.Legality.{count, is_start}
 use Rattle.journal_model.specs.Shares.{are_by}
 use Rattle.child_link.specs.Alone.{Closes}
 use Rattle.child_link.specs.Writings.{LoneWired}
-use Rattle.crew_laws.specs.Laws.{GoesOn}
-use Rattle.crew_laws.specs.Rounds.{IsAtRest, LinkValue}
+use Rattle.crew_work.specs.Laws.Laws.{GoesOn}
+use Rattle.crew_work.specs.Laws.Rounds.{IsAtRest, LinkValue}
 use Rattle.task_model.specs.declared.setup.Setup.{Setup}
-use Rattle.crew_worker.specs.Works.{CanWork}
-use Rattle.crew_threads.specs.declared.slot.Refused.{Refused}
-use Rattle.crew_tagged.specs.TaggedRounds.{TaggedLeaves}
+use Rattle.crew_work.specs.Worker.Works.{CanWork}
+use Rattle.threads.specs.declared.roles.slot.Refused.{Refused}
+use Rattle.crew_rounds.specs.Tagged.TaggedRounds.{TaggedLeaves}
 use Rattle.child_link.specs.Wires.{WireValue}
 use Rattle.run_starts.specs.Stints.{HasServed}
-use Rattle.run_pools.specs.Slots.{has_pool, is_unclaimed_since, last_slot}
+use Rattle.run_children.specs.PoolChildren.Slots.{has_pool, is_unclaimed_since, last_slot}
 use Rattle.run_children.specs.Pools.{LeavesPool, PoolServed}
 use Rattle.run_children.specs.Posts.{since_start}
 

@@ -10,15 +10,15 @@ use Rattle.journal_model.specs.Journal.{any, is_ended, open_jobs}
 use Rattle.journal_model.specs.Legality.{Legal, count, is_busy, is_start}
 use Rattle.journal_model.specs.Shares.{are_by}
 use Rattle.host_core.specs.Steps.{are_all_claimed}
-use Rattle.crew_laws.specs.Rounds.{IsAtRest}
+use Rattle.crew_work.specs.Laws.Rounds.{IsAtRest}
 use Rattle.task_model.specs.declared.setup.Setup.{Setup}
-use Rattle.child_end.specs.Programs.{AddsAll, RoseBy, is_failed_start, told}
+use Rattle.child_life.specs.End.Programs.{AddsAll, RoseBy, is_failed_start, told}
 use Rattle.child_link.specs.Wires.{WireValue}
-use Rattle.child_end.specs.Wires.{came}
+use Rattle.child_life.specs.End.Wires.{came}
 use Rattle.run_starts.specs.Starting.{AllOffer, AreEnded, children, is_offered, is_ready_untagged}
 use Rattle.run_starts.specs.Rounds.{AllLostWell, AllStandNext, EndsClosed, NoneUntaken, is_of_run}
 use Rattle.run_starts.specs.Stints.{AreLinked, IsOver, IsStart, MayHaveAsked, main_entry, next_child}
-use Rattle.run_pools.specs.Slots.{AllInTurn, AreSpent, IsManned, in_pool, is_first_start, offers_tags, spends}
+use Rattle.run_children.specs.PoolChildren.Slots.{AllInTurn, AreSpent, IsManned, in_pool, is_first_start, offers_tags, spends}
 use Rattle.run_children.specs.Desks.{DesksDid, HaveDesks}
 use Rattle.run_children.specs.Posts.{AllPosted}
 

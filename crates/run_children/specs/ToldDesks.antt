@@ -8,8 +8,8 @@ use Rattle.journal_model.specs.declared.entry.Entry.{Entry}
 use Rattle.journal_model.specs.declared.opening.Opening.{Opening}
 use Rattle.journal_model.specs.Legality.{Legal}
 use Rattle.task_model.specs.declared.setup.Setup.{Setup}
-use Rattle.task_laws.specs.Faithful.{Told}
-use Rattle.task_laws.specs.ToldDesks.{IsToldAt}
+use Rattle.run_starts.specs.TaskLaws.Faithful.{Told}
+use Rattle.run_starts.specs.TaskLaws.ToldDesks.{IsToldAt}
 use Rattle.run_children.specs.Desks.{DesksDid}
 
 -- what is told of the tasks of each desk is what it did, where it tells its calls and has these files in the end

@@ -7,7 +7,7 @@ use Rattle.journal_model.specs.Legality.{count}
 use Rattle.task_model.specs.TaskRuns.{failed_start}
 use Rattle.run_starts.specs.Rounds.{left_answer, start_untaken}
 use Rattle.run_starts.specs.Stints.{main_entry}
-use Rattle.run_pools.specs.Slots.{AreSpent, is_first_start}
+use Rattle.run_children.specs.PoolChildren.Slots.{AreSpent, is_first_start}
 
 -- The start of slot 0 before it gave no child that is ready, and this is what came of it; or there is no such start, slot 0 has made all
 -- its starts, and each is spent.

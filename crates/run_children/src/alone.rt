@@ -1,6 +1,6 @@
 // The starts of a run by one worker, which has one desk and no threads.
 ghost use Rattle.std.specs.Prelude.{◌≡◌, ◌≤◌, ◌<◌, ◌+◌, [], ◌∷◌, true, MatchResult, vec_len, vec_capacity};
-ghost use Rattle.child_start.specs.Cores.{IsSameCore};
+ghost use Rattle.child_life.specs.Start.Cores.{IsSameCore};
 ghost use Rattle.run_starts.specs.Stints.{KeptOr};
 ghost use Rattle.run_children.specs.Runs.{IsHanded, MayRun};
 ghost use Rattle.run_children.specs.Starts.{JobsStarted, MayStartOne, OneJobStart, RunLacksMemory};
@@ -10,7 +10,7 @@ use crate::ready::{Begun, Ready};
 use crate::setting::Setting;
 use ann_key::NoMemory;
 use ann_outside::{Desk, Programs};
-use child_end::finish;
+use child_life::end::finish;
 use child_link::Wire;
 use host_core::Core;
 use run_starts::{is_offered, serve};

@@ -1,16 +1,16 @@
 // One start of slot 0, up to where its child is ready.
 ghost use Rattle.std.specs.Prelude.{◌≡◌, ◌≤◌, ◌<◌, ◌+◌, vec_len, vec_capacity};
-ghost use Rattle.child_start.specs.Cores.{IsSameCore};
+ghost use Rattle.child_life.specs.Start.Cores.{IsSameCore};
 ghost use Rattle.run_children.specs.Beginnings.{BeginsOne};
 ghost use Rattle.run_children.specs.Starts.{MayStartOne};
 
 use crate::ready::{Begun, Ready};
 use crate::setting::Setting;
 use ann_outside::Programs;
-use child_end::finish;
+use child_life::end::finish;
+use child_life::start::{Greeting, Mode, greet};
 use child_link::Wire;
-use child_start::{Greeting, Mode, greet};
-use crew_worker::know_book;
+use crew_work::worker::know_book;
 use host_core::Core;
 use journal_model::Answer;
 use run_starts::{answer_one, tagged_of, turn_away, unready_answer};

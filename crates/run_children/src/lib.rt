@@ -5,6 +5,7 @@ mod alone;
 mod beginning;
 mod bench;
 pub mod laws;
+pub mod pool_children;
 mod pooling;
 mod ready;
 pub mod rows;

@@ -2,32 +2,31 @@
 ghost use Rattle.std.specs.Prelude.{◌≡◌, ◌≤◌, ◌<◌, ◌+◌, ◌++◌, All, IfErr, IfOk, IsErr, MatchResult, is_ok, map, reverse, vec_len, vec_capacity, false, true};
 ghost use Rattle.ann_outside.specs.Causes.{Stays};
 ghost use Rattle.annex_model.specs.Lines.{has_newline};
-ghost use Rattle.child_end.specs.Wires.{IsHeld};
-ghost use Rattle.child_start.specs.Cores.{IsSameCore};
-ghost use Rattle.crew_tagged.specs.Outcomes.{IfDone, IfKept};
-ghost use Rattle.crew_laws.specs.Laws.{children_of};
-ghost use Rattle.crew_laws.specs.Rounds.{IsAtRest};
+ghost use Rattle.child_life.specs.End.Wires.{IsHeld};
+ghost use Rattle.child_life.specs.Start.Cores.{IsSameCore};
+ghost use Rattle.crew_rounds.specs.Tagged.Outcomes.{IfDone, IfKept};
+ghost use Rattle.crew_work.specs.Laws.Laws.{children_of};
+ghost use Rattle.crew_work.specs.Laws.Rounds.{IsAtRest};
 ghost use Rattle.run_children.specs.Pools.{PoolServed};
 ghost use Rattle.run_children.specs.PoolSteps.{AreLaid, ClosesAll, RoundsPool, ServesFirst, ServesLinks, ServesLinksUnless, ServesOne, StarvedLinks, serving};
 ghost use Rattle.run_children.specs.Runs.{IsHanded};
 ghost use Rattle.run_children.specs.Servings.{StandsReady};
 ghost use Rattle.journal_model.specs.Journal.{is_started};
-ghost use Rattle.crew_worker.specs.Works.{AreTasks};
-ghost use Rattle.crew_tagged.specs.PoolChildren.{PoolCan};
-ghost use Rattle.crew_pool.specs.Pool.{AreAsBefore, AreSameLinks};
-ghost use Rattle.run_pools.specs.Pools.{links_of, seat_value};
+ghost use Rattle.crew_work.specs.Worker.Works.{AreTasks};
+ghost use Rattle.crew_rounds.specs.Tagged.PoolChildren.{PoolCan};
+ghost use Rattle.crew_rounds.specs.Pool.Pool.{AreAsBefore, AreSameLinks};
+ghost use Rattle.run_children.specs.PoolChildren.Pools.{links_of, seat_value};
 
 use crate::bench::Bench;
+use crate::pool_children::{Gathering, Pool, Seat, gather};
 use crate::setting::Setting;
 use ann_key::NoMemory;
 use ann_outside::{Desk, Programs, Sink, Source};
-use child_end::{close_child, finish};
+use child_life::end::{close_child, finish};
 use child_link::{Lone, Wire};
-use crew_pool::{PoolRound, round_pool};
-use crew_tagged::Outcome;
-use crew_threads::Refused;
+use crew_rounds::pool::{PoolRound, round_pool};
+use crew_rounds::tagged::Outcome;
 use host_core::Core;
-use run_pools::{Gathering, Pool, Seat, gather};
 use run_starts::serve;
 use std::alloc::Global;
 use std::marker::{Send, Sync};
@@ -35,6 +34,7 @@ use std::sync::Wait;
 use std::thread::Threads;
 use task_model::Setup;
 use task_text::Task;
+use threads::roles::Refused;
 
 // Closes the children of the links.
 fn close_links<I: Sink, O: Source>(links: &[Lone<I, O>], core: &mut Core)

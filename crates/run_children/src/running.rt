@@ -1,11 +1,11 @@
 ghost use Rattle.std.specs.Prelude.{◌≡◌, ◌≤◌, ◌<◌, ◌*◌, [], ◌∷◌, map, IfOk, IsErr, vec_len, vec_capacity, false};
 ghost use Rattle.annex_model.specs.Lines.{has_newline};
-ghost use Rattle.child_end.specs.Programs.{Leaves};
-ghost use Rattle.child_start.specs.Cores.{IsSameCore};
+ghost use Rattle.child_life.specs.End.Programs.{Leaves};
+ghost use Rattle.child_life.specs.Start.Cores.{IsSameCore};
 ghost use Rattle.run_children.specs.JobRuns.{RanJobs};
 ghost use Rattle.run_children.specs.Runs.{IsHanded, MayRun};
 ghost use Rattle.run_starts.specs.Rounds.{EndsClosed, IsWhole};
-ghost use Rattle.crew_worker.specs.Works.{AreTasks};
+ghost use Rattle.crew_work.specs.Worker.Works.{AreTasks};
 
 use crate::alone::start_all;
 use crate::bench::Bench;

@@ -1,19 +1,18 @@
 // What a child that is ready does, up to its closing.
 ghost use Rattle.std.specs.Prelude.{◌≡◌, ◌≤◌, ◌<◌, [], MatchResult, map, vec_len, false, true};
 ghost use Rattle.annex_model.specs.Lines.{has_newline};
-ghost use Rattle.child_end.specs.Wires.{IsHeld};
-ghost use Rattle.child_start.specs.Cores.{IsSameCore};
+ghost use Rattle.child_life.specs.End.Wires.{IsHeld};
+ghost use Rattle.child_life.specs.Start.Cores.{IsSameCore};
 ghost use Rattle.run_children.specs.Servings.{CanBeServed, Serves, ServesAlone, ServesUnless, Starved, plainly};
 ghost use Rattle.child_link.specs.Moves.{IsSameLink};
-ghost use Rattle.crew_worker.specs.Works.{AreTasks};
+ghost use Rattle.crew_work.specs.Worker.Works.{AreTasks};
 
 use crate::bench::Bench;
 use ann_key::NoMemory;
 use ann_outside::{Desk, Sink, Source};
-use child_end::close_child;
+use child_life::end::close_child;
 use child_link::Lone;
-use crew_tagged::{Outcome, TaggedRound, round_tagged};
-use crew_threads::Refused;
+use crew_rounds::tagged::{Outcome, TaggedRound, round_tagged};
 use run_starts::serve;
 use std::alloc::Global;
 use std::marker::{Send, Sync};
@@ -21,6 +20,7 @@ use std::sync::Wait;
 use std::thread::Threads;
 use task_model::Setup;
 use task_text::Task;
+use threads::roles::Refused;
 
 /// Does tasks over the child with the first desk, and closes it.
 pub(crate) fn serve_alone<I: Sink, O: Source, K: Desk + Drop>(

@@ -1,6 +1,6 @@
 // The starts of a run by many workers: one child of slot 0 after the other.
 ghost use Rattle.std.specs.Prelude.{◌≡◌, ◌≤◌, ◌+◌, true, IsErr, MatchResult, is_ok, length, map, vec_len, vec_capacity};
-ghost use Rattle.child_start.specs.Cores.{IsSameCore};
+ghost use Rattle.child_life.specs.Start.Cores.{IsSameCore};
 ghost use Rattle.run_starts.specs.Stints.{KeptOr};
 ghost use Rattle.run_children.specs.Runs.{AreDesks, IsHanded, MayRun};
 ghost use Rattle.run_children.specs.Servings.{FirstServed, StandsReady};
@@ -14,7 +14,7 @@ use crate::serving::serve_ready;
 use crate::setting::Setting;
 use ann_key::NoMemory;
 use ann_outside::{Desk, Programs};
-use child_end::finish;
+use child_life::end::finish;
 use child_link::Wire;
 use run_starts::is_offered;
 use std::marker::{Send, Sync};

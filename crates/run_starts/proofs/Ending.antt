@@ -12,18 +12,18 @@ use Rattle.journal_model.specs.Legality.{Legal, count, is_of_lost_child, is_clai
 use Rattle.journal_model.proofs.Ears.{halves_wire}
 use Rattle.host_core.specs.CoreValue.{CoreValue}
 use Rattle.host_core.specs.Steps.{are_all_claimed, unclaimed}
-use Rattle.child_start.specs.Cores.{IsSameCore}
-use Rattle.crew_worker.specs.Works.{ends_closed}
+use Rattle.child_life.specs.Start.Cores.{IsSameCore}
+use Rattle.crew_work.specs.Worker.Works.{ends_closed}
 use Rattle.child_link.specs.Wires.{WireValue}
-use Rattle.child_end.specs.Wires.{AreWires, IsWire, came}
-use Rattle.child_end.specs.Programs.{AddsAll, HaveStarted as HaveStartedSo, Leaves, is_failed_start, told}
+use Rattle.child_life.specs.End.Wires.{AreWires, IsWire, came}
+use Rattle.child_life.specs.End.Programs.{AddsAll, HaveStarted as HaveStartedSo, Leaves, is_failed_start, told}
 use Rattle.run_starts.specs.Rounds.{ends_for_memory, last_again, left_answer, or_unserved}
 use Rattle.run_starts.specs.Stints.{AreLinked, IsLinked, Kept, MayHaveAsked, answered_so, ear_of, mouth_of}
 use Rattle.run_starts.proofs.Leaving.{rose_still, stays_none}
 use Rattle.run_starts.proofs.Runs.{IsOfNoCall}
 use Rattle.run_starts.proofs.Tests.{none_left, some_left}
 use Rattle.run_starts.proofs.Zeros.{again_lost}
-use Rattle.child_end.proofs.Across.{adds_both, adds_none, adds_one}
+use Rattle.child_life.proofs.EndLemmas.Across.{adds_both, adds_none, adds_one}
 
 -- ---- the begin
 

@@ -14,9 +14,9 @@ use Rattle.journal_model.proofs.Holding.{due_names}
 use Rattle.journal_model.proofs.Looks.{each_of-append, entry}
 use Rattle.journal_model.proofs.Standing.{Legal-from}
 use Rattle.journal_model.proofs.Testing.{all-both, all-join, by_either}
-use Rattle.child_start.specs.Greetings.{is_greeting_line, is_of_greeting, asks_for}
-use Rattle.child_start.specs.declared.greeting.Mode.TheVariants.{Serve}
-use Rattle.crew_worker.specs.Works.{by_worker}
+use Rattle.child_life.specs.Start.Greetings.{is_greeting_line, is_of_greeting, asks_for}
+use Rattle.child_life.specs.declared.start.greeting.Mode.TheVariants.{Serve}
+use Rattle.crew_work.specs.Worker.Works.{by_worker}
 use Rattle.run_starts.specs.Rounds.{is_of_run}
 use Rattle.std.proofs.lemmas.Bool.{and_parts as both, ne_eqb as differ, eqb-true as same_number}
 use Rattle.ann_key.proofs.Booleans.{or_right}

@@ -14,16 +14,16 @@ use Rattle.journal_model.specs.Halves.{EarValue, MouthValue}
 use Rattle.journal_model.specs.Shares.{is_of_child}
 use Rattle.journal_model.proofs.Looks.{each_of-append}
 use Rattle.child_link.proofs.Linked.{any_narrower}
-use Rattle.child_start.specs.Greetings.{AreNumbered}
+use Rattle.child_life.specs.Start.Greetings.{AreNumbered}
 use Rattle.child_link.specs.Wires.{IsLeft, WireValue}
-use Rattle.child_end.specs.Wires.{IsHeld, IsLaid, IsOfStart, came, came_in}
-use Rattle.child_end.proofs.Held.{held_apart}
-use Rattle.child_end.specs.Programs.{AddsAll, RoseBy, is_failed_start, told, told_in}
+use Rattle.child_life.specs.End.Wires.{IsHeld, IsLaid, IsOfStart, came, came_in}
+use Rattle.child_life.proofs.EndLemmas.Held.{held_apart}
+use Rattle.child_life.specs.End.Programs.{AddsAll, RoseBy, is_failed_start, told, told_in}
 use Rattle.run_starts.specs.Starting.{is_any_start}
 use Rattle.run_starts.specs.Stints.{AreLinked, AreUpTo, IsLinked, Kept, StartsOne, ear_of, mouth_of}
 use Rattle.run_starts.proofs.Tests.{each_without, none_came}
 use Rattle.journal_model.proofs.Working.{count-append, count_none}
-use Rattle.child_end.proofs.Across.{adds_one}
+use Rattle.child_life.proofs.EndLemmas.Across.{adds_one}
 
 -- ---- counts of faults
 

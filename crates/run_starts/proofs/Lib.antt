@@ -16,3 +16,5 @@ pub mod Ending
 pub mod Scanning
 pub mod LastAgain
 pub mod Meeting
+pub mod OnceLemmas
+pub mod TaskLawsLemmas

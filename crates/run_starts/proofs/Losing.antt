@@ -7,7 +7,7 @@ use Rattle.journal_model.specs.declared.entry.What.TheVariants.{Ask, Claim, Lost
 use Rattle.journal_model.specs.declared.entry.Entry.{Entry}
 use Rattle.journal_model.specs.Journal.{each_of}
 use Rattle.journal_model.proofs.Looks.{each_of-append}
-use Rattle.child_start.specs.Greetings.{is_greeting_line, is_of_greeting}
+use Rattle.child_life.specs.Start.Greetings.{is_greeting_line, is_of_greeting}
 use Rattle.run_starts.specs.Rounds.{AllLostWell, IsLostIn, greeted, opened_in}
 use Rattle.run_starts.specs.Stints.{main_entry}
 use Rattle.std.proofs.lemmas.Bool.{and_parts as both, eqb-true as same_number}

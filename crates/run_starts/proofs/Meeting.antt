@@ -8,10 +8,10 @@ use Rattle.journal_model.specs.declared.answer.Answer.TheVariants.{Ended as Ende
 use Rattle.journal_model.specs.declared.entry.Entry.{Entry}
 use Rattle.journal_model.specs.Journal.{is_tagged}
 use Rattle.task_model.specs.TaskRuns.{refused_at}
-use Rattle.child_start.specs.declared.greeting.Came.{Came}
-use Rattle.child_start.specs.declared.greeting.Came.TheVariants.{Ready, Refused, Ended, Unsent}
-use Rattle.child_start.specs.declared.greeting.Mode.TheVariants.{Serve}
-use Rattle.child_start.specs.Greetings.{CameTo, IsReady, IsRefused}
+use Rattle.child_life.specs.declared.start.greeting.Came.{Came}
+use Rattle.child_life.specs.declared.start.greeting.Came.TheVariants.{Ready, Refused, Ended, Unsent}
+use Rattle.child_life.specs.declared.start.greeting.Mode.TheVariants.{Serve}
+use Rattle.child_life.specs.Start.Greetings.{CameTo, IsReady, IsRefused}
 use Rattle.run_starts.specs.Stints.{came_answer, tagged_of}
 use Rattle.run_starts.proofs.Unready.{IsUnready, refused_some, unready_ended, unready_refused, unready_unsent}
 

@@ -12,9 +12,9 @@ use Rattle.task_model.specs.declared.setup.Setup.{Setup}
 use Rattle.task_model.specs.Ran.{may_follow_refusal}
 use Rattle.task_model.proofs.Causes.{from_nothing}
 use Rattle.task_model.specs.TaskRuns.{failed_start}
-use Rattle.crew_worker.specs.Works.{AllRan, TaskDone}
-use Rattle.crew_worker.proofs.Working.{run_lasts}
-use Rattle.crew_laws.specs.Tasks.{turns_by}
+use Rattle.crew_work.specs.Worker.Works.{AllRan, TaskDone}
+use Rattle.crew_work.proofs.WorkerLemmas.Working.{run_lasts}
+use Rattle.crew_work.specs.Laws.Tasks.{turns_by}
 use Rattle.run_starts.specs.Rounds.{start_untaken}
 use Rattle.run_starts.specs.Stints.{AllHaveRun, TasksDone, main_entry}
 

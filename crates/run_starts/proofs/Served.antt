@@ -20,15 +20,15 @@ use Rattle.journal_model.proofs.Looks.{any-append, unsettled, verdict_of-append}
 use Rattle.journal_model.proofs.Projecting.{invariant}
 use Rattle.journal_model.proofs.Testing.{all-join}
 use Rattle.host_core.specs.Steps.{are_all_claimed, is_gone}
-use Rattle.crew_laws.specs.Tasks.{IsThrough}
-use Rattle.child_start.specs.Greetings.{Greeted, IsReady, is_of_greeting}
-use Rattle.child_start.proofs.Begun.{later_unstarted}
+use Rattle.crew_work.specs.Laws.Tasks.{IsThrough}
+use Rattle.child_life.specs.Start.Greetings.{Greeted, IsReady, is_of_greeting}
+use Rattle.child_life.proofs.StartLemmas.Begun.{later_unstarted}
 use Rattle.task_model.specs.declared.setup.Setup.{Setup}
 use Rattle.task_model.specs.TaskRuns.{gone_answer, or_refusal, refusal_of, unready_answer}
-use Rattle.crew_worker.specs.Works.{by_worker, ends_closed}
-use Rattle.crew_worker.proofs.Turning.{alone_only}
-use Rattle.crew_laws.specs.Tasks.{turns_by}
-use Rattle.crew_laws.proofs.Turning.{turns_by-append}
+use Rattle.crew_work.specs.Worker.Works.{by_worker, ends_closed}
+use Rattle.crew_work.proofs.WorkerLemmas.Turning.{alone_only}
+use Rattle.crew_work.specs.Laws.Tasks.{turns_by}
+use Rattle.crew_work.proofs.LawsLemmas.Turning.{turns_by-append}
 use Rattle.run_starts.specs.Starting.{is_any_start, is_ready_untagged, is_spent, is_unclosed}
 use Rattle.run_starts.specs.Rounds.{AllStandNext, EndsClosed, NoneUntaken}
 use Rattle.run_starts.specs.Stints.{HasServed, Stint, TasksDone, in_stint, main_entry}

@@ -23,11 +23,11 @@ use Rattle.child_link.proofs.Solo.{closed_over}
 use Rattle.journal_model.specs.Halves.{EarValue, MouthValue}
 use Rattle.child_link.specs.Writings.{LoneWired}
 use Rattle.journal_model.specs.declared.answer.Answer.{Answer}
-use Rattle.child_start.specs.Greetings.{Greeted, IsReady, is_greeting_line, is_of_greeting}
-use Rattle.crew_worker.specs.KnownLayouts.{IsBook}
-use Rattle.crew_worker.specs.Works.{CanWork, by_worker, ends_closed}
-use Rattle.crew_laws.specs.Tasks.{claimed_turn, turns_by}
-use Rattle.crew_worker.proofs.Working.{ends_behind}
+use Rattle.child_life.specs.Start.Greetings.{Greeted, IsReady, is_greeting_line, is_of_greeting}
+use Rattle.crew_work.specs.Worker.KnownLayouts.{IsBook}
+use Rattle.crew_work.specs.Worker.Works.{CanWork, by_worker, ends_closed}
+use Rattle.crew_work.specs.Laws.Tasks.{claimed_turn, turns_by}
+use Rattle.crew_work.proofs.WorkerLemmas.Working.{ends_behind}
 use Rattle.run_starts.specs.Rounds.{AllLostWell, EndsClosed, is_closing, is_of_run}
 use Rattle.run_starts.specs.Stints.{AnswersOne, in_stint, main_entry}
 use Rattle.run_starts.proofs.Later.{all_work, greeting_asks, late}

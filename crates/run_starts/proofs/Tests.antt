@@ -10,8 +10,8 @@ use Rattle.journal_model.specs.Journal.{any, each_of}
 use Rattle.journal_model.specs.Legality.{is_claimed, numbers_of}
 use Rattle.journal_model.proofs.Holding.{claimed, claimed_append, closed, unclaimed_on}
 use Rattle.host_core.specs.Steps.{are_all_claimed}
-use Rattle.child_end.specs.Wires.{came, came_in}
-use Rattle.crew_laws.specs.Tasks.{claimed_turn, turns_by}
+use Rattle.child_life.specs.End.Wires.{came, came_in}
+use Rattle.crew_work.specs.Laws.Tasks.{claimed_turn, turns_by}
 use Rattle.run_starts.specs.Starting.{AllOffer, OffersWell, children, is_any_start, started_in}
 use Rattle.run_starts.specs.Stints.{AreUpTo}
 use Rattle.ann_key.proofs.Booleans.{left_false as either_left, right_false as either_right}

@@ -21,15 +21,15 @@ use Rattle.journal_model.proofs.Linking.{why_is_end}
 use Rattle.journal_model.proofs.Looks.{or_none, verdict_of-append}
 use Rattle.journal_model.proofs.Testing.{all-join}
 use Rattle.host_core.specs.Steps.{are_all_claimed}
-use Rattle.child_start.specs.Greetings.{Greeted, HasEnded, IsRefused, IsUnsent, is_of_greeting, is_refusal}
+use Rattle.child_life.specs.Start.Greetings.{Greeted, HasEnded, IsRefused, IsUnsent, is_of_greeting, is_refusal}
 use Rattle.task_model.specs.declared.setup.Setup.{Setup}
 use Rattle.task_model.specs.TaskRuns.{ended_answer, failed_start, gone_answer, or_refusal, refusal_of, refused_at, unready_answer}
-use Rattle.crew_laws.specs.Tasks.{turns_by}
-use Rattle.crew_laws.proofs.Turning.{turns_by-append}
+use Rattle.crew_work.specs.Laws.Tasks.{turns_by}
+use Rattle.crew_work.proofs.LawsLemmas.Turning.{turns_by-append}
 use Rattle.run_starts.specs.Starting.{is_ready_untagged, is_spent, is_unclosed}
 use Rattle.run_starts.specs.Rounds.{start_untaken, turn_of}
 use Rattle.run_starts.specs.Stints.{AnswersOne, Stint, TasksDone, TurnsAway, in_stint, main_entry}
-use Rattle.crew_worker.proofs.Working.{ends_behind}
+use Rattle.crew_work.proofs.WorkerLemmas.Working.{ends_behind}
 use Rattle.run_starts.proofs.Apart.{spent_on, why_unclosed}
 use Rattle.run_starts.proofs.Losing.{lost_tasks}
 use Rattle.run_starts.proofs.Nexts.{is_quiet, next_quiet}

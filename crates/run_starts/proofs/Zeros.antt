@@ -24,8 +24,8 @@ use Rattle.host_core.specs.declared.event.Reply.{Reply}
 use Rattle.host_core.specs.declared.event.Reply.TheVariants.{NoTask}
 use Rattle.host_core.specs.Steps.{Step, are_all_claimed, claim, closing as closing_of, may_answer, only, step_of}
 use Rattle.task_model.specs.declared.turn.TaskTurn.{TaskTurn}
-use Rattle.crew_worker.proofs.Claiming.{claimed_all}
-use Rattle.crew_worker.proofs.Working.{fewer_left}
+use Rattle.crew_work.proofs.WorkerLemmas.Claiming.{claimed_all}
+use Rattle.crew_work.proofs.WorkerLemmas.Working.{fewer_left}
 use Rattle.run_starts.specs.Rounds.{again_of, ends_for_memory, last_again, left_answer, or_unserved, unserved_answer}
 use Rattle.run_starts.specs.Stints.{AnswersLeft, AnswersOne, ClaimsZero, answered_so, main_entry, task_in}
 use Rattle.std.proofs.lemmas.Bool.{and_parts as both}

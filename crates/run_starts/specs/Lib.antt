@@ -4,7 +4,9 @@ pub mod Stints
 pub use Rattle.annex_model.specs.Lines
 pub use Rattle.child_link.specs.Alone
 pub use Rattle.child_link.specs.Writings
-pub use Rattle.child_start.specs.Cores
-pub use Rattle.crew_worker.specs.Works
+pub use Rattle.child_life.specs.Start.Cores
+pub use Rattle.crew_work.specs.Worker.Works
 pub use Rattle.journal_model.specs.Journal
 pub use Rattle.journal_model.specs.Legality
+pub mod Once
+pub mod TaskLaws

@@ -13,8 +13,8 @@ use Rattle.journal_model.specs.Journal.{any, each_of}
 use Rattle.journal_model.specs.Shares.{is_closed}
 use Rattle.host_core.specs.Steps.{are_all_claimed}
 use Rattle.task_model.specs.TaskRuns.{failed_start}
-use Rattle.child_start.specs.Greetings.{is_greeting_line}
-use Rattle.crew_worker.specs.Works.{ends_closed}
+use Rattle.child_life.specs.Start.Greetings.{is_greeting_line}
+use Rattle.crew_work.specs.Worker.Works.{ends_closed}
 use Rattle.run_starts.specs.Starting.{AreEnded}
 
 -- ---- a task that no child takes

@@ -20,17 +20,17 @@ use Rattle.host_core.specs.declared.event.Reply.{Reply}
 use Rattle.host_core.specs.declared.event.Reply.TheVariants.{Task as TaskReply}
 use Rattle.host_core.specs.Steps.{are_all_claimed}
 use Rattle.child_link.specs.Alone.{Closes}
-use Rattle.crew_laws.specs.Tasks.{IsThrough, turns_by}
-use Rattle.child_start.specs.declared.greeting.Came.{Came}
-use Rattle.child_start.specs.declared.greeting.Came.TheVariants.{Ready, Refused, Ended, Unsent}
+use Rattle.crew_work.specs.Laws.Tasks.{IsThrough, turns_by}
+use Rattle.child_life.specs.declared.start.greeting.Came.{Came}
+use Rattle.child_life.specs.declared.start.greeting.Came.TheVariants.{Ready, Refused, Ended, Unsent}
 use Rattle.task_model.specs.declared.setup.Setup.{Setup}
 use Rattle.task_model.specs.TaskRuns.{failed_start, refused_at}
-use Rattle.crew_laws.specs.JournalRuns.{JournalRun}
-use Rattle.crew_worker.specs.Works.{CanWork, TaskDone, WorkedAlone, CausedInTurn, all_calls, turns_of}
+use Rattle.crew_work.specs.Laws.JournalRuns.{JournalRun}
+use Rattle.crew_work.specs.Worker.Works.{CanWork, TaskDone, WorkedAlone, CausedInTurn, all_calls, turns_of}
 use Rattle.task_model.specs.declared.turn.TaskTurn.{TaskTurn}
 use Rattle.child_link.specs.Wires.{WireValue}
-use Rattle.child_end.specs.Wires.{IsHeld, IsOfStart, came}
-use Rattle.child_end.specs.Programs.{AddsAll, RoseBy, is_failed_start, told}
+use Rattle.child_life.specs.End.Wires.{IsHeld, IsOfStart, came}
+use Rattle.child_life.specs.End.Programs.{AddsAll, RoseBy, is_failed_start, told}
 use Rattle.run_starts.specs.Starting.{children, is_ready_untagged, is_spent}
 use Rattle.run_starts.specs.Rounds.{AllLostWell, AllStandNext, EndsClosed, NoneUntaken, ends_for_memory, is_of_run, start_untaken}
 

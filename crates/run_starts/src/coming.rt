@@ -4,7 +4,7 @@ ghost use Rattle.journal_model.specs.declared.answer.Answer.TheVariants.{NotPrep
 ghost use Rattle.task_model.specs.TaskRuns.{refused_at};
 ghost use Rattle.run_starts.specs.Stints.{came_answer, tagged_of};
 
-use child_start::Came;
+use child_life::start::Came;
 use journal_model::{Answer, Verdict};
 
 // The answer where a line refused to get ready, with that line's place.

@@ -3,10 +3,12 @@
 #![tactic(auto)]
 
 mod coming;
+pub mod once;
 mod plan;
 mod renewed;
 mod serving;
 mod starved;
+pub mod task_laws;
 mod zero;
 
 pub use coming::{is_offered, tagged_of, unready_answer};

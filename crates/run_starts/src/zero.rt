@@ -3,7 +3,7 @@ ghost use Rattle.std.specs.Prelude.{◌≡◌, ◌++◌, ◌∷◌, ℕ, [], tru
 ghost use Rattle.journal_model.specs.declared.entry.What.TheVariants.{Answer as Answered};
 ghost use Rattle.journal_model.specs.Legality.{Legal, holder, is_busy, is_held_over_child, turn_of_task};
 ghost use Rattle.host_core.specs.Steps.{may_answer};
-ghost use Rattle.child_start.specs.Cores.{IsSameCore};
+ghost use Rattle.child_life.specs.Start.Cores.{IsSameCore};
 ghost use Rattle.run_starts.specs.Rounds.{left_answer, unserved_answer};
 ghost use Rattle.run_starts.specs.Stints.{AnswersLeft, AnswersOne, ClaimsZero, main_entry, task_in};
 

@@ -3,15 +3,15 @@ use Rattle.std.proofs.Common.{◌≡◌, ◌∙◌, ℕ, Bool, true, false, List
 use Rattle.std.specs.Prelude.{IfSome}
 use Rattle.audit_command.specs.Inputs.{AuditComesTo, audit_limits}
 use Rattle.audit_command.specs.declared.error.AuditError.TheVariants.{NoMemory}
-use Rattle.child_end.specs.Outsides.{OutsideValue}
+use Rattle.child_life.specs.End.Outsides.{OutsideValue}
 use Rattle.cli_words.specs.declared.command.Command.{Command}
 use Rattle.cli_words.specs.declared.command.Command.TheVariants.{Audit as AuditWord}
-use Rattle.run_command.specs.Inputs.{InputFlow, IsUnread}
+use Rattle.run_and_check.specs.Run.Inputs.{InputFlow, IsUnread}
 use Rattle.special_cli.specs.Audits.{IsAuditOf, HasAudited}
 use Rattle.special_cli.specs.Left.{RanValue, IsIdle}
 use Rattle.special_cli.specs.declared.end.End.TheVariants.{Memory}
-use Rattle.task_input.proofs.Given.{given_none}
-use Rattle.task_input.specs.Reads.{HasGiven}
+use Rattle.cli_words.proofs.TaskInputLemmas.Given.{given_none}
+use Rattle.cli_words.specs.TaskInput.Reads.{HasGiven}
 
 -- ---- the words
 

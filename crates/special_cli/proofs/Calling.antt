@@ -11,58 +11,56 @@ use Rattle.annex_model.specs.Lines.{text}
 use Rattle.journal_model.specs.declared.answer.Answer.{Answer}
 use Rattle.journal_model.specs.declared.entry.Entry.{Entry}
 use Rattle.journal_model.specs.Output.{answer_line}
-use Rattle.info_command.specs.Infos.{info_lines, is_informed}
+use Rattle.info_and_init.specs.Info.Infos.{info_lines, is_informed}
 use Rattle.special_cli.specs.declared.end.End.{End}
 use Rattle.special_cli.specs.declared.end.End.TheVariants.{Usage, Shown, Refused, Memory, Answered, Informed, BadKept, KeptTooLarge, FileFailed, InputFailed, SetUp, NotSetUp, Done, Audited, Rehearsed, Walked}
 use Rattle.cli_words.specs.declared.refusals.Reason.{Reason}
 use Rattle.cli_words.specs.declared.command.Page.{Page}
 use Rattle.ann_outside.specs.Files.{Files}
-use Rattle.keep_desk.specs.declared.writing.KeptWritten.TheVariants as W
+use Rattle.kept_file.specs.declared.desk.writing.KeptWritten.TheVariants as W
 use Rattle.cli_words.specs.declared.command.InitWords.{InitWords}
 use Rattle.cli_words.specs.declared.command.RunWords.{RunWords}
-use Rattle.run_command.specs.Inputs.{InputFlow, IsUnread}
-use Rattle.run_command.specs.Runs.{HasDone, AddsMade}
-use Rattle.run_command.specs.declared.made.RunEnd.{RunEnd}
-use Rattle.run_command.specs.declared.made.RunEnd.TheVariants as R
+use Rattle.run_and_check.specs.Run.Inputs.{InputFlow, IsUnread}
+use Rattle.run_and_check.specs.Run.Runs.{HasDone, AddsMade}
+use Rattle.run_and_check.specs.declared.run.made.RunEnd.{RunEnd}
+use Rattle.run_and_check.specs.declared.run.made.RunEnd.TheVariants as R
 use Rattle.special_cli.specs.Doings.{end_of, made_in, HasRun}
 use Rattle.audit_command.specs.declared.error.AuditError.{AuditError}
 use Rattle.audit_command.specs.declared.error.AuditError.TheVariants as A
 use Rattle.journal_audit.specs.declared.found.Audit.{Audit}
 use Rattle.journal_audit.specs.declared.found.Audit.TheVariants.{Legal, Wrong}
 use Rattle.special_cli.specs.Audits.{HasAudited, end_of_audit}
-use Rattle.special_cli.proofs.Audited.{other_words, nothing_audited}
-use Rattle.init_command.specs.Inits.{HasSetUp as IsMadeSo}
-use Rattle.init_command.specs.declared.made.InitEnd.{InitEnd}
-use Rattle.init_command.specs.declared.made.InitEnd.TheVariants as N
+use Rattle.special_cli.proofs.Audited.{other_words}
+use Rattle.info_and_init.specs.Init.Inits.{HasSetUp as IsMadeSo}
+use Rattle.info_and_init.specs.declared.init.made.InitEnd.{InitEnd}
+use Rattle.info_and_init.specs.declared.init.made.InitEnd.TheVariants as N
 use Rattle.special_cli.specs.Setups.{HasSetUp, end_of_init, set_up_in}
 use Rattle.special_cli.specs.Calls.{IsCalled, IsDone, World}
 use Rattle.special_cli.specs.Commands.{ComesToNothing, EndsCheck, HasChecked, HasInformed, UnlessRefused, Runs}
-use Rattle.check_command.proofs.Checked.{unstarted_at}
 use Rattle.special_cli.specs.Endings.{is_well, status_of, IsPrinted, IsTold, LacksMemory}
-use Rattle.info_command.specs.Informs.{EndsInfo}
-use Rattle.info_command.specs.declared.made.InfoEnd.{InfoEnd}
-use Rattle.info_command.specs.declared.made.InfoEnd.TheVariants as I
+use Rattle.info_and_init.specs.Info.Informs.{EndsInfo}
+use Rattle.info_and_init.specs.declared.info.made.InfoEnd.{InfoEnd}
+use Rattle.info_and_init.specs.declared.info.made.InfoEnd.TheVariants as I
 use Rattle.special_cli.specs.Informs.{IsInfoTold, end_of_info, info_status}
-use Rattle.child_end.specs.Outsides.{OutsideValue}
+use Rattle.child_life.specs.End.Outsides.{OutsideValue}
 use Rattle.special_cli.specs.Left.{Left, RanValue, IsIdle}
-use Rattle.child_end.specs.Programs.{HaveStarted, Leaves}
-use Rattle.child_end.specs.Outsides.{HaveMade}
+use Rattle.child_life.specs.End.Programs.{HaveStarted, Leaves}
+use Rattle.child_life.specs.End.Outsides.{HaveMade}
 use Rattle.cli_words.specs.Refusals.{reason_refused, refusal_if, unless}
 use Rattle.special_cli.proofs.Few.{few_done}
-use Rattle.special_cli.proofs.Rehearsed.{few_rehearsed, nothing_rehearsed}
+use Rattle.special_cli.proofs.Rehearsed.{few_rehearsed}
 use Rattle.special_cli.specs.Rehearsals.{HasRehearsed, end_of_rehearsal, rehearsal_text}
 use Rattle.special_cli.specs.Audits.{found_status}
 use Rattle.special_cli.specs.Walks.{WalksTasks, end_of_walk, is_walk_well}
-use Rattle.walk_command.specs.declared.made.WalkEnd.{WalkEnd}
-use Rattle.walk_command.specs.declared.made.WalkEnd.TheVariants as K
-use Rattle.walk_command.proofs.Walked.{few_walked}
+use Rattle.rehearse_command.specs.declared.walk.made.WalkEnd.{WalkEnd}
+use Rattle.rehearse_command.specs.declared.walk.made.WalkEnd.TheVariants as K
+use Rattle.rehearse_command.proofs.WalkLemmas.Walked.{few_walked}
 use Rattle.rehearse_plan.specs.Tallies.{count_of}
 use Rattle.rehearse_plan.specs.declared.tally.Word.TheVariants.{Other}
 use Rattle.rehearse_command.specs.declared.made.RehearsalEnd.{RehearsalEnd}
 use Rattle.rehearse_command.specs.declared.made.RehearsalEnd.TheVariants as M
 use Rattle.cli_words.specs.Ranges.{HasRanges}
-use Rattle.info_command.proofs.Informing.{nothing_informed}
-use Rattle.run_once.proofs.Leaving.{leaves_as, leaves_nothing}
+use Rattle.run_starts.proofs.OnceLemmas.Leaving.{leaves_as, leaves_nothing}
 use Rattle.special_cli.specs.Tells.{Flow, IsSilent, IsWritten, IsPrintedOr, IsSaidThen, IsUnkeptTold, IsToldOf, answer_lines, answers_status}
 use Rattle.cli_words.specs.declared.command.Command.{Command}
 use Rattle.cli_words.specs.declared.command.Command.TheVariants.{Check, Info, Init, Run, Audit as AuditWord, Rehearse, Walk, Show}
@@ -797,63 +795,3 @@ few clock before input (Some (Run words)) ran ranges (end, h, same) = few_done w
 few clock before input (Some AuditWord) ran ranges h = none_few ran.left h.idle.answers
 few clock before input (Some (Rehearse seed tasks)) ran ranges h = few_rehearsed seed tasks ran.left.journal ran.left.answers h.1.end ranges.2 h.1.made
 few clock before input (Some (Walk seed tasks)) ran ranges h = few_walked seed tasks ran.left.journal ran.left.answers h.1.end ranges.2 h.1.ends
-
--- ---- no memory was found for the words
-
-nothing_checked : (clock : Option ℕ) (program key : List ℕ) (before : OutsideValue) (ran : RanValue) → ran.end ≡ Memory → IsIdle before ran.left → HasChecked clock program key before ran
-nothing_checked clock program key before ran e idle = record {
-  checked = unstarted_at clock key ran.left.journal idle.journal;
-  ends = subst (λ (x : End). EndsCheck ran.left x) (sym e) idle.answers;
-  objects = leaves_nothing _ before.programs ran.left.outside.programs program ran.left.journal ran.left.wires (ap (λ (o : OutsideValue). o.programs) idle.outside) idle.journal idle.wires;
-  desks = record { made = ap (λ (o : OutsideValue). o.made) idle.outside; tables = idle.tables };
-}
-
-nothing_informed_of : (program : List ℕ) (key : Option (List ℕ)) (before : OutsideValue) (ran : RanValue) → ran.end ≡ Memory → IsIdle before ran.left → HasInformed program key before ran
-nothing_informed_of program key before ran e idle = record {
-  end = I.Memory;
-  made = record {
-    informed = nothing_informed key ran.left.journal idle.journal;
-    ends = tt;
-    objects = leaves_nothing _ before.programs ran.left.outside.programs program ran.left.journal ran.left.wires (ap (λ (o : OutsideValue). o.programs) idle.outside) idle.journal idle.wires;
-  };
-  none = idle.answers;
-  desks = record { made = ap (λ (o : OutsideValue). o.made) idle.outside; tables = idle.tables };
-  end_is = e;
-}
-
-nothing_set_up : (words : InitWords) (before : OutsideValue) (ran : RanValue) → ran.end ≡ Memory → IsIdle before ran.left → HasSetUp words before ran
-nothing_set_up words before ran e idle = record {
-  end = N.Memory;
-  made = inl (refl, record { outside = idle.outside; journal = idle.journal; wires = idle.wires; tables = idle.tables });
-  none = idle.answers;
-  end_is = e;
-}
-
-nothing_walked : (seed tasks : ℕ) (before : OutsideValue) (ran : RanValue) → ran.end ≡ Memory → IsIdle before ran.left → WalksTasks seed tasks before ran
-nothing_walked seed tasks before ran e idle = record {
-  end = K.Memory;
-  ends = (idle.journal, idle.answers);
-  untouched = record { outside = idle.outside; wires = idle.wires; tables = idle.tables };
-  end_is = e;
-}
-
-pub runs_nothing : (clock : Option ℕ) (before : OutsideValue) (input : InputFlow) (command : Option Command) (ran : RanValue) → ran.end ≡ Memory → IsIdle before ran.left → IsUnread input
-    → Runs clock before input command ran
-runs_nothing clock before input None ran e idle unread = record { end_is = inr e; idle = idle }
-runs_nothing clock before input (Some (Show page)) ran e idle unread = record { end_is = inr e; idle = idle }
-runs_nothing clock before input (Some (Check program key)) ran e idle unread = go (reason_refused key)
-  where
-    go : (r : Option Reason) → UnlessRefused r before ran (HasChecked clock program key before ran)
-    go None = nothing_checked clock program key before ran e idle
-    go (Some reason) = record { end_is = inr e; idle = idle }
-runs_nothing clock before input (Some (Info program key)) ran e idle unread = go (refusal_if key)
-  where
-    go : (r : Option Reason) → UnlessRefused r before ran (HasInformed program key before ran)
-    go None = nothing_informed_of program key before ran e idle
-    go (Some reason) = record { end_is = inr e; idle = idle }
-runs_nothing clock before input (Some (Init words)) ran e idle unread = nothing_set_up words before ran e idle
-runs_nothing clock before input (Some (Run words)) ran e idle unread =
-    (R.Memory, inl (refl, record { outside = idle.outside; unread = unread; journal = idle.journal; answers = idle.answers; wires = idle.wires; tables = idle.tables }), e)
-runs_nothing clock before input (Some AuditWord) ran e idle unread = nothing_audited before input ran e idle unread
-runs_nothing clock before input (Some (Rehearse seed tasks)) ran e idle unread = (unread, nothing_rehearsed seed tasks before ran e idle)
-runs_nothing clock before input (Some (Walk seed tasks)) ran e idle unread = (unread, nothing_walked seed tasks before ran e idle)

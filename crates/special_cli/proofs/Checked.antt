@@ -4,15 +4,15 @@ use Rattle.std.proofs.Common.{◌≡◌, ◌∙◌, ℕ, List, refl, sym, ap, su
 use Rattle.journal_model.specs.declared.answer.Answer.{Answer}
 use Rattle.journal_model.specs.declared.entry.Entry.{Entry}
 use Rattle.child_link.specs.Wires.{WireValue}
-use Rattle.child_end.specs.Programs.{Leaves}
-use Rattle.child_end.specs.Outsides.{OutsideValue}
-use Rattle.check_command.specs.declared.made.CheckEnd.{CheckEnd}
-use Rattle.check_command.specs.declared.made.CheckEnd.TheVariants as C
-use Rattle.check_command.specs.Checks.{EndsCheck as HasEnded, HasChecked as HasMade, IsChecked, MadeValue}
+use Rattle.child_life.specs.End.Programs.{Leaves}
+use Rattle.child_life.specs.End.Outsides.{OutsideValue}
+use Rattle.run_and_check.specs.declared.check.made.CheckEnd.{CheckEnd}
+use Rattle.run_and_check.specs.declared.check.made.CheckEnd.TheVariants as C
+use Rattle.run_and_check.specs.Check.Checks.{EndsCheck as HasEnded, HasChecked as HasMade, IsChecked, MadeValue}
 use Rattle.special_cli.specs.declared.end.End.{End}
 use Rattle.special_cli.specs.Left.{Left, RanValue}
 use Rattle.special_cli.specs.Commands.{EndsCheck, HasChecked, HasNoDesk, end_of_check}
-use Rattle.run_once.proofs.Leaving.{leaves_as}
+use Rattle.run_starts.proofs.OnceLemmas.Leaving.{leaves_as}
 
 ends_as : (left : Left) (made : MadeValue) → left.journal ≡ made.journal → left.answers ≡ made.answers → HasEnded made.journal made.answers made.end → EndsCheck left (end_of_check made.end)
 ends_as left made ej ea h = go made.end (subst (λ (j : List Entry). HasEnded j left.answers made.end) (sym ej) (subst (λ (xs : List Answer). HasEnded made.journal xs made.end) (sym ea) h))

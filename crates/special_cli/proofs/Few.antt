@@ -4,18 +4,18 @@ use Rattle.std.proofs.Common.{◌≡◌, ◌∙◌, ◌≤◌, ℕ, List, [], le
 use Rattle.std.proofs.lemmas.List.{length-map}
 use Rattle.std.proofs.lemmas.List.FromFn.{length-range_with_len}
 use Rattle.ann_outside.specs.Files.{Files}
-use Rattle.keep_desk.specs.declared.writing.KeptWritten.{KeptWritten}
-use Rattle.task_input.specs.declared.limits.TheConstants.Limits.{TASKS}
+use Rattle.kept_file.specs.declared.desk.writing.KeptWritten.{KeptWritten}
+use Rattle.cli_words.specs.declared.task_input.limits.TheConstants.Limits.{TASKS}
 use Rattle.cli_words.specs.declared.command.RunWords.{RunWords}
 use Rattle.journal_model.specs.declared.answer.Answer.{Answer}
 use Rattle.journal_model.specs.declared.opening.Opening.{Opening}
 use Rattle.journal_model.specs.Legality.{numbers_of}
-use Rattle.child_end.specs.Outsides.{OutsideValue}
-use Rattle.run_command.specs.Inputs.{InputFlow}
-use Rattle.run_command.specs.Runs.{MadeValue, HasDone, IsWholeRun, IfUnwhole, EndsRun, answer_of}
-use Rattle.run_command.specs.declared.made.RunEnd.{RunEnd}
-use Rattle.run_command.specs.declared.made.RunEnd.TheVariants.{Done}
-use Rattle.run_command.proofs.Begun.{few_tasks}
+use Rattle.child_life.specs.End.Outsides.{OutsideValue}
+use Rattle.run_and_check.specs.Run.Inputs.{InputFlow}
+use Rattle.run_and_check.specs.Run.Runs.{MadeValue, HasDone, IsWholeRun, IfUnwhole, EndsRun, answer_of}
+use Rattle.run_and_check.specs.declared.run.made.RunEnd.{RunEnd}
+use Rattle.run_and_check.specs.declared.run.made.RunEnd.TheVariants.{Done}
+use Rattle.run_and_check.proofs.RunLemmas.Begun.{few_tasks}
 
 -- ---- a run
 

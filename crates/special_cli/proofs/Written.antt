@@ -8,7 +8,7 @@ use Rattle.std.proofs.lemmas.List.Folds.{list_all_at}
 use Rattle.uuid.specs.Text.{by_index, byte_of_digits, close_brace, digits_of, has_hyphens, has_urn_prefix, is_hex_digit, hyphenated_text, lower, open_brace, parsed, parsed_braced, parsed_hyphenated, parsed_simple, parsed_urn, value_of}
 use Rattle.uuid.proofs.TextLemmas.{by_index_length, by_index_at}
 use Rattle.uuid.proofs.RoundTrips.{parses_hyphenated}
-use Rattle.chunk_log.specs.ChunkLines.{IsWrittenUuid}
+use Rattle.task_text.specs.ChunkLog.ChunkLines.{IsWrittenUuid}
 use Rattle.cli_words.proofs.Ranging.{run_uuid}
 use Rattle.cli_words.specs.Settings.{settings_in}
 use Rattle.cli_words.specs.Values.{is_word_of_command, padded_number_in, uuid_in}

@@ -4,15 +4,15 @@ use Rattle.audit_command.specs.Inputs.{AuditComesTo, audit_limits}
 use Rattle.audit_command.specs.Reads.{IsCounted, IsRead}
 use Rattle.audit_command.specs.declared.error.AuditError.{AuditError}
 use Rattle.audit_command.specs.declared.error.AuditError.TheVariants as A
-use Rattle.child_end.specs.Outsides.{OutsideValue}
+use Rattle.child_life.specs.End.Outsides.{OutsideValue}
 use Rattle.cli_words.specs.declared.refusals.Reason.TheVariants.{Entry as BadEntry, Cut as NoEnd}
 use Rattle.journal_audit.specs.declared.found.Audit.{Audit}
 use Rattle.journal_audit.specs.declared.found.Audit.TheVariants.{Legal, Wrong}
-use Rattle.run_command.specs.Inputs.{InputFlow}
+use Rattle.run_and_check.specs.Run.Inputs.{InputFlow}
 use Rattle.special_cli.specs.Left.{RanValue, IsIdle}
 use Rattle.special_cli.specs.declared.end.End.{End}
 use Rattle.special_cli.specs.declared.end.End.TheVariants.{Refused, Memory, InputFailed, Audited}
-use Rattle.task_input.specs.Reads.{HasGiven}
+use Rattle.cli_words.specs.TaskInput.Reads.{HasGiven}
 
 -- what is printed of what was found: `legal`, or `wrong` with the entry's place and its kind's number
 abbrev pub found_line : Audit → List ℕ

@@ -9,27 +9,27 @@ use Rattle.journal_audit.specs.declared.found.Audit.{Audit}
 use Rattle.cli_words.specs.declared.command.Command.{Command}
 use Rattle.cli_words.specs.declared.command.Command.TheVariants.{Audit as AuditWord}
 use Rattle.special_cli.specs.Endings.{refused_in, check_in, info_in, init_in, run_in, tasks_in, IsTold, LacksMemory}
-use Rattle.check_command.specs.Checks.{IsChecked}
-use Rattle.info_command.specs.Informs.{IsInformed}
+use Rattle.run_and_check.specs.Check.Checks.{IsChecked}
+use Rattle.info_and_init.specs.Info.Informs.{IsInformed}
 use Rattle.special_cli.specs.Informs.{IsInfoTold}
-use Rattle.child_end.specs.Outsides.{OutsideValue}
+use Rattle.child_life.specs.End.Outsides.{OutsideValue}
 use Rattle.special_cli.specs.Left.{Left, IsIdle}
-use Rattle.child_end.specs.Wires.{AreWires, came}
-use Rattle.child_end.specs.Programs.{HaveStarted, RoseBy, is_failed_start}
-use Rattle.child_end.specs.Outsides.{HaveMade}
+use Rattle.child_life.specs.End.Wires.{AreWires, came}
+use Rattle.child_life.specs.End.Programs.{HaveStarted, RoseBy, is_failed_start}
+use Rattle.child_life.specs.End.Outsides.{HaveMade}
 use Rattle.special_cli.specs.Commands.{Runs}
 use Rattle.special_cli.specs.Setups.{HasSetUp}
 use Rattle.special_cli.specs.Doings.{end_of, made_in}
 use Rattle.special_cli.specs.Audits.{IsAuditOf, end_of_audit}
 use Rattle.special_cli.specs.Rehearsals.{IsUntouched, end_of_rehearsal, rehearsal_in}
 use Rattle.special_cli.specs.Walks.{end_of_walk, walk_in}
-use Rattle.walk_command.specs.Walks.{EndsWalk}
-use Rattle.walk_command.specs.declared.made.WalkEnd.{WalkEnd}
+use Rattle.rehearse_command.specs.Walk.Walks.{EndsWalk}
+use Rattle.rehearse_command.specs.declared.walk.made.WalkEnd.{WalkEnd}
 use Rattle.rehearse_command.specs.Rehearsals.{HasRehearsed as HasMade}
 use Rattle.rehearse_command.specs.declared.made.RehearsalEnd.{RehearsalEnd}
-use Rattle.run_command.specs.Inputs.{InputFlow, IsUnread, input_flow}
-use Rattle.run_command.specs.Runs.{HasDone}
-use Rattle.run_command.specs.declared.made.RunEnd.{RunEnd}
+use Rattle.run_and_check.specs.Run.Inputs.{InputFlow, IsUnread, input_flow}
+use Rattle.run_and_check.specs.Run.Runs.{HasDone}
+use Rattle.run_and_check.specs.declared.run.made.RunEnd.{RunEnd}
 use Rattle.special_cli.specs.Tells.{Flow, IsToldOf, flow}
 use Rattle.special_cli.specs.declared.end.End.{End}
 use Rattle.cli_words.specs.declared.command.InitWords.{InitWords}

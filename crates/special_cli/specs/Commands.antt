@@ -4,21 +4,21 @@ use Rattle.journal_model.specs.declared.answer.Answer.{Answer}
 use Rattle.special_cli.specs.declared.end.End.{End}
 use Rattle.special_cli.specs.declared.end.End.TheVariants.{Usage, Shown, Refused, Memory, Answered}
 use Rattle.cli_words.specs.declared.refusals.Reason.{Reason}
-use Rattle.check_command.specs.declared.made.CheckEnd.{CheckEnd}
-use Rattle.check_command.specs.declared.made.CheckEnd.TheVariants as C
-use Rattle.check_command.specs.Checks.{IsAnswered, IsChecked}
-use Rattle.info_command.specs.Informs.{HasInformed as HasMade}
-use Rattle.info_command.specs.declared.made.InfoEnd.{InfoEnd}
+use Rattle.run_and_check.specs.declared.check.made.CheckEnd.{CheckEnd}
+use Rattle.run_and_check.specs.declared.check.made.CheckEnd.TheVariants as C
+use Rattle.run_and_check.specs.Check.Checks.{IsAnswered, IsChecked}
+use Rattle.info_and_init.specs.Info.Informs.{HasInformed as HasMade}
+use Rattle.info_and_init.specs.declared.info.made.InfoEnd.{InfoEnd}
 use Rattle.special_cli.specs.Informs.{end_of_info, informed_in}
-use Rattle.child_end.specs.Outsides.{OutsideValue}
+use Rattle.child_life.specs.End.Outsides.{OutsideValue}
 use Rattle.special_cli.specs.Left.{Left, RanValue, IsIdle}
-use Rattle.child_end.specs.Programs.{Leaves}
+use Rattle.child_life.specs.End.Programs.{Leaves}
 use Rattle.special_cli.specs.Setups.{HasSetUp}
 use Rattle.special_cli.specs.Doings.{HasRun}
 use Rattle.special_cli.specs.Audits.{HasAudited}
 use Rattle.special_cli.specs.Rehearsals.{HasRehearsed}
 use Rattle.special_cli.specs.Walks.{WalksTasks}
-use Rattle.run_command.specs.Inputs.{InputFlow, IsUnread}
+use Rattle.run_and_check.specs.Run.Inputs.{InputFlow, IsUnread}
 use Rattle.cli_words.specs.Refusals.{reason_refused, refusal_if}
 use Rattle.cli_words.specs.declared.command.Command.{Command}
 use Rattle.cli_words.specs.declared.command.Command.TheVariants.{Check, Info, Init, Run, Audit, Rehearse, Walk, Show}

@@ -1,11 +1,11 @@
 -- What comes of the tasks of an input.
 use Rattle.std.specs.Prelude.{ℕ, ◌≡◌, Option}
 use Rattle.cli_words.specs.declared.command.RunWords.{RunWords}
-use Rattle.child_end.specs.Outsides.{OutsideValue}
-use Rattle.run_command.specs.Inputs.{InputFlow}
-use Rattle.run_command.specs.Runs.{MadeValue, HasDone}
-use Rattle.run_command.specs.declared.made.RunEnd.{RunEnd}
-use Rattle.run_command.specs.declared.made.RunEnd.TheVariants as R
+use Rattle.child_life.specs.End.Outsides.{OutsideValue}
+use Rattle.run_and_check.specs.Run.Inputs.{InputFlow}
+use Rattle.run_and_check.specs.Run.Runs.{MadeValue, HasDone}
+use Rattle.run_and_check.specs.declared.run.made.RunEnd.{RunEnd}
+use Rattle.run_and_check.specs.declared.run.made.RunEnd.TheVariants as R
 use Rattle.special_cli.specs.declared.end.End.{End}
 use Rattle.special_cli.specs.declared.end.End.TheVariants.{Refused, Memory, BadKept, KeptTooLarge, FileFailed, InputFailed, Done}
 use Rattle.special_cli.specs.Left.{Left, RanValue}

@@ -11,7 +11,7 @@ use Rattle.cli_words.specs.declared.command.Command.TheVariants.{Check, Info, In
 use Rattle.cli_words.specs.declared.command.InitWords.{InitWords}
 use Rattle.cli_words.specs.declared.command.RunWords.{RunWords}
 use Rattle.cli_words.specs.Refusals.{reason_refused, refusal_if, unless}
-use Rattle.check_command.specs.Checks.{IsAnswered}
+use Rattle.run_and_check.specs.Check.Checks.{IsAnswered}
 use Rattle.cli_words.specs.declared.refusals.Reason.{Reason}
 
 -- the key of a check or an info is refused so

@@ -2,10 +2,10 @@
 use Rattle.std.specs.Prelude.{ℕ, ◌≡◌, ◌⊎◌, if◌then◌else◌, List, Option}
 use Rattle.annex_model.specs.Lines.{text}
 use Rattle.journal_model.specs.declared.entry.Entry.{Entry}
-use Rattle.info_command.specs.Infos.{info_lines, is_informed}
-use Rattle.info_command.specs.Informs.{InfoValue, IsComplete}
-use Rattle.info_command.specs.declared.made.InfoEnd.{InfoEnd}
-use Rattle.info_command.specs.declared.made.InfoEnd.TheVariants as I
+use Rattle.info_and_init.specs.Info.Infos.{info_lines, is_informed}
+use Rattle.info_and_init.specs.Info.Informs.{InfoValue, IsComplete}
+use Rattle.info_and_init.specs.declared.info.made.InfoEnd.{InfoEnd}
+use Rattle.info_and_init.specs.declared.info.made.InfoEnd.TheVariants as I
 use Rattle.special_cli.specs.declared.end.End.{End}
 use Rattle.special_cli.specs.declared.end.End.TheVariants.{Refused, Memory, Informed}
 use Rattle.special_cli.specs.Endings.{IsPrinted}

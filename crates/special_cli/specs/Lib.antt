@@ -11,5 +11,5 @@ pub mod Tells
 pub mod Walks
 pub mod Wishes
 pub mod Setups
-pub use Rattle.child_end.specs.Outsides
+pub use Rattle.child_life.specs.End.Outsides
 pub use Rattle.cli_words.specs.Values

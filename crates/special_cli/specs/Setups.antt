@@ -1,10 +1,10 @@
 -- What is told of an init.
 use Rattle.std.specs.Prelude.{◌≡◌, []}
-use Rattle.child_end.specs.Outsides.{OutsideValue}
+use Rattle.child_life.specs.End.Outsides.{OutsideValue}
 use Rattle.cli_words.specs.declared.command.InitWords.{InitWords}
-use Rattle.init_command.specs.Inits.{InitValue, HasSetUp as HasMade}
-use Rattle.init_command.specs.declared.made.InitEnd.{InitEnd}
-use Rattle.init_command.specs.declared.made.InitEnd.TheVariants as I
+use Rattle.info_and_init.specs.Init.Inits.{InitValue, HasSetUp as HasMade}
+use Rattle.info_and_init.specs.declared.init.made.InitEnd.{InitEnd}
+use Rattle.info_and_init.specs.declared.init.made.InitEnd.TheVariants as I
 use Rattle.special_cli.specs.declared.end.End.{End}
 use Rattle.special_cli.specs.declared.end.End.TheVariants.{Memory, BadKept, KeptTooLarge, FileFailed, SetUp, NotSetUp}
 use Rattle.special_cli.specs.Left.{Left, RanValue}

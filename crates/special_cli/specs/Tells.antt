@@ -8,11 +8,11 @@ use Rattle.annex_model.specs.Lines.{text}
 use Rattle.journal_model.specs.declared.answer.Answer.{Answer}
 use Rattle.journal_model.specs.declared.entry.Entry.{Entry}
 use Rattle.journal_model.specs.Output.{answer_line}
-use Rattle.info_command.specs.Infos.{info_lines}
-use Rattle.init_command.specs.Setups.{setup_text}
-use Rattle.init_command.specs.declared.setup.Setup.TheVariants.{Stopped}
-use Rattle.keep_desk.specs.declared.writing.KeptWritten.{KeptWritten}
-use Rattle.keep_desk.specs.declared.writing.KeptWritten.TheVariants as W
+use Rattle.info_and_init.specs.Info.Infos.{info_lines}
+use Rattle.info_and_init.specs.Init.Setups.{setup_text}
+use Rattle.info_and_init.specs.declared.init.setup.Setup.TheVariants.{Stopped}
+use Rattle.kept_file.specs.declared.desk.writing.KeptWritten.{KeptWritten}
+use Rattle.kept_file.specs.declared.desk.writing.KeptWritten.TheVariants as W
 use Rattle.special_cli.specs.Audits.{found_line, found_status}
 use Rattle.special_cli.specs.declared.end.End.{End}
 use Rattle.special_cli.specs.declared.end.End.TheVariants.{Usage, Shown, Refused, Memory, Answered, Informed, BadKept, KeptTooLarge, FileFailed, InputFailed, SetUp, NotSetUp, Done, Audited, Rehearsed, Walked}

@@ -1,15 +1,15 @@
 -- What comes of a rehearsal in a closed world.
 use Rattle.std.specs.Prelude.{ℕ, ◌≡◌, ◌==◌, ◌&&◌, Bool, if◌then◌else◌, List, ◌∷◌, ◌++◌, [], length, codes, decimal, Option, Some, None}
-use Rattle.child_end.specs.Outsides.{OutsideValue}
+use Rattle.child_life.specs.End.Outsides.{OutsideValue}
 use Rattle.cli_words.specs.declared.command.Command.{Command}
 use Rattle.cli_words.specs.declared.command.Command.TheVariants.{Walk}
 use Rattle.journal_audit.specs.declared.found.Audit.{Audit}
 use Rattle.journal_model.specs.declared.answer.Answer.{Answer}
 use Rattle.rehearse_plan.specs.Tallies.{count_lines, count_of}
 use Rattle.rehearse_plan.specs.declared.tally.Word.TheVariants.{Got, Other}
-use Rattle.walk_command.specs.Walks.{EndsWalk}
-use Rattle.walk_command.specs.declared.made.WalkEnd.{WalkEnd}
-use Rattle.walk_command.specs.declared.made.WalkEnd.TheVariants as W
+use Rattle.rehearse_command.specs.Walk.Walks.{EndsWalk}
+use Rattle.rehearse_command.specs.declared.walk.made.WalkEnd.{WalkEnd}
+use Rattle.rehearse_command.specs.declared.walk.made.WalkEnd.TheVariants as W
 use Rattle.special_cli.specs.Audits.{found_line, found_status}
 use Rattle.special_cli.specs.Left.{RanValue}
 use Rattle.special_cli.specs.Rehearsals.{IsUntouched}

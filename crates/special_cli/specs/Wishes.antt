@@ -1,6 +1,6 @@
 -- What the words ask for.
 use Rattle.std.specs.Prelude.{ℕ, List, Option, Some, IfSome}
-use Rattle.chunk_log.specs.ChunkLines.{IsWrittenUuid}
+use Rattle.task_text.specs.ChunkLog.ChunkLines.{IsWrittenUuid}
 use Rattle.cli_words.specs.declared.command.Command.{Command}
 use Rattle.cli_words.specs.declared.command.Command.TheVariants.{Init, Run}
 use Rattle.cli_words.specs.Identities.{IsFit}

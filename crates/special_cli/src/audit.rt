@@ -1,6 +1,6 @@
 // The command `audit`: the input is read as the text of a run, and its journal is checked.
 ghost use Rattle.std.specs.Prelude.{◌≡◌, true};
-ghost use Rattle.run_command.specs.Inputs.{input_flow};
+ghost use Rattle.run_and_check.specs.Run.Inputs.{input_flow};
 ghost use Rattle.special_cli.specs.Audits.{HasAudited, end_of_audit};
 
 use crate::end::End;

@@ -9,8 +9,8 @@ use crate::outside::Outside;
 use crate::ran::Ran;
 use ann_key::KeyRef;
 use ann_outside::{Clock, Desks, Programs};
-use check_command::{CheckEnd, do_check};
 use cli_words::refusal;
+use run_and_check::check::{CheckEnd, do_check};
 use std::alloc::Global;
 
 /// Asks the remote that the program serves for the key, unless that is refused.

@@ -2,7 +2,7 @@ use ann_key::Key;
 use cli_words::{Page, Reason};
 use journal_audit::Audit;
 use journal_model::Answer;
-use keep_desk::KeptWritten;
+use kept_file::desk::KeptWritten;
 
 /// What is to be told of a command that has run.
 #[derive(Drop)]

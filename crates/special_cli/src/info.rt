@@ -9,7 +9,7 @@ use crate::outside::Outside;
 use crate::ran::Ran;
 use ann_key::Text;
 use ann_outside::{Desks, Programs};
-use info_command::{InfoEnd, inform};
+use info_and_init::info::{InfoEnd, inform};
 use std::alloc::Global;
 
 /// Asks the remote that the program serves about itself, and for the key where there is one, unless that is refused.

@@ -1,6 +1,6 @@
 // The command `init`: a remote is set up, and what it is set to is kept.
 ghost use Rattle.std.specs.Prelude.{◌≡◌};
-ghost use Rattle.init_command.specs.Inits.{AreSound};
+ghost use Rattle.info_and_init.specs.Init.Inits.{AreSound};
 ghost use Rattle.special_cli.specs.Setups.{HasSetUp, end_of_init};
 
 use crate::end::End;
@@ -8,7 +8,7 @@ use crate::outside::Outside;
 use crate::ran::Ran;
 use ann_outside::{Desks, Programs};
 use cli_words::InitWords;
-use init_command::{InitEnd, set_up};
+use info_and_init::init::{InitEnd, set_up};
 use std::alloc::Global;
 
 /// Sets the remote up that the program serves, and keeps what it is set to.

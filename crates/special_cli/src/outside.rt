@@ -9,7 +9,7 @@ pub(crate) struct Outside<P: Programs, K: Desks> {
 }
 
 impl<P: Programs, K: Desks> Model for Outside<P, K> {
-    ghost use Rattle.child_end.specs.Outsides.{OutsideValue};
+    ghost use Rattle.child_life.specs.End.Outsides.{OutsideValue};
 
     ghost Value = { OutsideValue };
 

@@ -1,10 +1,10 @@
 // The command `run`: the tasks of the input, by its workers.
 ghost use Rattle.std.specs.Prelude.{◌≡◌, true};
-ghost use Rattle.chunk_log.specs.ChunkLines.{IsWrittenUuid};
+ghost use Rattle.task_text.specs.ChunkLog.ChunkLines.{IsWrittenUuid};
 ghost use Rattle.cli_words.specs.Identities.{IsFit};
 ghost use Rattle.cli_words.specs.Ranges.{IsRanged};
 ghost use Rattle.cli_words.specs.declared.command.Command.TheVariants.{Run};
-ghost use Rattle.run_command.specs.Inputs.{input_flow};
+ghost use Rattle.run_and_check.specs.Run.Inputs.{input_flow};
 ghost use Rattle.special_cli.specs.Doings.{HasRun, end_of};
 
 use crate::end::End;
@@ -12,7 +12,7 @@ use crate::outside::Outside;
 use crate::ran::Ran;
 use ann_outside::{Clock, Desks, Programs, Source};
 use cli_words::RunWords;
-use run_command::{RunEnd, do_tasks};
+use run_and_check::run::{RunEnd, do_tasks};
 use std::alloc::Global;
 use std::marker::{Send, Sync};
 use std::sync::Wait;

@@ -2,8 +2,8 @@
 ghost use Rattle.std.specs.Prelude.{◌≡◌, ◌≤◌, ◌++◌, ◌∷◌, [], codes, true, length, IfOk, option_map};
 ghost use Rattle.std.specs.List.{list_all};
 ghost use Rattle.ann_key.specs.KeyRefs.{text_of};
-ghost use Rattle.init_command.specs.Setups.{setup_text};
-ghost use Rattle.init_command.specs.declared.setup.Setup.TheVariants.{Stopped};
+ghost use Rattle.info_and_init.specs.Init.Setups.{setup_text};
+ghost use Rattle.info_and_init.specs.declared.init.setup.Setup.TheVariants.{Stopped};
 ghost use Rattle.special_cli.specs.Audits.{found_line, found_status};
 ghost use Rattle.special_cli.specs.Endings.{is_well};
 ghost use Rattle.special_cli.specs.Informs.{info_status};
@@ -20,12 +20,12 @@ use crate::walking::walk_saying;
 use ann_key::{Bytes, Key, KeyRef, NoMemory};
 use ann_outside::{Desks, Programs, Sink};
 use cli_words::{bad_kept_line, file_line, input_line, keep_large_line, refused_line, usage_line};
-use info_command::{is_informed, print_info};
+use info_and_init::info::{is_informed, print_info};
 use journal_audit::Audit;
 use journal_look::Journal;
 use journal_model::Answer;
-use journal_text::{print_answer, print_words};
-use keep_desk::KeptWritten;
+use journal_text::answers::{print_answer, print_words};
+use kept_file::desk::KeptWritten;
 use std::alloc::Global;
 
 /// Tells what came of a command: an answer on `out`, or why there is none on `err`.

@@ -1,6 +1,6 @@
 ghost use Rattle.std.specs.Prelude.{◌≡◌, true};
 ghost use Rattle.cli_words.specs.Values.{texts_of};
-ghost use Rattle.run_command.specs.Inputs.{input_flow};
+ghost use Rattle.run_and_check.specs.Run.Inputs.{input_flow};
 ghost use Rattle.special_cli.specs.Calls.{IsCalled, IsDone, world};
 ghost use Rattle.special_cli.specs.Commands.{Runs};
 ghost use Rattle.special_cli.specs.Wishes.{wish_of, AreRead};

@@ -13,9 +13,9 @@ use ann_key::{Bytes, NoMemory};
 use ann_outside::{Desks, Programs};
 use journal_audit::Audit;
 use journal_model::Answer;
+use rehearse_command::walk::WalkEnd;
 use rehearse_plan::{Word, count_of, print_counts};
 use std::alloc::Global;
-use walk_command::WalkEnd;
 
 /// Does so many tasks, which the seed gives, in a world of its own. What was handed in stays untouched.
 pub(crate) fn walk_tasks<P: Programs, K: Desks>(
@@ -27,7 +27,7 @@ pub(crate) fn walk_tasks<P: Programs, K: Desks>(
     requires { tasks ≤ 65536 }
     ensures { WalksTasks seed tasks outside result }
 {
-    let made = walk_command::walk_tasks(alloc, seed, tasks);
+    let made = rehearse_command::walk::walk_tasks(alloc, seed, tasks);
     Ran {
         outside,
         journal: made.journal,

@@ -5,7 +5,7 @@ use Rattle.ann_outside.specs.Calls.{Log, Gained, logged}
 use Rattle.ann_outside.specs.declared.file_desk.DeskError.{DeskError}
 use Rattle.ann_outside.specs.declared.file_desk.DeskError.TheVariants as E
 use Rattle.ann_outside.specs.declared.file_desk.Call.TheVariants.{Size, Create, Rename, Remove}
-use Rattle.fetch_copy.proofs.CopyLaws.{gained_without, gained_call}
+use Rattle.task_model.proofs.CopyingLemmas.CopyLaws.{gained_without, gained_call}
 use Rattle.task_model.specs.Fetching.{Outcome, if_made}
 
 -- a call without a value, refused or not

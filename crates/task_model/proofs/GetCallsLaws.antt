@@ -6,7 +6,7 @@ use Rattle.std.proofs.lemmas.List.Elements.{filter_map-append}
 use Rattle.ann_outside.specs.declared.file_desk.DeskError.{DeskError}
 use Rattle.ann_outside.specs.declared.file_desk.Call.{Call}
 use Rattle.ann_outside.specs.declared.file_desk.Call.TheVariants.{Size, ReadAt, Create, Append, Rename, Remove}
-use Rattle.fetch_copy.specs.Copies.{copy_calls}
+use Rattle.task_model.specs.Copying.Copies.{copy_calls}
 use Rattle.task_model.specs.Stops.{call_stop}
 use Rattle.task_model.specs.Names.{part_of}
 use Rattle.task_model.specs.Reads.{length_or_none, reads_of, is_run, is_known, known_by, last_is_true, bytes_of, read_of, piece_of}

@@ -9,7 +9,7 @@ use Rattle.ann_outside.specs.declared.file_desk.DeskError.{DeskError}
 use Rattle.ann_outside.specs.declared.file_desk.DeskError.TheVariants as E
 use Rattle.ann_outside.specs.declared.file_desk.Call.{Call}
 use Rattle.ann_outside.specs.declared.file_desk.Call.TheVariants.{Size, ReadAt, Create, Append, Cut, Rename, Remove}
-use Rattle.chunk_plan.specs.Layouts.{Part}
+use Rattle.task_text.specs.Layouts.Layouts.{Part}
 use Rattle.journal_model.specs.declared.answer.Answer.{Answer}
 use Rattle.journal_model.specs.declared.answer.Answer.TheVariants as A
 use Rattle.journal_model.specs.declared.verdict.Verdict.{Verdict}

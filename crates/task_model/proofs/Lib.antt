@@ -14,3 +14,4 @@ pub mod NamedRuns
 pub mod ExportRuns
 pub mod NamedVerdicts
 pub mod Across
+pub mod CopyingLemmas

@@ -11,7 +11,7 @@ use Rattle.ann_outside.specs.declared.file_desk.DeskError.{DeskError}
 use Rattle.ann_outside.specs.declared.file_desk.DeskError.TheVariants as E
 use Rattle.ann_outside.specs.declared.file_desk.Call.{Call}
 use Rattle.ann_outside.specs.declared.file_desk.Call.TheVariants.{Size, Create, Rename, Remove}
-use Rattle.fetch_copy.specs.Copies.{copy_calls, EndsWhole, EndsRefused}
+use Rattle.task_model.specs.Copying.Copies.{copy_calls, EndsWhole, EndsRefused}
 use Rattle.journal_model.specs.declared.answer.Answer.{Answer}
 use Rattle.journal_model.specs.declared.answer.Answer.TheVariants.{Got, Size as SizeAnswer, Hash as HashAnswer, FileFault}
 use Rattle.task_model.specs.Stores.{is_size}

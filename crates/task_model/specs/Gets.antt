@@ -9,7 +9,7 @@ use Rattle.ann_digest.specs.declared.fit.Fit.TheVariants.{Fits, Size as SizeFit,
 use Rattle.journal_model.specs.declared.verdict.Verdict.{Verdict}
 use Rattle.journal_model.specs.declared.verdict.Verdict.TheVariants.{Failed as FailedAt}
 use Rattle.annex_model.specs.Messages.{HostMessage, Transfer}
-use Rattle.chunk_plan.specs.Layouts.{Part, held_of}
+use Rattle.task_text.specs.Layouts.Layouts.{Part, held_of}
 use Rattle.ann_outside.specs.declared.file_desk.Call.{Call}
 use Rattle.ann_outside.specs.declared.file_desk.Call.TheVariants.{Size, Create}
 use Rattle.task_model.specs.Askers.{Asking}

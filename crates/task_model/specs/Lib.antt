@@ -27,3 +27,4 @@ pub use Rattle.annex_model.specs.Lines
 pub use Rattle.annex_model.specs.Messages
 pub use Rattle.annex_model.specs.Turns
 pub use Rattle.journal_model.specs.Projection
+pub mod Copying

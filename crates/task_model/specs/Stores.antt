@@ -4,7 +4,7 @@ use Rattle.std.specs.Bool.{MatchBool}
 use Rattle.std.specs.List.{list_all, list_any}
 use Rattle.ann_key.specs.Keys.{Parts}
 use Rattle.annex_model.specs.Messages.{HostMessage, Transfer}
-use Rattle.chunk_plan.specs.Layouts.{Part}
+use Rattle.task_text.specs.Layouts.Layouts.{Part}
 use Rattle.ann_outside.specs.declared.file_desk.Call.{Call}
 use Rattle.ann_outside.specs.declared.file_desk.Call.TheVariants.{Size}
 use Rattle.task_model.specs.Askers.{Asking, Noting}

@@ -6,15 +6,15 @@ ghost use Rattle.annex_model.specs.Messages.{Checkpresent, Remove, Transfer, Che
 ghost use Rattle.annex_model.specs.Turns.{turn_of};
 ghost use Rattle.annex_model.specs.declared.turn.Turn.TheVariants.{Later};
 ghost use Rattle.journal_model.specs.Projection.{IsNamed};
-ghost use Rattle.talk_serial.specs.Requests.{message_of, name_of};
+ghost use Rattle.host_talk.specs.Request.Requests.{message_of, name_of};
 ghost use Rattle.task_model.specs.Askers.{AskAdds, IsSameTask, is_said_in_line, names_in_line};
 ghost use Rattle.task_model.specs.Ran.{is_verdict_of};
 
 use crate::Asker;
 use ann_key::{Key, KeyRef, NoMemory, Text};
+use host_talk::request::Request;
 use journal_model::Verdict;
 use std::alloc::Global;
-use talk_serial::Request;
 
 // Asks the request, and lets it go: in one place, since what lets it go goes by its kinds.
 fn ask_own<A: Asker>(

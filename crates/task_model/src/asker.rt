@@ -4,14 +4,14 @@ ghost use Rattle.annex_model.specs.Messages.{is_askable};
 ghost use Rattle.annex_model.specs.Turns.{turn_of};
 ghost use Rattle.annex_model.specs.declared.turn.Turn.TheVariants.{Later};
 ghost use Rattle.journal_model.specs.Projection.{IsNamed};
-ghost use Rattle.talk_serial.specs.Requests.{message_of, name_of};
+ghost use Rattle.host_talk.specs.Request.Requests.{message_of, name_of};
 ghost use Rattle.task_model.specs.Askers.{AskerTold, AskAdds, NoteAdds, IsSameTask, names_in_line, is_said_in_line, are_layouts};
 
 use ann_key::NoMemory;
-use chunk_log::Layouts;
+use host_talk::request::Request;
 use journal_model::Verdict;
 use std::alloc::Global;
-use talk_serial::Request;
+use task_text::chunk_log::Layouts;
 
 /// The way of one task to its child: it asks requests one after the other, and notes what chunks the remote has.
 pub trait Asker {

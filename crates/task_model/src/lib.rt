@@ -5,6 +5,7 @@ pub mod answers;
 pub mod ask;
 mod asker;
 mod check;
+pub mod copying;
 pub mod export_laws;
 pub mod laws;
 pub mod names;

@@ -8,7 +8,7 @@ use Rattle.task_text.specs.declared.task.Work.{Work}
 use Rattle.task_text.specs.declared.task.Work.TheVariants as W
 use Rattle.ann_outside.specs.Calls.{Log}
 use Rattle.ann_outside.specs.declared.file_desk.Call.{Call}
-use Rattle.fetch_copy.proofs.CopyLaws.{gained_nothing}
+use Rattle.task_model.proofs.CopyingLemmas.CopyLaws.{gained_nothing}
 use Rattle.task_model.specs.Askers.{Asking, Noting}
 use Rattle.journal_model.specs.declared.answer.Answer.{Answer}
 use Rattle.task_model.specs.declared.setup.Setup.{Setup}

@@ -31,7 +31,7 @@ use Rattle.task_run.specs.Rounds.{RoundAsks, joined, Ended, EachEnded, Missed, m
 use Rattle.task_run.proofs.RoundLaws.{length_keys, some_keys}
 use Rattle.task_model.proofs.NamedRuns.{nameless, with_names}
 use Rattle.task_text.specs.Works.{has_name}
-use Rattle.task_get.proofs.AskLaws.{round_done as rounds_found}
+use Rattle.task_run.proofs.GetLemmas.AskLaws.{round_done as rounds_found}
 use Rattle.task_model.proofs.Lists.{all_taken as all_take, but_last}
 use Rattle.ann_key.proofs.Booleans.{false_is_true as apart}
 

@@ -33,7 +33,7 @@ use Rattle.task_run.specs.Rounds.{RoundAsks, Removed, RanNoting, notes_none}
 use Rattle.task_run.proofs.CheckRuns.{goes_on, all_done_go_on, none_stops, take_next}
 use Rattle.task_model.proofs.NamedRuns.{nameless, with_names}
 use Rattle.task_text.specs.Works.{has_name}
-use Rattle.task_store.proofs.ChunkStoreTasks.{all_counted as count_all}
+use Rattle.task_run.proofs.StoreLemmas.ChunkStoreTasks.{all_counted as count_all}
 use Rattle.ann_key.proofs.Booleans.{false_is_true as apart}
 use Rattle.task_model.proofs.Lists.{but_last, all_taken as all_take}
 use Rattle.task_model.proofs.Across.{order_fits}

@@ -10,7 +10,7 @@ use Rattle.std.proofs.lemmas.List.Folds.{list_all-append}
 use Rattle.std.proofs.lemmas.List.FromFn.{length-map-range_with_len}
 use Rattle.std.proofs.lemmas.Simd.{map-map}
 use Rattle.ann_key.specs.Keys.{Parts, key_reading}
-use Rattle.chunk_plan.specs.Layouts.{Part, count_of, chunk_part}
+use Rattle.task_text.specs.Layouts.Layouts.{Part, count_of, chunk_part}
 use Rattle.annex_model.specs.Messages.{HostMessage}
 use Rattle.journal_model.specs.declared.verdict.Verdict.{Verdict}
 use Rattle.task_model.specs.Askers.{Asking, KeepsRequest, AsksOne}

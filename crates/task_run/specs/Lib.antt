@@ -6,3 +6,5 @@ pub use Rattle.task_model.specs.Askers
 pub use Rattle.task_model.specs.Layouts
 pub use Rattle.task_model.specs.Ran
 pub use Rattle.task_text.specs.TaskLines
+pub mod Store
+pub mod Get

@@ -3,7 +3,7 @@ use Rattle.std.specs.Prelude.{ℕ, ◌≡◌, ◌==◌, true, false, if◌then�
 use Rattle.std.specs.List.{list_all}
 use Rattle.ann_key.specs.Keys.{Parts, with_chunk}
 use Rattle.ann_key.specs.declared.bytes.NoMemory.{NoMemory}
-use Rattle.chunk_plan.specs.Layouts.{count_of}
+use Rattle.task_text.specs.Layouts.Layouts.{count_of}
 use Rattle.annex_model.specs.Messages.{HostMessage}
 use Rattle.journal_model.specs.declared.verdict.Verdict.{Verdict}
 use Rattle.journal_model.specs.declared.answer.Answer.{Answer}

@@ -3,18 +3,18 @@ ghost use Rattle.std.specs.Prelude.{◌≡◌, ◌++◌, ◌∷◌, [], ◌<◌,
 ghost use Rattle.annex_model.specs.Messages.{is_sent_key};
 ghost use Rattle.ann_key.specs.Keys.{key_reading};
 ghost use Rattle.ann_key.specs.KeyRefs.{parts_of, text_of};
-ghost use Rattle.chunk_plan.specs.Layouts.{count_of};
+ghost use Rattle.task_text.specs.Layouts.Layouts.{count_of};
 ghost use Rattle.task_model.specs.Askers.{AskAdds, IsSameTask, are_layouts};
 ghost use Rattle.task_model.specs.Layouts.{chunk_sizes, keys_of_layout};
 ghost use Rattle.task_model.specs.Ran.{is_verdict_of};
 ghost use Rattle.task_run.specs.Rounds.{asked_by, key_at, key_count, RoundAsks};
 
 use ann_key::{Key, KeyRef, NoMemory};
-use chunk_log::Layouts;
 use journal_model::Verdict;
 use std::alloc::Global;
 use task_model::answers::is_done;
 use task_model::{Asker, ask};
+use task_text::chunk_log::Layouts;
 
 /// The chunk sizes of the layouts that are tried for content of this size, in their order. The last one is 0, the plain layout.
 pub fn sizes_tried(
@@ -51,7 +51,7 @@ fn has_all_chunks(size: u64, layout: (u64, u64)) -> bool
     requires { not (layout.0 == 0) ≡ true }
     ensures { result ≡ (layout.1 == count_of size layout.0) }
 {
-    layout.1 == chunk_plan::count(size, layout.0)
+    layout.1 == task_text::layouts::count(size, layout.0)
 }
 
 // How many keys content of this size has in the layout.
@@ -61,7 +61,7 @@ fn key_count(size: Option<u64>, chunk: u64) -> u64
     if chunk == 0 {
         1
     } else {
-        chunk_plan::count(size.unwrap_or(0), chunk)
+        task_text::layouts::count(size.unwrap_or(0), chunk)
     }
 }
 
@@ -76,7 +76,7 @@ fn key_at(alloc: Global, key: KeyRef<'_>, chunk: u64, number: u64) -> Result<Key
     if chunk == 0 {
         Key::copy(alloc, key)
     } else {
-        chunk_plan::piece(alloc, key, chunk, number)
+        task_text::layouts::piece(alloc, key, chunk, number)
     }
 }
 

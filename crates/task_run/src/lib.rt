@@ -4,7 +4,9 @@
 mod check_layouts;
 mod drop_layouts;
 mod exports;
+pub mod get;
 mod layouts;
 mod run;
+pub mod store;
 
 pub use run::run_task;

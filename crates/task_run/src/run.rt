@@ -11,13 +11,13 @@ ghost use Rattle.task_text.specs.declared.task.Work.TheVariants as W;
 use crate::check_layouts::check;
 use crate::drop_layouts::drop_key;
 use crate::exports::{check_export, drop_export, rename_export};
+use crate::get::{get_export, get_key};
+use crate::store::{store_chunks, store_export, store_whole};
 use ann_key::NoMemory;
 use ann_outside::Desk;
 use journal_model::Answer;
 use std::alloc::Global;
-use task_get::{get_export, get_key};
 use task_model::{Asker, Setup, TaskTurn};
-use task_store::{store_chunks, store_export, store_whole};
 use task_text::{Task, Work};
 
 // Whether the content is stored in chunks.

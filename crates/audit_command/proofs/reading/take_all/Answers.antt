@@ -1,6 +1,6 @@
 use Rattle.std.proofs.Common.{Bool, true, false, [], ◌++◌, Ok, refl, subst, ◌∙◌}
 use Rattle.std.proofs.lemmas.Result.{err_from_is_err_and}
-use Rattle.task_input.proofs.Given.{given_both, given_none}
+use Rattle.cli_words.proofs.TaskInputLemmas.Given.{given_both, given_none}
 use Rattle.audit_command.specs.Steps.{IsStep}
 use Rattle.audit_command.proofs.Pieces.{step_fails, took_end_of, less_still}
 use Rattle.audit_command.proofs.reading.take_all.Goals as goal

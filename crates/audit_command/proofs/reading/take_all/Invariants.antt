@@ -1,6 +1,6 @@
 use Rattle.std.proofs.Common.{◌≡◌, ℕ, ◌+◌, ◌-◌, cond, true, List}
 use Rattle.ann_outside.specs.Causes.{StaysUntold}
-use Rattle.task_input.specs.Reads.{HasGiven}
+use Rattle.cli_words.specs.TaskInput.Reads.{HasGiven}
 use Rattle.audit_command.specs.Intakes.{Took}
 use Rattle.audit_command.proofs.reading.take_all.Given as goal
 

@@ -1,5 +1,5 @@
 use Rattle.std.proofs.Common.{sym, subst}
-use Rattle.talk_serial.specs.Requests.{message_of, name_of}
+use Rattle.host_talk.specs.Request.Requests.{message_of, name_of}
 use Rattle.child_link.specs.Events.{IsAsked}
 use Rattle.child_link.specs.declared.events.Asked.{Asked}
 use Rattle.child_link.proofs.Replying.{asked_so}

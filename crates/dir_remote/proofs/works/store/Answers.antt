@@ -1,15 +1,51 @@
-use Rattle.std.proofs.Common.{◌∙◌, ℕ, List, refl, sym, subst}
+use Rattle.std.proofs.Common.{◌≡◌, ◌∙◌, ℕ, List, refl, sym, subst}
 use Rattle.ann_key.specs.KeyRefs.{text_of}
 use Rattle.dir_remote.specs.Answers.{Works, StoreDoes, is_of_transfer}
 use Rattle.dir_remote.specs.declared.outcome.Outcome.{Outcome}
 use Rattle.dir_remote.specs.declared.outcome.Outcome.TheVariants as O
 use Rattle.dir_remote.specs.Contents.{IsContentName}
 use Rattle.dir_remote.specs.Outcomes.{refusal_of}
-use Rattle.std.specs.Prelude.{is_some}
+use Rattle.std.specs.Prelude.{is_some, Ok, Err}
+use Rattle.ann_outside.specs.Files.{WhereTold, OthersStay, RenameDoes}
+use Rattle.ann_outside.specs.declared.file_desk.DeskError.TheVariants.{Failed}
+use Rattle.dir_remote.specs.Copies.{Spares}
+use Rattle.dir_remote.proofs.SpareLaws.{leaves_all, leaves_by, free_on, free_spares}
 use Rattle.dir_remote.proofs.CauseLaws.{refused_copy, calm_copy, calm_same, calm_cleared}
 use Rattle.dir_remote.proofs.TraceLaws.{store_idle_traced, store_uncopied_traced, store_done_traced, store_unnamed_traced}
 use Rattle.dir_remote.proofs.WorkLaws.{causes_done_behind, causes_behind, causes_cleared, transfer_refused, store_idle, store_uncopied, store_done, store_unnamed, store_cleared}
 use Rattle.dir_remote.proofs.works.store.Goals as goal
+
+pub returns-in-Err-clause-spared : goal.returns-in-Err-clause-spared
+returns-in-Err-clause-spared g c = leaves_all c.args.mark.now c.args.directory.now (text_of c.args.key) (g.D.Desk.told c.args.desk.now).files
+
+pub returns-in-Err-temporary_place-clause-spared : goal.returns-in-Err-temporary_place-clause-spared
+returns-in-Err-temporary_place-clause-spared g c = leaves_all c.args.mark.now c.args.directory.now (text_of c.args.key) (g.D.Desk.told c.args.desk.now).files
+
+pub returns-in-Err-copy-clause-spared : goal.returns-in-Err-copy-clause-spared
+returns-in-Err-copy-clause-spared g c =
+    let S : List ℕ → Type 0 = λ l. WhereTold (g.D.Desk.told c.args.desk.now).files (g.D.Desk.told c.copy.new.desk).files (Spares l (Err c.in-Err-copy.error)) in
+    leaves_by c.args.mark.now c.args.directory.now (text_of c.args.key) c.in-Err-copy.error (g.D.Desk.told c.args.desk.now).files (g.D.Desk.told c.copy.new.desk).files
+    (λ marked. subst S (c.view-beside.ensures ∙ c.in-Ok-temporary_place.ensures) (c.in-Err-copy.ensures.spared (c.is_some-alone.ensures ∙ marked)))
+
+pub returns-in-Ok-rename-clause-spared : goal.returns-in-Ok-rename-clause-spared
+returns-in-Ok-rename-clause-spared g c =
+    let S : List ℕ → Type 0 = λ l. WhereTold (g.D.Desk.told c.args.desk.now).files (g.D.Desk.told c.rename.new.self).files (Spares l (Err Failed)) in
+    leaves_by c.args.mark.now c.args.directory.now (text_of c.args.key) Failed (g.D.Desk.told c.args.desk.now).files (g.D.Desk.told c.rename.new.self).files
+    (λ marked. subst S (c.view-beside.ensures ∙ c.in-Ok-temporary_place.ensures)
+    (free_spares c.view-beside.result.now Failed (g.D.Desk.told c.args.desk.now).files (g.D.Desk.told c.rename.new.self).files
+    (free_on c.view-beside.result.now (RenameDoes c.view-beside.result.now c.view-place.result.now (Ok tt)) (g.D.Desk.told c.args.desk.now).files (g.D.Desk.told c.copy.new.desk).files (g.D.Desk.told c.rename.new.self).files
+    (c.in_default.ensures.spared (c.is_some-alone.ensures ∙ marked)) c.in-Ok-rename.ensures.files)))
+
+pub returns-clause-spared : goal.returns-clause-spared
+returns-clause-spared g c =
+    let S : List ℕ → Type 0 = λ l. WhereTold (g.D.Desk.told c.args.desk.now).files (g.D.Desk.told c.give_up.new.desk).files (Spares l (Err Failed)) in
+    leaves_by c.args.mark.now c.args.directory.now (text_of c.args.key) Failed (g.D.Desk.told c.args.desk.now).files (g.D.Desk.told c.give_up.new.desk).files
+    (λ marked. subst S (c.view-beside.ensures ∙ c.in-Ok-temporary_place.ensures)
+    (free_spares c.view-beside.result.now Failed (g.D.Desk.told c.args.desk.now).files (g.D.Desk.told c.give_up.new.desk).files
+    (free_on c.view-beside.result.now (OthersStay (λ other. other ≡ c.view-beside.result.now)) (g.D.Desk.told c.args.desk.now).files (g.D.Desk.told c.rename.new.self).files (g.D.Desk.told c.give_up.new.desk).files
+    (free_on c.view-beside.result.now (RenameDoes c.view-beside.result.now c.view-place.result.now (Err c.in-Err-rename.error)) (g.D.Desk.told c.args.desk.now).files (g.D.Desk.told c.copy.new.desk).files (g.D.Desk.told c.rename.new.self).files
+    (c.in_default.ensures.spared (c.is_some-alone.ensures ∙ marked)) c.in-Err-rename.ensures.files)
+    c.give_up.ensures.others)))
 
 pub returns-in-Err-clause-works : goal.returns-in-Err-clause-works
 returns-in-Err-clause-works g c =

@@ -3,7 +3,7 @@ use Rattle.std.specs.Prelude.{◌&&◌}
 use Rattle.annex_model.specs.Messages.{HostMessage, is_askable}
 use Rattle.journal_model.specs.Journal.{is_started}
 use Rattle.journal_model.specs.Legality.{may_ask, is_in_turn}
-use Rattle.talk_serial.specs.Requests.{message_of}
+use Rattle.host_talk.specs.Request.Requests.{message_of}
 use Rattle.host_core.specs.Steps.{next_job}
 use Rattle.host_core.proofs.moves.ask_next.Goals as goal
 use Rattle.ann_key.proofs.Booleans.{and_last as and_right}

@@ -1,7 +1,7 @@
 use Rattle.std.proofs.Common.{◌≡◌, ◌∙◌, refl, sym, true}
 use Rattle.annex_model.specs.Talks.{is_aside, said}
 use Rattle.wire_msg.specs.Shown.{remote_shown}
-use Rattle.talk_serial.specs.Requests.{message_of}
+use Rattle.host_talk.specs.Request.Requests.{message_of}
 use Rattle.journal_model.specs.Parts.{part}
 use Rattle.host_core.proofs.Opened.{heard_in}
 use Rattle.host_core.proofs.talks.hear.Goals as goal

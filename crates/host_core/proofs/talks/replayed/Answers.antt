@@ -1,6 +1,6 @@
 use Rattle.annex_model.specs.Messages.{remote_reading}
 use Rattle.annex_model.specs.Talks.{said}
-use Rattle.talk_serial.specs.Requests.{message_of}
+use Rattle.host_talk.specs.Request.Requests.{message_of}
 use Rattle.journal_model.specs.Parts.{part}
 use Rattle.host_core.proofs.Replaying.{no_last}
 use Rattle.host_core.proofs.talks.replayed.Goals as goal

@@ -1,9 +1,9 @@
 use Rattle.std.proofs.Common.{◌≡◌, ◌∙◌, sym, ap, subst, []}
 use Rattle.annex_model.specs.Talks.{said}
 use Rattle.wire_msg.specs.Shown.{host_shown}
-use Rattle.talk_serial.specs.declared.request.Request.{Request}
-use Rattle.talk_serial.specs.Requests.{message_of}
-use Rattle.talk_serial.specs.Hearings.{Follows}
+use Rattle.host_talk.specs.declared.request.request.Request.{Request}
+use Rattle.host_talk.specs.Request.Requests.{message_of}
+use Rattle.host_talk.specs.Request.Hearings.{Follows}
 use Rattle.journal_model.specs.Parts.{part}
 use Rattle.host_core.proofs.Opened.{job_asked, no_text, no_message, asked_same, asked_waits}
 use Rattle.host_core.proofs.Replaying.{nothing_begun}

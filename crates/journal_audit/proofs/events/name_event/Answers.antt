@@ -2,7 +2,7 @@ use Rattle.std.proofs.Common.{ℕ, List, ◌≡◌, ◌∙◌, refl, sym, subst,
 use Rattle.std.specs.Prelude.{Some}
 use Rattle.journal_model.specs.declared.entry.Entry.{Entry}
 use Rattle.journal_model.specs.Legality.{may_ask}
-use Rattle.talk_serial.specs.declared.request.Request.TheVariants.{CheckExport}
+use Rattle.host_talk.specs.declared.request.request.Request.TheVariants.{CheckExport}
 use Rattle.host_core.specs.declared.event.Event.TheVariants.{Ask as AskEvent}
 use Rattle.journal_audit.specs.Replays.{SaysName}
 use Rattle.journal_audit.proofs.Suiting.{no_name, some_name}

@@ -1,7 +1,7 @@
 use Rattle.std.proofs.Common.{Option, refl, subst}
 use Rattle.annex_model.specs.Messages.{host_reading}
 use Rattle.journal_model.specs.Journal.{addressed}
-use Rattle.talk_serial.specs.declared.request.Request.{Request}
+use Rattle.host_talk.specs.declared.request.request.Request.{Request}
 use Rattle.journal_scan.specs.Shown.{entry_shown}
 use Rattle.journal_audit.specs.Replays.{AsksAfter}
 use Rattle.journal_audit.proofs.Suiting.{pairs_elsewhere, pairs_led, pairs_other, pairs_unled}

@@ -1,6 +1,6 @@
 use Rattle.std.proofs.Common.{◌≡◌, ◌++◌, ◌∷◌, false, true, refl}
 use Rattle.std.specs.Prelude.{codes}
-use Rattle.chunk_log.proofs.Uuids.{upper_not_written}
+use Rattle.task_text.proofs.ChunkLogLemmas.Uuids.{upper_not_written}
 use Rattle.journal_model.proofs.Beginning.{check_begins, store_begins, nothing_begins, no_key, no_check_file, no_store_file, eight_times, no_more}
 use Rattle.journal_model.proofs.opening_laws.worked_openings.Goals as goal
 

@@ -1,7 +1,7 @@
 use Rattle.std.proofs.Common.{◌++◌, [], ◌∷◌, List, ℕ, ap, ◌∙◌, arith}
 use Rattle.annex_model.specs.Lines.{text}
-use Rattle.keep_text.specs.KeptFiles.{head}
-use Rattle.keep_text.proofs.Texts.{text_more}
+use Rattle.kept_file.specs.Text.KeptFiles.{head}
+use Rattle.kept_file.proofs.TextLemmas.Texts.{text_more}
 use Rattle.journal_reader.proofs.finish.file_of.Goals as goal
 
 pub loop-line-preserved : goal.loop-line-preserved

@@ -1,6 +1,6 @@
 use Rattle.std.proofs.Common.{◌≡◌, ◌++◌, ◌∷◌, [], take}
 use Rattle.annex_model.specs.Lines.{text}
-use Rattle.keep_text.specs.KeptFiles.{head}
+use Rattle.kept_file.specs.Text.KeptFiles.{head}
 use Rattle.journal_reader.proofs.finish.file_of.Given as goal
 
 abbrev pub invariant-loop-line : goal.invariant-loop-line

@@ -1,10 +1,10 @@
 use Rattle.std.proofs.Common.{◌≡◌, ◌∷◌, ℕ, List, Some, None, ap, subst, ◌∙◌}
 use Rattle.annex_model.specs.Lines.{text}
-use Rattle.chunk_log.specs.declared.note.Note.{Note}
-use Rattle.reg_file.specs.Registers.{nothing_set}
-use Rattle.reg_file.specs.RegLines.{set_by_lines}
-use Rattle.keep_text.specs.KeptFiles.{head, bad_line, behind_head, settings_in, notes_in, registers_of, notes_of, CountsAs, IsFaultOf}
-use Rattle.keep_text.specs.declared.error.KeepError.{KeepError}
+use Rattle.task_text.specs.declared.chunk_log.note.Note.{Note}
+use Rattle.registers.specs.Registers.{nothing_set}
+use Rattle.registers.specs.RegLines.{set_by_lines}
+use Rattle.kept_file.specs.Text.KeptFiles.{head, bad_line, behind_head, settings_in, notes_in, registers_of, notes_of, CountsAs, IsFaultOf}
+use Rattle.kept_file.specs.declared.text.error.KeepError.{KeepError}
 use Rattle.journal_reader.proofs.KeptSaid.{file_cut, file_right}
 use Rattle.journal_reader.proofs.finish.kept_of.Goals as goal
 

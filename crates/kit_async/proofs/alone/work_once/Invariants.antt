@@ -1,5 +1,5 @@
-use Rattle.crew_laws.specs.Pairs.{Pairwise}
-use Rattle.kit_async_roles.specs.Calling.{hand_of}
+use Rattle.ann_key.specs.Pairs.{Pairwise}
+use Rattle.kit_async.specs.Work.Calling.{hand_of}
 use Rattle.kit_async.specs.Turns.{WorkerWent}
 use Rattle.kit_async.proofs.alone.work_once.Given as goal
 

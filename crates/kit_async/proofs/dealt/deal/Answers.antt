@@ -1,5 +1,5 @@
 use Rattle.std.proofs.Common.{◌≡◌, ◌∙◌, arith}
-use Rattle.crew_threads.proofs.Dealing.{all_pushed, dealt}
+use Rattle.threads.proofs.RolesLemmas.Dealing.{all_pushed, dealt}
 use Rattle.kit_async.proofs.Playing.{numbered_more}
 use Rattle.kit_async.proofs.dealt.deal.Goals as goal
 

@@ -1,5 +1,5 @@
 use Rattle.std.proofs.Common.{◌≡◌, ◌≤◌, [], Some, vec_capacity}
-use Rattle.kit_async_roles.proofs.Groups.{ok_some}
+use Rattle.kit_async.proofs.WorkLemmas.Groups.{ok_some}
 use Rattle.kit_async.proofs.played.rooms.Goals as goal
 
 pub returns : goal.returns

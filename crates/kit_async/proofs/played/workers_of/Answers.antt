@@ -1,6 +1,6 @@
 use Rattle.std.proofs.Common.{rules, ◌++◌, ◌∷◌, [], ◌∙◌, ap, map, sym}
 use Rattle.std.proofs.lemmas.List.{map-append}
-use Rattle.crew_threads.specs.BackRole.{role_of}
+use Rattle.threads.specs.Roles.BackRole.{role_of}
 use Rattle.kit_async.proofs.played.workers_of.Goals as goal
 use Rattle.ann_key.proofs.Lists.{all_passed, next_passed}
 

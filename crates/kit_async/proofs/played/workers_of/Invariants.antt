@@ -1,6 +1,6 @@
 use Rattle.std.proofs.Common.{◌≡◌, ◌+◌, ◌≤◌, ◌++◌, map, vec_len, vec_capacity}
 use Rattle.std.specs.Vec.Iter.{into_iter_items, into_iter_len}
-use Rattle.crew_threads.specs.BackRole.{role_of}
+use Rattle.threads.specs.Roles.BackRole.{role_of}
 use Rattle.kit_async.proofs.played.workers_of.Given as goal
 
 abbrev pub invariant-loop-back : goal.invariant-loop-back

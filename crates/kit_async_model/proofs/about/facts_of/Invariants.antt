@@ -1,6 +1,6 @@
 use Rattle.std.proofs.Common.{◌≡◌, ◌++◌, map}
 use Rattle.std.specs.Vec.Iter.{into_iter_items}
-use Rattle.kit_core.specs.declared.describe.Pair.{Pair}
+use Rattle.kit_serve.specs.declared.kit.describe.Pair.{Pair}
 use Rattle.kit_async_model.specs.declared.about.Fact.TheVariants.{Fixed}
 use Rattle.kit_async_model.proofs.about.facts_of.Given as goal
 

@@ -1,6 +1,6 @@
 use Rattle.std.proofs.Common.{◌<◌, ◌≤◌, ℕ, List, Some, not, length, IsTrue, ap, ◌∙◌, subst}
 use Rattle.annex_model.specs.Lines.{has_newline}
-use Rattle.kit_core.proofs.FirstLines.{before_whole}
+use Rattle.kit_serve.proofs.KitLemmas.FirstLines.{before_whole}
 use Rattle.wire_line.specs.HeldBytes.{has_line}
 use Rattle.kit_serve.specs.Voices.{Hears}
 use Rattle.kit_memory.proofs.Children.{heard_grows, no_end, stays_grown}

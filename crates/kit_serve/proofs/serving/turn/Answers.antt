@@ -1,6 +1,6 @@
 use Rattle.std.proofs.Common.{◌<◌, ◌≤◌, ℕ, List, not, length, IsTrue, refl, ap, ◌∙◌, subst}
 use Rattle.annex_model.specs.Lines.{has_newline}
-use Rattle.kit_core.proofs.FirstLines.{before_whole}
+use Rattle.kit_serve.proofs.KitLemmas.FirstLines.{before_whole}
 use Rattle.wire_line.specs.HeldBytes.{has_line}
 use Rattle.kit_serve.specs.Voices.{Hears}
 use Rattle.kit_serve.proofs.Talks.{turned_line, turned_read, heard_goes, heard_ends, long_ends, read_goes, read_ends}

@@ -1,5 +1,5 @@
 use Rattle.std.proofs.Common.{◌<◌, length, sym, vec_len, ◌∙◌, arith}
-use Rattle.talk_serial.specs.Requests.{message_of}
+use Rattle.host_talk.specs.Request.Requests.{message_of}
 use Rattle.mirror_children.proofs.Answering.{all_refused, some_left}
 use Rattle.mirror_children.proofs.Fronts.{within}
 use Rattle.mirror_children.proofs.asking.ask_all.Goals as goal

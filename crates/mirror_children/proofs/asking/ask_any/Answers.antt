@@ -1,5 +1,5 @@
 use Rattle.std.proofs.Common.{length, sym, vec_len, ◌∙◌}
-use Rattle.talk_serial.specs.Requests.{message_of}
+use Rattle.host_talk.specs.Request.Requests.{message_of}
 use Rattle.mirror_children.proofs.Answering.{any_refused, any_yes, some_left}
 use Rattle.mirror_children.proofs.asking.ask_any.Goals as goal
 

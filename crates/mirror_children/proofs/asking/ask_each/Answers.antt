@@ -1,7 +1,7 @@
 use Rattle.std.proofs.Common.{◌++◌, ◌∷◌, [], ◌≡◌, ◌==◌, ◌+◌, not, false, true, length, ap, sym, ◌∙◌, arith, ℕ}
 use Rattle.std.specs.Prelude.{◌||◌}
 use Rattle.std.proofs.lemmas.Result.{err_from_is_err_and}
-use Rattle.talk_serial.specs.Requests.{message_of}
+use Rattle.host_talk.specs.Request.Requests.{message_of}
 use Rattle.mirror_children.specs.Asking.{goes_while}
 use Rattle.mirror_children.proofs.Fronts.{asked_front, asked_to, asks_err, at_first, at_next, goes_more, last_either, left_front}
 use Rattle.mirror_children.proofs.asking.ask_each.Goals as goal

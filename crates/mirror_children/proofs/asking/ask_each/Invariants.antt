@@ -1,4 +1,4 @@
-use Rattle.talk_serial.specs.Requests.{message_of}
+use Rattle.host_talk.specs.Request.Requests.{message_of}
 use Rattle.mirror_children.specs.Asking.{goes_while}
 use Rattle.mirror_children.proofs.Fronts.{IsAt}
 use Rattle.mirror_children.proofs.asking.ask_each.Given as goal

@@ -1,6 +1,6 @@
 use Rattle.std.proofs.Common.{length, refl, subst}
 use Rattle.mirror_children.proofs.Answering.{none_left, some_left}
-use Rattle.mirror_starts.specs.Outcomes.{mirror_value, MirrorValue, StartsAs}
+use Rattle.mirror_remote.specs.Starts.Outcomes.{mirror_value, MirrorValue, StartsAs}
 use Rattle.mirror_remote.specs.Mirrors.{IsSoundMirror}
 use Rattle.mirror_remote.proofs.Keeping.{kept_sound, sound_mirror}
 use Rattle.mirror_remote.proofs.Prepared.{none_begins, standing_begins}

@@ -1,4 +1,4 @@
-use Rattle.mirror_starts.proofs.Stopping.{linked_serving}
+use Rattle.mirror_remote.proofs.StartsLemmas.Stopping.{linked_serving}
 use Rattle.mirror_remote.proofs.mirror.give_up.Goals as goal
 
 pub stop_all-requires-clause-linked : goal.stop_all-requires-clause-linked

@@ -1,7 +1,7 @@
 use Rattle.std.proofs.Common.{◌≡◌, refl, sym, ap, subst, ◌∙◌}
 use Rattle.std.specs.Prelude.{IfSome}
-use Rattle.kit_core.specs.declared.call.Call.{Call}
-use Rattle.kit_core.specs.Stages.{KitValue}
+use Rattle.kit_serve.specs.declared.kit.call.Call.{Call}
+use Rattle.kit_serve.specs.Kit.Stages.{KitValue}
 use Rattle.wire_msg.specs.Shown.{host_shown}
 use Rattle.pair_kit.specs.Cues.{CueValue}
 use Rattle.pair_kit.proofs.Kits.{steps_by}

@@ -1,11 +1,11 @@
 use Rattle.std.proofs.Common.{◌∙◌, sym, subst}
 use Rattle.std.specs.Prelude.{All}
-use Rattle.crew_worker.specs.Works.{AreTasks}
+use Rattle.crew_work.specs.Worker.Works.{AreTasks}
 use Rattle.rehearse_command.specs.Rehearsals.{IsQuiet}
 use Rattle.rehearse_command.proofs.Faultless.{faultless}
 use Rattle.rehearse_command.proofs.Running.{has_run, run_of}
 use Rattle.rehearse_command.proofs.rehearsing.do_tasks.Goals as goal
-use Rattle.crew_worker.proofs.Across.{all_tasks}
+use Rattle.crew_work.proofs.WorkerLemmas.Across.{all_tasks}
 
 pub run_jobs-bench-requires-clause-tasks : goal.run_jobs-bench-requires-clause-tasks
 run_jobs-bench-requires-clause-tasks g c κs within =

@@ -1,5 +1,5 @@
 use Rattle.std.proofs.Common.{[], ◌∷◌, ◌≡◌, ◌≤◌, true, vec_len, vec_capacity}
-use Rattle.child_start.specs.Cores.{IsSameCore}
+use Rattle.child_life.specs.Start.Cores.{IsSameCore}
 use Rattle.run_starts.specs.Stints.{Kept}
 use Rattle.run_children.specs.Starts.{JobsBetween}
 use Rattle.run_children.proofs.alone.start_all.Given as goal

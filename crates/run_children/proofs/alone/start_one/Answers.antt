@@ -2,9 +2,9 @@ use Rattle.ann_outside.specs.Told.{DeskTold, ProgramsTold}
 use Rattle.std.proofs.Common.{◌≡◌, ◌∙◌, List, [], ◌∷◌, Bool, false, true, inl, refl, sym, ap, subst, arith, length}
 use Rattle.std.specs.Prelude.{is_some}
 use Rattle.annex_model.specs.Lines.{has_newline}
-use Rattle.child_end.proofs.Held.{lone_held}
+use Rattle.child_life.proofs.EndLemmas.Held.{lone_held}
 use Rattle.child_link.specs.Wires.{WireValue}
-use Rattle.crew_worker.specs.Works.{CanWork}
+use Rattle.crew_work.specs.Worker.Works.{CanWork}
 use Rattle.journal_model.specs.declared.opening.Opening.{Opening}
 use Rattle.run_starts.specs.Stints.{HasServed}
 use Rattle.run_children.specs.Servings.{FirstServed}

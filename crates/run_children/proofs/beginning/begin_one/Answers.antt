@@ -6,8 +6,8 @@ use Rattle.journal_model.specs.declared.answer.Answer.TheVariants.{StartFault}
 use Rattle.journal_model.specs.declared.entry.What.TheVariants.{Start, NoStart}
 use Rattle.journal_model.specs.declared.opening.Opening.{Opening}
 use Rattle.journal_model.specs.Legality.{Legal}
-use Rattle.child_end.proofs.Held.{lone_held}
-use Rattle.crew_worker.specs.KnownLayouts.{IsBook}
+use Rattle.child_life.proofs.EndLemmas.Held.{lone_held}
+use Rattle.crew_work.specs.Worker.KnownLayouts.{IsBook}
 use Rattle.run_starts.specs.Stints.{AnswersOne, TurnsAway, next_child}
 use Rattle.run_starts.proofs.Leaving.{starts_child, starts_none}
 use Rattle.run_starts.proofs.Stinting.{greeting_rests, greeting_started}

@@ -1,7 +1,7 @@
 use Rattle.std.proofs.Common.{◌≡◌, map, sym, subst, take, true}
 use Rattle.journal_model.specs.Journal.{is_started}
-use Rattle.crew_tagged.specs.Tagged.{link_of}
-use Rattle.crew_laws.specs.Laws.{children_of}
+use Rattle.crew_rounds.specs.Tagged.Tagged.{link_of}
+use Rattle.crew_work.specs.Laws.Laws.{children_of}
 use Rattle.run_starts.proofs.Ending.{cores_both}
 use Rattle.run_children.proofs.PoolLinks.{closes_one_more, closing_may}
 use Rattle.run_children.proofs.pooling.close_links.Goals as goal

@@ -1,7 +1,7 @@
 use Rattle.std.proofs.Common.{map, take}
-use Rattle.child_start.specs.Cores.{IsSameCore}
-use Rattle.crew_tagged.specs.Tagged.{link_of}
-use Rattle.crew_laws.specs.Laws.{children_of}
+use Rattle.child_life.specs.Start.Cores.{IsSameCore}
+use Rattle.crew_rounds.specs.Tagged.Tagged.{link_of}
+use Rattle.crew_work.specs.Laws.Laws.{children_of}
 use Rattle.run_children.specs.PoolSteps.{ClosesAll}
 use Rattle.run_children.proofs.pooling.close_links.Given as goal
 

@@ -1,11 +1,11 @@
 use Rattle.std.proofs.Common.{◌≡◌, ◌++◌, ◌∙◌, List, map, sym, ap, arith, length, length-append}
 use Rattle.std.specs.Prelude.{reverse}
 use Rattle.std.proofs.lemmas.List.{length-map, length-reverse}
-use Rattle.crew_tagged.specs.Tagged.{link_of}
+use Rattle.crew_rounds.specs.Tagged.Tagged.{link_of}
 use Rattle.run_children.proofs.PoolServing.{round_beside}
 use Rattle.run_children.proofs.pooling.round_links.Goals as goal
-use Rattle.crew_pool.proofs.Backs.{links_still as link_same}
-use Rattle.crew_tagged.proofs.Closing.{if_done, if_kept}
+use Rattle.crew_rounds.proofs.PoolLemmas.Backs.{links_still as link_same}
+use Rattle.crew_rounds.proofs.TaggedLemmas.Closing.{if_done, if_kept}
 
 pub put_back-requires : goal.put_back-requires
 put_back-requires g c = record {

@@ -4,10 +4,10 @@ use Rattle.journal_model.specs.declared.entry.Entry.{Entry}
 use Rattle.journal_model.specs.declared.opening.Opening.{Opening}
 use Rattle.journal_model.specs.Journal.{is_started}
 use Rattle.journal_model.specs.Legality.{Legal}
-use Rattle.child_end.specs.Wires.{IsHeld}
-use Rattle.crew_tagged.specs.Tagged.{link_of}
-use Rattle.crew_laws.specs.Laws.{children_of}
-use Rattle.crew_laws.specs.Rounds.{IsAtRest, LinkValue}
+use Rattle.child_life.specs.End.Wires.{IsHeld}
+use Rattle.crew_rounds.specs.Tagged.Tagged.{link_of}
+use Rattle.crew_work.specs.Laws.Laws.{children_of}
+use Rattle.crew_work.specs.Laws.Rounds.{IsAtRest, LinkValue}
 use Rattle.run_children.specs.PoolSteps.{ClosesAll}
 use Rattle.run_children.proofs.Ends.{by_done, by_kept, legal_kept}
 use Rattle.run_children.proofs.PoolLinks.{all_unmapped}

@@ -1,5 +1,5 @@
 use Rattle.std.proofs.Common.{◌<◌, ℕ, subst}
-use Rattle.crew_tagged.specs.Tagged.{link_of}
+use Rattle.crew_rounds.specs.Tagged.Tagged.{link_of}
 use Rattle.run_children.proofs.PoolServing.{first_keeps, first_same, first_works}
 use Rattle.run_children.proofs.pooling.serve_first.Goals as goal
 

@@ -3,9 +3,9 @@ use Rattle.std.specs.Prelude.{All}
 use Rattle.journal_model.specs.declared.opening.Opening.{Opening}
 use Rattle.journal_model.specs.Journal.{is_started}
 use Rattle.journal_model.specs.Legality.{Legal}
-use Rattle.crew_tagged.specs.Tagged.{link_of}
-use Rattle.crew_laws.specs.Laws.{children_of}
-use Rattle.crew_laws.specs.Rounds.{LinkValue}
+use Rattle.crew_rounds.specs.Tagged.Tagged.{link_of}
+use Rattle.crew_work.specs.Laws.Laws.{children_of}
+use Rattle.crew_work.specs.Laws.Rounds.{LinkValue}
 use Rattle.run_children.specs.PoolSteps.{ClosesAll}
 use Rattle.run_children.proofs.PoolLinks.{all_unmapped}
 use Rattle.run_children.proofs.PoolServing.{alone_calm, alone_links, alone_started, held_then}

@@ -5,12 +5,12 @@ use Rattle.std.proofs.lemmas.List.Elements.{All-map}
 use Rattle.journal_model.specs.declared.opening.Opening.{Opening}
 use Rattle.journal_model.specs.Journal.{is_started}
 use Rattle.journal_model.specs.Legality.{Legal}
-use Rattle.child_end.specs.Wires.{IsHeld}
-use Rattle.crew_tagged.specs.Tagged.{link_of}
-use Rattle.crew_laws.specs.Laws.{children_of}
-use Rattle.crew_laws.specs.Rounds.{LinkValue}
+use Rattle.child_life.specs.End.Wires.{IsHeld}
+use Rattle.crew_rounds.specs.Tagged.Tagged.{link_of}
+use Rattle.crew_work.specs.Laws.Laws.{children_of}
+use Rattle.crew_work.specs.Laws.Rounds.{LinkValue}
 use Rattle.run_starts.proofs.Ending.{cores_both}
-use Rattle.run_pools.specs.Pools.{seat_value}
+use Rattle.run_children.specs.PoolChildren.Pools.{seat_value}
 use Rattle.run_children.specs.Pools.{PoolServed}
 use Rattle.run_children.specs.PoolSteps.{ClosesAll, ServesLinks, StarvedLinks}
 use Rattle.run_children.proofs.PoolEnding.{closes_alone, if_ok, laid_alone, links_end, pool_serving, pool_started, roomless_may, roomless_pool, serving_back, starved_ends}

@@ -1,6 +1,6 @@
 use Rattle.std.proofs.Common.{◌∙◌, sym, ap, arith, refl}
-use Rattle.crew_tagged.specs.Tagged.{link_of}
-use Rattle.run_pools.specs.Pools.{seat_value}
+use Rattle.crew_rounds.specs.Tagged.Tagged.{link_of}
+use Rattle.run_children.specs.PoolChildren.Pools.{seat_value}
 use Rattle.run_children.proofs.PoolLinks.{laying_begins, laying_ends, laying_over, laying_served, stays_same}
 use Rattle.run_children.proofs.pooling.settle.Goals as goal
 use Rattle.ann_outside.proofs.Across.{stays_both}

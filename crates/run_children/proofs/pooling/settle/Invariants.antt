@@ -1,7 +1,7 @@
 use Rattle.std.proofs.Common.{◌≡◌, ◌≤◌, ◌+◌, vec_len, vec_capacity}
 use Rattle.ann_outside.specs.Causes.{Stays}
-use Rattle.crew_tagged.specs.Tagged.{link_of}
-use Rattle.run_pools.specs.Pools.{seat_value}
+use Rattle.crew_rounds.specs.Tagged.Tagged.{link_of}
+use Rattle.run_children.specs.PoolChildren.Pools.{seat_value}
 use Rattle.run_children.proofs.PoolLinks.{Laying}
 use Rattle.run_children.proofs.pooling.settle.Given as goal
 

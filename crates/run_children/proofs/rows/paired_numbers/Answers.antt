@@ -2,7 +2,7 @@ use Rattle.std.proofs.Common.{◌≡◌, ℕ, List, refl, true, arith}
 use Rattle.journal_model.specs.declared.entry.What.{What}
 use Rattle.journal_model.specs.declared.entry.Entry.{Entry}
 use Rattle.journal_model.specs.Journal.{is_started}
-use Rattle.crew_laws.specs.Posts.{makes}
+use Rattle.crew_work.specs.Laws.Posts.{makes}
 use Rattle.run_children.specs.Posts.{IsPosted, are_paired, post_over}
 use Rattle.run_children.proofs.rows.paired_numbers.Goals as goal
 

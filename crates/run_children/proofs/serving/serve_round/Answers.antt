@@ -3,9 +3,9 @@ use Rattle.std.proofs.lemmas.List.{length-map}
 use Rattle.std.specs.List.{range_with_len}
 use Rattle.journal_model.specs.Journal.{is_started}
 use Rattle.child_link.specs.Alone.{Closes}
-use Rattle.crew_laws.specs.Laws.{GoesOn}
-use Rattle.crew_tagged.specs.TaggedRounds.{TaggedLeaves}
-use Rattle.crew_tagged.specs.Tagged.{link_of}
+use Rattle.crew_work.specs.Laws.Laws.{GoesOn}
+use Rattle.crew_rounds.specs.Tagged.TaggedRounds.{TaggedLeaves}
+use Rattle.crew_rounds.specs.Tagged.Tagged.{link_of}
 use Rattle.run_children.proofs.Ends.{alone_kept, by_done, by_kept, legal_kept, round_as_many, round_closes, round_held, round_started, starved_closes, starved_held, starved_may}
 use Rattle.run_children.proofs.serving.serve_round.Goals as goal
 

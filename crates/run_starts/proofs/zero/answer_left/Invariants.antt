@@ -1,7 +1,7 @@
 use Rattle.std.proofs.Common.{◌≡◌, ℕ, false}
 use Rattle.journal_model.specs.Legality.{Legal, is_busy}
 use Rattle.journal_model.specs.Room.{claims_left}
-use Rattle.child_start.specs.Cores.{IsSameCore}
+use Rattle.child_life.specs.Start.Cores.{IsSameCore}
 use Rattle.run_starts.specs.Rounds.{left_answer, unserved_answer}
 use Rattle.run_starts.proofs.Zeros.{HasLeft}
 use Rattle.run_starts.proofs.zero.answer_left.Given as goal

@@ -1,6 +1,6 @@
 use Rattle.std.proofs.Common.{ap, map, refl, sym}
 use Rattle.ann_key.specs.KeyRefs.{text_of}
-use Rattle.child_end.specs.Outsides.{OutsideValue}
+use Rattle.child_life.specs.End.Outsides.{OutsideValue}
 use Rattle.special_cli.proofs.Checked.{has_checked}
 use Rattle.special_cli.proofs.check.check_key.Goals as goal
 

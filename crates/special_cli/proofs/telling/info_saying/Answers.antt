@@ -2,7 +2,7 @@ use Rattle.std.proofs.Common.{ℕ, List, [], Option, subst}
 use Rattle.std.specs.Prelude.{option_map}
 use Rattle.ann_key.specs.KeyRefs.{text_of}
 use Rattle.annex_model.specs.Lines.{text}
-use Rattle.info_command.specs.Infos.{info_lines}
+use Rattle.info_and_init.specs.Info.Infos.{info_lines}
 use Rattle.special_cli.specs.Sayings.{Says, SaysEnd}
 use Rattle.special_cli.specs.Tells.{IsPrintedOr}
 use Rattle.special_cli.specs.declared.end.End.TheVariants.{Informed}

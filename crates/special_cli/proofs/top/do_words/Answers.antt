@@ -1,8 +1,8 @@
 use Rattle.std.proofs.Common.{refl}
 use Rattle.cli_words.specs.Values.{texts_of}
 use Rattle.cli_words.specs.Words.{command_of}
-use Rattle.run_command.specs.Inputs.{input_flow}
-use Rattle.special_cli.proofs.Calling.{runs_nothing}
+use Rattle.run_and_check.specs.Run.Inputs.{input_flow}
+use Rattle.special_cli.proofs.NoMemory.{runs_nothing}
 use Rattle.special_cli.proofs.Written.{words_written}
 use Rattle.special_cli.proofs.top.do_words.Goals as goal
 

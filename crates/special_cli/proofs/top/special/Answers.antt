@@ -1,6 +1,6 @@
 use Rattle.cli_words.specs.Values.{texts_of}
 use Rattle.cli_words.proofs.Ranging.{command_ranged}
-use Rattle.child_end.specs.Outsides.{OutsideValue}
+use Rattle.child_life.specs.End.Outsides.{OutsideValue}
 use Rattle.special_cli.specs.Calls.{world}
 use Rattle.special_cli.specs.Wishes.{wish_of}
 use Rattle.special_cli.proofs.Calling.{called, done, few}

@@ -5,7 +5,7 @@ use Rattle.std.proofs.Common.{Some, None}
 use Rattle.child_link.specs.Asks.{HeardOut}
 use Rattle.child_link.proofs.Settling.{none_unheard, unheard_out}
 use Rattle.child_link.proofs.Writings.{lone_on, lone_asked}
-use Rattle.talk_serial.specs.Requests.{message_of, name_of}
+use Rattle.host_talk.specs.Request.Requests.{message_of, name_of}
 use Rattle.child_link.specs.declared.events.Asked.TheVariants.{Job, Lost, Odd}
 use Rattle.child_link.proofs.Linked.{link_asks}
 use Rattle.child_link.proofs.lone.Lone.ask.Goals as goal

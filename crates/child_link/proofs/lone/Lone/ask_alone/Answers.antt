@@ -1,6 +1,6 @@
 use Rattle.std.proofs.lemmas.Result.{IfOk-weaker, on_err_weaker}
 use Rattle.child_link.proofs.Solo.{still_alone, asked_alone, keeps_alone}
-use Rattle.talk_serial.specs.Requests.{message_of, name_of}
+use Rattle.host_talk.specs.Request.Requests.{message_of, name_of}
 use Rattle.child_link.proofs.lone.Lone.ask_alone.Goals as goal
 
 pub returns-clause-asked : goal.returns-clause-asked

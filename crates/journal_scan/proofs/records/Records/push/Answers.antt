@@ -1,6 +1,6 @@
 use Rattle.std.proofs.Common.{◌≡◌, ◌+◌, ◌-◌, ◌<◌, ◌≤◌, List, [], ◌∷◌, ◌++◌, length, map, sym, ap, subst, vec_capacity, ◌∙◌, arith}
 use Rattle.std.proofs.lemmas.List.{map-append}
-use Rattle.host_tables.specs.Lines.{total}
+use Rattle.journal_scan.specs.Tables.Lines.{total}
 use Rattle.journal_model.specs.Journal.{line_bytes}
 use Rattle.journal_model.specs.declared.entry.Entry.{Entry}
 use Rattle.journal_scan.specs.declared.record.Record.{Record}

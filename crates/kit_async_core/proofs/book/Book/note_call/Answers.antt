@@ -18,8 +18,8 @@ note_in-requires c =
     let most : c.most_calls-most.result ≡ most_calls c.args.setup.now k.job = c.most_calls-most.ensures ∙ ap (most_calls c.args.setup.now) read in
     omega (arith, calls, most, k.few, c.most_calls-most.type_inv)
 
-pub returns : goal.returns
-returns c =
+pub returns-clause-noted : goal.returns-clause-noted
+returns-clause-noted c =
     let k = c.requires.is in
     let i = c.self.inside in
     let setup = c.args.setup.now in

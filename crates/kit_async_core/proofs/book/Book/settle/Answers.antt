@@ -13,33 +13,33 @@ pub note_call-requires-clause-room : goal.note_call-requires-clause-room
 note_call-requires-clause-room c =
     let old = c.args.self.now in
     let mid = c.begin_answer-answer.new.self in
-    let b = begun_is old mid c.args.at c.args.said c.begin_answer-answer.result c.begin_answer-answer.ensures in
+    let b = begun_is old mid c.args.at c.args.said c.begin_answer-answer.result c.begin_answer-answer.ensures.begun in
     omega (arith, some_room c.args.setup.now old c.args.remote c.args.said c.args.at c.requires.is c.requires.room, b.room)
 
 pub push-requires : goal.push-requires
 push-requires c =
     let old = c.args.self.now in
     let mid = c.begin_answer-answer.new.self in
-    let b = begun_is old mid c.args.at c.args.said (Some c.in-Some.line) c.in-Some.ensures in
-    omega (arith, some_room c.args.setup.now old c.args.remote c.args.said c.args.at c.requires.is c.requires.room, b.room, c.note_call.ensures.room, ap (λ (v : BookValue). v.room) c.self-in-Some.view_is)
+    let b = begun_is old mid c.args.at c.args.said (Some c.in-Some.line) c.in-Some.ensures.begun in
+    omega (arith, some_room c.args.setup.now old c.args.remote c.args.said c.args.at c.requires.is c.requires.room, b.room, c.note_call.ensures.noted.room, ap (λ (v : BookValue). v.room) c.self-in-Some.view_is)
 
 pub close_job-requires : goal.close_job-requires
 close_job-requires c =
     let old = c.args.self.now in
     let mid = c.begin_answer-answer.new.self in
-    let b = begun_is old mid c.args.at c.args.said (Some c.in-Some.line) c.in-Some.ensures in
-    let within = still_within c.args.setup.now old mid c.note_call.new.self c.args.remote c.args.said c.args.at c.requires.is b c.note_call.ensures in
+    let b = begun_is old mid c.args.at c.args.said (Some c.in-Some.line) c.in-Some.ensures.begun in
+    let within = still_within c.args.setup.now old mid c.note_call.new.self c.args.remote c.args.said c.args.at c.requires.is b c.note_call.ensures.noted in
     omega (arith, within, ap (λ (v : BookValue). length v.stands.jobs) c.self-in-Some.view_is)
 
 pub push-requires-in-None : goal.push-requires-in-None
 push-requires-in-None c =
     let old = c.args.self.now in
     let mid = c.begin_answer-answer.new.self in
-    let b = begun_is old mid c.args.at c.args.said None c.in-None.ensures in
-    omega (arith, some_room c.args.setup.now old c.args.remote c.args.said c.args.at c.requires.is c.requires.room, b.room, c.note_call.ensures.room, ap (λ (v : BookValue). v.room) c.self-in-None.view_is)
+    let b = begun_is old mid c.args.at c.args.said None c.in-None.ensures.begun in
+    omega (arith, some_room c.args.setup.now old c.args.remote c.args.said c.args.at c.requires.is c.requires.room, b.room, c.note_call.ensures.noted.room, ap (λ (v : BookValue). v.room) c.self-in-None.view_is)
 
-pub returns-in-Some : goal.returns-in-Some
-returns-in-Some c =
+pub returns-in-Some-clause-took : goal.returns-in-Some-clause-took
+returns-in-Some-clause-took c =
     let setup = c.args.setup.now in
     let old = c.args.self.now in
     let mid = c.begin_answer-answer.new.self in
@@ -48,19 +48,19 @@ returns-in-Some c =
     let line : List ℕ = c.in-Some.line in
     let n : ℕ = c.index.result.now.number in
     let settled : settles setup k.job c.args.said ≡ true = subst (λ (o : Option Job). IfSome o (λ job. settles setup job c.args.said ≡ true)) k.there c.requires.settles in
-    let b = begun_is old mid place c.args.said (Some line) c.in-Some.ensures in
+    let b = begun_is old mid place c.args.said (Some line) c.in-Some.ensures.begun in
     let there : slice_get c.self.inside.jobs.items place ≡ Some k.job =
     ap (λ (v : BookValue). slice_get v.stands.jobs place) c.self.view_is ∙ ap (λ (js : List Job). slice_get js place) b.jobs ∙ k.there in
     let number : n ≡ k.job.number = ap (λ (j : Job). j.number) (read_is c.self.inside.jobs.items place k.job c.index.result.now there c.index.ensures) in
     inl (answered_settles setup old mid c.note_call.new.self _ c.args.remote c.args.said place n line c.requires.apart k c.requires.live settled number
-    c.in-Some.ensures c.note_call.ensures
+    c.in-Some.ensures.begun c.note_call.ensures.noted
     (c.close_job.ensures.journal ∙ c.push.ensures.entries ∙ ap (λ (v : BookValue). v.journal ++ Say n line ∷ []) c.self-in-Some.view_is)
     (subst (λ (v : BookValue). IfSome (slice_get v.stands.jobs place) (λ job. c.close_job.new.self.stands ≡ record v.stands { due = []; told = told_by v.stands.prepared job v.stands.told; jobs = remove v.stands.jobs place }))
     c.self-in-Some.view_is c.close_job.ensures.stands)
     (omega (arith, c.close_job.ensures.room, c.push.ensures.room, ap (λ (v : BookValue). v.room) c.self-in-Some.view_is)))
 
-pub returns-in-None : goal.returns-in-None
-returns-in-None c =
+pub returns-in-None-clause-took : goal.returns-in-None-clause-took
+returns-in-None-clause-took c =
     let setup = c.args.setup.now in
     let old = c.args.self.now in
     let mid = c.begin_answer-answer.new.self in
@@ -68,7 +68,7 @@ returns-in-None c =
     let i = c.self-in-None.inside in
     let settled : settles setup k.job c.args.said ≡ true = subst (λ (o : Option Job). IfSome o (λ job. settles setup job c.args.said ≡ true)) k.there c.requires.settles in
     inr (lacking_settles setup old mid c.note_call.new.self _ c.args.remote c.args.said c.args.at c.requires.apart k c.requires.live settled
-    c.in-None.ensures c.note_call.ensures
+    c.in-None.ensures.begun c.note_call.ensures.noted
     (c.push-in-None.ensures.entries ∙ ap (λ (v : BookValue). v.journal ++ Lack ∷ []) c.self-in-None.view_is)
     (ap (λ (v : BookValue). record v.stands { due = []; over = true }) c.self-in-None.view_is)
     (omega (arith, c.push-in-None.ensures.room, ap (λ (v : BookValue). v.room) c.self-in-None.view_is)))

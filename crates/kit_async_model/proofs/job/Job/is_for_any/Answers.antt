@@ -1,6 +1,6 @@
 use Rattle.std.proofs.Common.{◌≡◌, sym, ap, true, false, Bool, rules, tests, refl}
 use Rattle.std.specs.Prelude.{is_some, not, ◌&&◌}
-use Rattle.kit_core.specs.Kits.{asked_by}
+use Rattle.kit_serve.specs.Kit.Kits.{asked_by}
 use Rattle.kit_async_model.specs.Jobs.{due_in, is_making_ready}
 use Rattle.kit_async_model.proofs.Dues.{not_asked, some_asked}
 use Rattle.kit_async_model.proofs.job.Job.is_for_any.Goals as goal

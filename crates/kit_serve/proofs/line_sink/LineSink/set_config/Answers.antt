@@ -1,8 +1,8 @@
 use Rattle.std.proofs.Common.{ap, ◌∙◌}
 use Rattle.std.proofs.lemmas.Bool.{not-true}
 use Rattle.annex_model.specs.Lines.{has_newline}
-use Rattle.kit_core.proofs.FirstLines.{before_whole}
-use Rattle.kit_core.proofs.KeyLines.{fields_free}
+use Rattle.kit_serve.proofs.KitLemmas.FirstLines.{before_whole}
+use Rattle.kit_serve.proofs.KitLemmas.KeyLines.{fields_free}
 use Rattle.kit_serve.proofs.line_sink.LineSink.set_config.Goals as goal
 
 pub tell-requires-clause-line : goal.tell-requires-clause-line

@@ -1,8 +1,8 @@
 use Rattle.std.proofs.Common.{ap, ◌∙◌}
 use Rattle.ann_key.specs.KeyRefs.{text_of, parts_of}
 use Rattle.annex_model.specs.Lines.{has_newline}
-use Rattle.kit_core.proofs.FirstLines.{before_whole}
-use Rattle.kit_core.proofs.KeyLines.{fields_free, read_free}
+use Rattle.kit_serve.proofs.KitLemmas.FirstLines.{before_whole}
+use Rattle.kit_serve.proofs.KitLemmas.KeyLines.{fields_free, read_free}
 use Rattle.kit_serve.proofs.line_sink.LineSink.set_state.Goals as goal
 
 pub tell-requires-clause-line : goal.tell-requires-clause-line

@@ -1,6 +1,6 @@
 use Rattle.std.proofs.Common.{ap, sym, subst, ◌∙◌, refl}
 use Rattle.std.specs.Prelude.{IfOk}
-use Rattle.talk_serial.specs.Requests.{message_of}
+use Rattle.host_talk.specs.Request.Requests.{message_of}
 use Rattle.journal_model.specs.Journal.{is_started}
 use Rattle.mirror_children.specs.Children.{child_value, ChildValue, IsServing}
 use Rattle.mirror_children.specs.Rule.{IsAsked}

@@ -1,9 +1,9 @@
 use Rattle.std.proofs.Common.{map, refl, subst, sym}
-use Rattle.mirror_starts.specs.Stops.{AreWired}
+use Rattle.mirror_remote.specs.Starts.Stops.{AreWired}
 use Rattle.mirror_remote.specs.Mirrors.{EndedValue, Finishes}
-use Rattle.mirror_starts.specs.Outcomes.{MirrorValue}
+use Rattle.mirror_remote.specs.Starts.Outcomes.{MirrorValue}
 use Rattle.mirror_remote.proofs.Keeping.{finishes}
-use Rattle.mirror_starts.proofs.Stopping.{linked_serving}
+use Rattle.mirror_remote.proofs.StartsLemmas.Stopping.{linked_serving}
 use Rattle.mirror_remote.proofs.mirror.MirrorRemote.finish.Goals as goal
 
 pub stop_all-requires-clause-linked : goal.stop_all-requires-clause-linked

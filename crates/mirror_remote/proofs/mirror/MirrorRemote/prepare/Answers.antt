@@ -1,8 +1,8 @@
 use Rattle.std.proofs.Common.{◌≡◌, ◌∙◌, ℕ, List, None, Some, subst}
 use Rattle.std.proofs.lemmas.Result.{err_from_is_err_and}
-use Rattle.mirror_plan.specs.declared.plan.Plans.{Plans}
-use Rattle.mirror_plan.specs.Plans.{ReadsAs}
-use Rattle.mirror_plan.specs.Settings.{first_bad, plans_in}
+use Rattle.mirror_children.specs.declared.plan.plan.Plans.{Plans}
+use Rattle.mirror_children.specs.Plan.Plans.{ReadsAs}
+use Rattle.mirror_children.specs.Plan.Settings.{first_bad, plans_in}
 use Rattle.mirror_remote.specs.Mirrors.{Prepares}
 use Rattle.mirror_remote.proofs.Prepared.{prepares_bad, prepares_cut, prepares_good}
 use Rattle.mirror_remote.proofs.mirror.MirrorRemote.prepare.Goals as goal

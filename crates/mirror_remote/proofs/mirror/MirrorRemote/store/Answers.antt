@@ -2,10 +2,10 @@ use Rattle.std.proofs.Common.{ap, subst, refl, true}
 use Rattle.std.proofs.lemmas.Result.{err_from_is_err_and}
 use Rattle.ann_key.specs.KeyRefs.{text_of}
 use Rattle.annex_model.specs.Messages.{Transfer}
-use Rattle.talk_serial.specs.Requests.{message_of}
+use Rattle.host_talk.specs.Request.Requests.{message_of}
 use Rattle.mirror_children.specs.Rule.{is_done, all_said}
-use Rattle.mirror_starts.specs.Outcomes.{MirrorValue}
-use Rattle.mirror_starts.proofs.Stopping.{sound_children}
+use Rattle.mirror_remote.specs.Starts.Outcomes.{MirrorValue}
+use Rattle.mirror_remote.proofs.StartsLemmas.Stopping.{sound_children}
 use Rattle.mirror_remote.specs.Mirrors.{IsSoundMirror}
 use Rattle.mirror_remote.proofs.Calls.{nobody_asked, ruled}
 use Rattle.mirror_remote.proofs.Keeping.{kept_by_rule, sound_mirror}

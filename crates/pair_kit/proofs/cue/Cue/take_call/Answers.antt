@@ -1,7 +1,7 @@
 use Rattle.std.proofs.Common.{◌≡◌, ap, subst}
 use Rattle.std.specs.Prelude.{IfSome}
-use Rattle.kit_core.specs.declared.call.Said.{Said}
-use Rattle.kit_core.specs.declared.call.Call.{Call}
+use Rattle.kit_serve.specs.declared.kit.call.Said.{Said}
+use Rattle.kit_serve.specs.declared.kit.call.Call.{Call}
 use Rattle.pair_kit.specs.Cues.{AreSaid}
 use Rattle.pair_kit.proofs.CueCalls.{said_front, said_popped}
 use Rattle.pair_kit.proofs.cue.Cue.take_call.Goals as goal

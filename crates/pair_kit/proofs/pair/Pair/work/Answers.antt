@@ -3,7 +3,7 @@ use Rattle.annex_model.specs.Lines.{has_newline, text}
 use Rattle.annex_model.specs.Messages.{HostMessage, host_reading}
 use Rattle.wire_msg.specs.Shown.{host_shown}
 use Rattle.wire_line.specs.HeldBytes.{after_line}
-use Rattle.kit_core.proofs.Fields.{spelled_fields}
+use Rattle.kit_serve.proofs.KitLemmas.Fields.{spelled_fields}
 use Rattle.pair_kit.specs.declared.taken.Taken.{Taken}
 use Rattle.pair_kit.specs.Works.{request_with, last_said}
 use Rattle.pair_kit.specs.Pairs.{PairValue}

@@ -1,6 +1,6 @@
 use Rattle.std.proofs.Common.{ap, sym, ◌∙◌, Some}
 use Rattle.std.specs.Option.{option_map}
-use Rattle.reg_file.proofs.Tables.{value_at-texts_of}
+use Rattle.registers.proofs.Tables.{value_at-texts_of}
 use Rattle.pair_kit.specs.Shelves.{content}
 use Rattle.pair_kit.proofs.shelf.Shelf.find.Goals as goal
 

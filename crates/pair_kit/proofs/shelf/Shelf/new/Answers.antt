@@ -1,4 +1,4 @@
-use Rattle.reg_file.proofs.Tables.{Rises-texts_of}
+use Rattle.registers.proofs.Tables.{Rises-texts_of}
 use Rattle.pair_kit.proofs.shelf.Shelf.new.Goals as goal
 
 pub invariant_of-result : goal.invariant_of-result

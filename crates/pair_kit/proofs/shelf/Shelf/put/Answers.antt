@@ -1,6 +1,6 @@
 use Rattle.std.proofs.Common.{ap, ◌∙◌}
-use Rattle.reg_file.specs.Tables.{put, texts_of}
-use Rattle.reg_file.proofs.Tables.{put-texts_of, Rises-texts_of}
+use Rattle.registers.specs.Tables.{put, texts_of}
+use Rattle.registers.proofs.Tables.{put-texts_of, Rises-texts_of}
 use Rattle.pair_kit.proofs.shelf.Shelf.put.Goals as goal
 
 pub returns : goal.returns

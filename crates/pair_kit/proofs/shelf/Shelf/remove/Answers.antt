@@ -1,6 +1,6 @@
 use Rattle.std.proofs.Common.{ap, ◌∙◌}
-use Rattle.reg_file.specs.Tables.{texts_of, without}
-use Rattle.reg_file.proofs.Tables.{without-texts_of, Rises-texts_of}
+use Rattle.registers.specs.Tables.{texts_of, without}
+use Rattle.registers.proofs.Tables.{without-texts_of, Rises-texts_of}
 use Rattle.pair_kit.proofs.shelf.Shelf.remove.Goals as goal
 
 pub invariant_of-self : goal.invariant_of-self

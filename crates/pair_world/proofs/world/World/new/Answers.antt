@@ -1,5 +1,5 @@
 use Rattle.std.proofs.Common.{sym, subst}
-use Rattle.reg_file.specs.Registers.{IsKept}
+use Rattle.registers.specs.Registers.{IsKept}
 use Rattle.journal_model.specs.declared.opening.Opening.{Opening}
 use Rattle.journal_model.specs.Beginnings.{MayBegin}
 use Rattle.pair_world.proofs.Standing.{stands_empty}

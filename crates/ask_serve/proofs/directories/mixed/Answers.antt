@@ -1,8 +1,0 @@
-use Rattle.journal_model.specs.Replies.{mixed_at, base_text}
-use Rattle.ann_key.specs.KeyRefs.{text_of}
-use Rattle.ask_serve.proofs.KeyDirectories.{base_spelled}
-use Rattle.ask_serve.proofs.directories.mixed.Goals as goal
-
-pub returns : goal.returns
-unfolding mixed_at
-returns c = c.mixed.ensures (base_text (text_of c.args.key)) (base_spelled c.args.key)

@@ -1,4 +1,0 @@
-use Rattle.child_end.proofs.ending.finish.Goals as goal
-
-pub returns-clause-laid : goal.returns-clause-laid
-returns-clause-laid g c = (c.finish-wire.result, c.push_reserved.ensures.items, c.finish-wire.ensures)

@@ -1,6 +1,0 @@
-// The end of a child, and what is left of the children of a run.
-#![tactic(auto)]
-
-mod ending;
-
-pub use ending::{close_child, finish, journal_of};

@@ -1,0 +1,9 @@
+pub mod Wires
+pub mod Programs
+pub mod Outsides
+pub use Rattle.ann_outside.specs.Causes
+pub use Rattle.child_link.specs.Alone
+pub use Rattle.child_link.specs.Writings
+pub use Rattle.child_life.specs.Start.Cores
+pub use Rattle.journal_model.specs.Journal
+pub use Rattle.journal_model.specs.Legality

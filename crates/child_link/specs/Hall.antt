@@ -1,0 +1,12 @@
+pub mod Jobs
+pub use Rattle.child_link.specs.Asks
+pub use Rattle.child_link.specs.Doors
+pub use Rattle.child_link.specs.Events
+pub use Rattle.child_link.specs.Moves
+pub use Rattle.threads.specs.Passes
+pub use Rattle.journal_model.specs.Halves
+pub use Rattle.journal_model.specs.Journal
+pub use Rattle.journal_model.specs.Legality
+pub use Rattle.journal_model.specs.Projection
+pub use Rattle.journal_model.specs.Shares
+pub use Rattle.host_talk.specs.Request.Requests

@@ -1,6 +1,0 @@
-use Rattle.std.proofs.Common.{◌≡◌, ◌++◌}
-use Rattle.chunk_log.proofs.insert.copies.Given as goal
-
--- those that were taken, and those that are left
-abbrev pub invariant-loop-note : goal.invariant-loop-note
-invariant-loop-note l = l.copies.keys ++ l.note-iterator ≡ l.notes.keys

@@ -1,7 +1,0 @@
-// How content is cut into chunks.
-#![tactic(auto)]
-
-mod laws;
-mod plan;
-
-pub use plan::{count, held, piece, range};

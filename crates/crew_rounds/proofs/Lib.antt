@@ -1,0 +1,2 @@
+pub mod TaggedLemmas
+pub mod PoolLemmas

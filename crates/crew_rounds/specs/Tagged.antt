@@ -1,0 +1,13 @@
+pub mod Backs
+pub mod Outcomes
+pub mod Settled
+pub mod Tagged
+pub mod Roles
+pub mod Sites
+pub mod Crewing
+pub mod TaggedRounds
+pub mod Coming
+pub mod PoolChildren
+pub use Rattle.child_link.specs.Moves
+pub use Rattle.crew_work.specs.Laws.Laws
+pub use Rattle.threads.specs.Passes

@@ -1,0 +1,3 @@
+pub mod LawsLemmas
+pub mod WorkerLemmas
+pub mod SharedLemmas

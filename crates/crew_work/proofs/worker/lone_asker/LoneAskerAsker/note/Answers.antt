@@ -1,0 +1,33 @@
+use Rattle.std.proofs.Common.{ℕ, sym, subst, refl}
+use Rattle.crew_work.specs.Worker.AtTasks.{AtTask}
+use Rattle.crew_work.specs.Worker.Servings.{Serves}
+use Rattle.crew_work.proofs.WorkerLemmas.Knowing.{known_noted}
+use Rattle.crew_work.proofs.WorkerLemmas.Serving.{noting_within}
+use Rattle.crew_work.proofs.WorkerLemmas.Serving.{at_noted, serves_grown}
+use Rattle.crew_work.proofs.worker.lone_asker.LoneAskerAsker.note.Goals as goal
+
+pub returns-clause-layouts : goal.returns-clause-layouts
+returns-clause-layouts g c =
+    let s = c.args.self.now in
+    let o = (g.D.Door.view s.door.now).opening in
+    let n = (g.D.Door.view s.door.now).number in
+    let seen = (g.D.Door.view s.door.now).seen in
+    known_noted o (g.D.Door.view c.note.new.door).opening n c.args.number s.task c.note.ensures.door.opening c.requires.task
+    (subst (λ (k : ℕ). AtTask o n k seen) (sym c.requires.task) c.requires.ready.at) c.note.ensures.grows (noting_within c.args.number) c.args.chunk c.args.count c.note.result c.note.ensures.noted
+
+pub returns-clause-on : goal.returns-clause-on
+returns-clause-on g c =
+    let s = c.args.self.now in
+    let o = (g.D.Door.view s.door.now).opening in
+    let n = (g.D.Door.view s.door.now).number in
+    let old = (g.D.Door.view s.door.now).seen in
+    let new = (g.D.Door.view c.note.new.door).seen in
+    let child = s.link.now.ear.child in
+    record {
+      door = c.note.ensures.door;
+      link = ((refl, refl), (refl, refl));
+      task = refl;
+      on = serves_grown o n c.args.number s.task (g.D.Door.view s.door.now).alone old new c.requires.task s.link.now.ear s.link.now.mouth s.link.now.one_child
+          (subst (λ (k : ℕ). Serves o n (g.D.Door.view s.door.now).alone child k old) (sym c.requires.task) c.requires.ready)
+          (at_noted o n c.args.number old new c.args.chunk c.args.count c.note.result c.note.ensures.noted) c.note.ensures.grows;
+    }

@@ -1,0 +1,10 @@
+pub mod Laws
+pub mod Posts
+pub mod Rounds
+pub mod Tasks
+pub mod Workers
+pub mod JournalRuns
+pub mod RunLaws
+pub use Rattle.journal_model.specs.AgainRows
+pub use Rattle.journal_model.specs.Legality
+pub use Rattle.journal_model.specs.Rows

@@ -1,0 +1,12 @@
+pub mod JobLaws
+pub mod Jobs
+pub mod Runs
+pub use Rattle.annex_model.specs.Lines
+pub use Rattle.child_link.specs.Doors
+pub use Rattle.crew_work.specs.Laws.Tasks
+pub use Rattle.crew_work.specs.Worker.AtTasks
+pub use Rattle.crew_work.specs.Worker.KnownLayouts
+pub use Rattle.crew_work.specs.Worker.Works
+pub use Rattle.threads.specs.Passes
+pub use Rattle.journal_model.specs.Legality
+pub use Rattle.task_model.specs.Askings

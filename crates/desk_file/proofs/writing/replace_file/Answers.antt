@@ -1,5 +1,0 @@
-use Rattle.desk_file.proofs.WriteLaws.{replace_nothing}
-use Rattle.desk_file.proofs.writing.replace_file.Goals as goal
-
-pub returns-in-Err-clause-calls : goal.returns-in-Err-clause-calls
-returns-in-Err-clause-calls g c = replace_nothing _ c.args.name.now c.args.text.now

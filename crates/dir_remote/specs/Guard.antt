@@ -1,0 +1,14 @@
+pub mod Gates
+pub mod Guards
+pub mod LeftFiles
+pub mod Meanings
+pub mod MemPlaces
+pub mod Sentences
+pub mod Steps
+pub mod Sweeps
+pub use Rattle.ann_key.specs.KeyRefs
+pub use Rattle.annex_model.specs.Lines
+pub use Rattle.annex_model.specs.Messages
+pub use Rattle.dir_remote.specs.Contents
+pub use Rattle.dir_remote.specs.Describing
+pub use Rattle.kit_serve.specs.Kit.Calls

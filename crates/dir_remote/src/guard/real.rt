@@ -1,0 +1,237 @@
+// Folders of this machine.
+ghost use Rattle.std.specs.Prelude.{◌≡◌, None};
+
+use crate::guard::place::{Names, Place, Seen, Want, What};
+use ann_key::{NoMemory, Text};
+use std::alloc::AllocGlobal;
+use std::fs::{File, Metadata, OpenFile, OpenOptions};
+use std::io::{ErrorKind, Write};
+use std::path::Path;
+use std::rt::{Clock, Files};
+use std::time::SystemTime;
+use std::{fs, io};
+
+// A store that goes on writes to its file more often than that.
+const DAY_SECONDS: u64 = 86_400;
+
+const SIGN: &str = ".annex-remote-dir";
+
+const WORDS: &[u8] = b"\
+This folder is kept by annex-remote-dir, a special remote of git-annex. This file shows that it
+is there, and isn't an empty folder where a disk is to be mounted. Leave it here.
+";
+
+/// The folders of this machine.
+#[derive(Drop)]
+pub struct OsPlace<R> {
+    rt: R,
+    syncs: bool,
+}
+
+impl<R: Files<File = File> + AllocGlobal + Clock + Clone + Drop> OsPlace<R> {
+    /// The folders of that runtime. Where it syncs, what is made is on the disk when the call answers.
+    pub fn new(rt: R, syncs: bool) -> OsPlace<R>
+        ensures { ⟦<OsPlace<R> as Place>⟧.steps result ≡ None }
+    {
+        OsPlace { rt, syncs }
+    }
+}
+
+fn lacks_memory(error: &io::Error) -> bool {
+    matches!(error.kind(), ErrorKind::OutOfMemory)
+}
+
+// What a fault of a look or a step means.
+fn seen_by(error: io::Error) -> Result<Seen, NoMemory> {
+    if lacks_memory(&error) {
+        return Err(NoMemory);
+    }
+    match error.kind() {
+        ErrorKind::NotFound => Ok(Seen::Missing),
+        ErrorKind::NotADirectory => Ok(Seen::Blocked),
+        _ => Ok(Seen::Failed),
+    }
+}
+
+// The folder has its names on the disk then.
+fn sync_folder(rt: &impl Files, folder: &str) -> io::Result<()> {
+    let file = File::open(rt, folder)?;
+    file.sync_all()
+}
+
+// The folder that the path is in.
+fn sync_parent(rt: &impl Files, path: &str) -> io::Result<()> {
+    match Path::new(path).parent() {
+        Some(folder) if !folder.as_str().is_empty() => sync_folder(rt, folder.as_str()),
+        _ => sync_folder(rt, "."),
+    }
+}
+
+fn is_empty_folder<R: Files + AllocGlobal + Clone + Drop>(
+    rt: &R,
+    folder: &str,
+) -> io::Result<bool> {
+    for entry in fs::read_dir(rt, folder)? {
+        let _ = entry?;
+        return Ok(false);
+    }
+    Ok(true)
+}
+
+// A folder, or a link to one, that isn't empty.
+fn full<R: Files + AllocGlobal + Clone + Drop>(rt: &R, path: &str) -> Result<Seen, NoMemory> {
+    match fs::metadata(rt, path) {
+        Ok(metadata) if !metadata.is_dir() => return Ok(Seen::Blocked),
+        Ok(_) => {}
+        Err(error) => return seen_by(error),
+    }
+    match is_empty_folder(rt, path) {
+        Ok(true) => Ok(Seen::Empty),
+        Ok(false) => Ok(Seen::Fits),
+        Err(error) => seen_by(error),
+    }
+}
+
+// What a look at the path says of a folder.
+fn folder_by(looked: io::Result<Metadata>) -> Result<Seen, NoMemory> {
+    match looked {
+        Ok(metadata) if metadata.is_dir() => Ok(Seen::Fits),
+        Ok(_) => Ok(Seen::Blocked),
+        Err(error) => seen_by(error),
+    }
+}
+
+// A folder and no link.
+fn way(rt: &impl Files, path: &str) -> Result<Seen, NoMemory> {
+    folder_by(fs::symlink_metadata(rt, path))
+}
+
+// A folder, which is made where its parent stands. Where it stood, `follows` says whether it may be a link to one.
+fn made(rt: &impl Files, path: &str, syncs: bool, follows: bool) -> Result<Seen, NoMemory> {
+    match fs::create_dir(rt, path) {
+        Ok(()) if !syncs => Ok(Seen::Fits),
+        Ok(()) => match sync_parent(rt, path) {
+            Ok(()) => Ok(Seen::Fits),
+            Err(_) => Ok(Seen::Failed),
+        },
+        Err(error) if matches!(error.kind(), ErrorKind::AlreadyExists) => {
+            if follows {
+                folder_by(fs::metadata(rt, path))
+            } else {
+                way(rt, path)
+            }
+        }
+        Err(error) => seen_by(error),
+    }
+}
+
+// All folders that the path goes through, each in its turn.
+fn whole(rt: &impl Files, path: &str, syncs: bool) -> Result<Seen, NoMemory> {
+    for (at, byte) in path.as_bytes().iter().enumerate() {
+        if *byte == b'/' && at > 0 && path.is_char_boundary(at) {
+            match made(rt, &path[..at], syncs, true)? {
+                Seen::Fits => {}
+                seen => return Ok(seen),
+            }
+        }
+    }
+    made(rt, path, syncs, true)
+}
+
+// Leaves the small file in the folder, where there is none.
+fn sign<R: Files<File = File> + AllocGlobal>(rt: &R, folder: &str) -> io::Result<()> {
+    let path = format!(in rt.alloc(); "{folder}/{SIGN}")?;
+    let mut options = OpenOptions::new();
+    options.write(true).create_new(true);
+    match options.open(rt, path.as_str()) {
+        Ok(file) => {
+            let mut file = file;
+            file.write_all(WORDS)?;
+            file.sync_all()?;
+            sync_folder(rt, folder)
+        }
+        Err(error) if matches!(error.kind(), ErrorKind::AlreadyExists) => Ok(()),
+        Err(error) => Err(error),
+    }
+}
+
+// A folder, or a link to one, which is made where its parent stands, with the small file in it.
+fn founded<R: Files<File = File> + AllocGlobal>(rt: &R, path: &str) -> Result<Seen, NoMemory> {
+    match made(rt, path, true, true)? {
+        Seen::Fits => {}
+        seen => return Ok(seen),
+    }
+    match sign(rt, path) {
+        Ok(()) => Ok(Seen::Fits),
+        Err(error) if lacks_memory(&error) => Err(NoMemory),
+        Err(_) => Ok(Seen::Empty),
+    }
+}
+
+fn is_old(metadata: &Metadata, now: SystemTime) -> bool {
+    let Ok(modified) = metadata.modified() else {
+        return false;
+    };
+    match now.duration_since(modified) {
+        Ok(age) => metadata.is_file() && age.as_secs() >= DAY_SECONDS,
+        Err(_) => false,
+    }
+}
+
+fn names_of<R: Files + AllocGlobal + Clone + Drop>(
+    rt: &R,
+    folder: &str,
+) -> Result<Vec<Text>, NoMemory> {
+    let mut names = Vec::new(rt.alloc());
+    let entries = match fs::read_dir(rt, folder) {
+        Ok(entries) => entries,
+        Err(error) if lacks_memory(&error) => return Err(NoMemory),
+        Err(_) => return Ok(names),
+    };
+    for entry in entries {
+        match entry {
+            Ok(entry) => names.push(Text::copy(rt.alloc(), entry.file_name())?)?,
+            Err(error) if lacks_memory(&error) => return Err(NoMemory),
+            Err(_) => return Ok(names),
+        }
+    }
+    Ok(names)
+}
+
+impl<R: Files<File = File> + AllocGlobal + Clock + Clone + Drop> Place for OsPlace<R> {
+    ghost steps = { λ p. None };
+
+    fn stand(&mut self, want: Want, path: &str) -> Result<Seen, NoMemory> {
+        match want {
+            Want::Full => full(&self.rt, path),
+            Want::Way => way(&self.rt, path),
+            Want::Made => made(&self.rt, path, self.syncs, false),
+            Want::Whole => whole(&self.rt, path, self.syncs),
+            Want::Founded => founded(&self.rt, path),
+        }
+    }
+
+    fn list(&mut self, folder: &str) -> Result<Names, NoMemory> {
+        let names = names_of(&self.rt, folder)?;
+        Ok(Names::new(names))
+    }
+
+    fn meet(&mut self, file: &str) -> Result<What, NoMemory> {
+        let Ok(now) = SystemTime::now(&self.rt) else {
+            return Ok(What::Else);
+        };
+        match fs::symlink_metadata(&self.rt, file) {
+            Ok(metadata) if is_old(&metadata, now) => Ok(What::OldFile),
+            Err(error) if lacks_memory(&error) => Err(NoMemory),
+            _ => Ok(What::Else),
+        }
+    }
+
+    fn remove(&mut self, file: &str) -> Result<bool, NoMemory> {
+        match fs::remove_file(&self.rt, file) {
+            Ok(()) => Ok(true),
+            Err(error) if lacks_memory(&error) => Err(NoMemory),
+            Err(_) => Ok(false),
+        }
+    }
+}

@@ -1,3 +1,0 @@
-pub mod JournalDesks
-pub use Rattle.ann_outside.specs.Files
-pub use Rattle.journal_lines.specs.JournalTexts

@@ -1,2 +1,0 @@
-pub mod JournalTexts
-pub use Rattle.reg_file.specs.RegLines

@@ -1,6 +1,0 @@
-//! The text of a run: its opening and its journal, line by line.
-#![tactic(auto)]
-
-mod printing;
-
-pub use printing::{Kept, print_kept, print_line};

@@ -1,0 +1,1 @@
+pub use Rattle.journal_model.specs.Output

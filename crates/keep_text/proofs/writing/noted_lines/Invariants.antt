@@ -1,6 +1,0 @@
-use Rattle.std.proofs.Common.{◌≡◌, map, take}
-use Rattle.keep_text.specs.KeptFiles.{written_note}
-use Rattle.keep_text.proofs.writing.noted_lines.Given as goal
-
-abbrev pub invariant-loop-note : goal.invariant-loop-note
-invariant-loop-note l = l.lines.items ≡ map (λ note. written_note note.now) (take l.note-index l.notes)

@@ -1,9 +1,0 @@
-pub mod KeptFiles
-pub mod KeptLines
-pub mod Orders
-pub mod Shown
-pub use Rattle.ann_key.specs.KeyRefs
-pub use Rattle.annex_model.specs.Lines
-pub use Rattle.chunk_log.specs.ChunkLines
-pub use Rattle.reg_file.specs.RegLines
-pub use Rattle.reg_file.specs.Registers

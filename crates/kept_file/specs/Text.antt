@@ -1,0 +1,9 @@
+pub mod KeptFiles
+pub mod KeptLines
+pub mod Orders
+pub mod Shown
+pub use Rattle.ann_key.specs.KeyRefs
+pub use Rattle.annex_model.specs.Lines
+pub use Rattle.task_text.specs.ChunkLog.ChunkLines
+pub use Rattle.registers.specs.RegLines
+pub use Rattle.registers.specs.Registers

@@ -1,3 +1,0 @@
-mod KeyScan
-mod KeyStops
-mod OneFault

@@ -1,4 +1,0 @@
-// What is said of one text: its readers have one answer. Each law is the contract of a function with nothing to do.
-#![tactic(auto)]
-
-pub mod laws;

@@ -1,5 +1,0 @@
-use Rattle.kit_async_laws.proofs.Belonging.{each_belongs}
-use Rattle.kit_async_laws.proofs.laws.each_belongs.Goals as goal
-
-pub returns : goal.returns
-returns c = λ setup past rest entry h. each_belongs setup past rest entry h

@@ -1,5 +1,0 @@
-use Rattle.kit_async_laws.proofs.Meant.{jobs_are_meant}
-use Rattle.kit_async_laws.proofs.laws.jobs_are_meant.Goals as goal
-
-pub returns : goal.returns
-returns c = λ setup past rest line number h heard. jobs_are_meant setup past rest line number h heard

@@ -1,6 +1,0 @@
-use Rattle.std.proofs.Common.{[], ◌∷◌, refl, codes}
-use Rattle.kit_async_model.specs.Meanings.{Says}
-use Rattle.kit_async_laws.proofs.laws.worked_abouts.Goals as goal
-
-pub returns-clause-begun : goal.returns-clause-begun
-returns-clause-begun c = (Says (codes "CONFIGEND") ∷ [], refl)

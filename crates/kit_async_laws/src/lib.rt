@@ -1,4 +1,0 @@
-//! What a legal journal of a kit that serves several jobs at once means for each job. No code runs here.
-#![tactic(auto)]
-
-pub mod laws;

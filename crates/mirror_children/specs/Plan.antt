@@ -1,0 +1,3 @@
+pub mod Settings
+pub mod Plans
+pub use Rattle.registers.specs.Registers

@@ -1,0 +1,9 @@
+pub mod MayBegin
+pub mod Stopping
+pub mod Adding
+pub mod Greeting
+pub mod Begun
+pub mod InTurn
+pub mod Passing
+pub mod Preparing
+pub mod Settled

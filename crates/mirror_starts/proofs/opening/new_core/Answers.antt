@@ -1,5 +1,0 @@
-use Rattle.mirror_starts.proofs.MayBegin.{may_begin}
-use Rattle.mirror_starts.proofs.opening.new_core.Goals as goal
-
-pub new-requires : goal.new-requires
-new-requires c = may_begin c.args.registers.now c.in_ok-opening.opening c.in_ok-opening.ensures

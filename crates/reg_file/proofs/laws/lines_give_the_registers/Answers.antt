@@ -1,5 +1,0 @@
-use Rattle.reg_file.proofs.Fed.{lines_again}
-use Rattle.reg_file.proofs.laws.lines_give_the_registers.Goals as goal
-
-pub returns : goal.returns
-returns c = lines_again

@@ -1,5 +1,0 @@
-use Rattle.reg_file.proofs.PairLists.{Rises-pairs_of}
-use Rattle.reg_file.proofs.logins.Logins.new.Goals as goal
-
-pub invariant_of-result : goal.invariant_of-result
-invariant_of-result c = Rises-pairs_of _ c.new.ensures.ordered

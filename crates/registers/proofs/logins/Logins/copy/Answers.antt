@@ -1,0 +1,11 @@
+use Rattle.std.proofs.Common.{◌≡◌, ◌∙◌, subst, sym, vec_len}
+use Rattle.registers.specs.Tables.{Rises}
+use Rattle.registers.proofs.PairLists.{pairs_of_copies}
+use Rattle.registers.proofs.logins.Logins.copy.Goals as goal
+
+pub returns : goal.returns
+returns c = pairs_of_copies (λ v w. vec_len w ≡ vec_len v) (λ a b h. h) c.self.inside.entries.entries c.in_ok-entries.entries.entries c.in_ok-entries.ensures.cases ∙ c.self.view_is
+
+pub invariant_of-result : goal.invariant_of-result
+invariant_of-result c =
+    subst Rises (sym (pairs_of_copies (λ v w. vec_len w ≡ vec_len v) (λ a b h. h) c.self.inside.entries.entries c.in_ok-entries.entries.entries c.in_ok-entries.ensures.cases)) c.self.invariant

@@ -1,8 +1,0 @@
-pub mod Inputs
-pub mod Runs
-pub mod Beginnings
-pub mod Workings
-pub use Rattle.annex_model.specs.Lines
-pub use Rattle.chunk_log.specs.ChunkLines
-pub use Rattle.cli_words.specs.Identities
-pub use Rattle.journal_model.specs.Limits

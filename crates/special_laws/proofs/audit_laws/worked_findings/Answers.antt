@@ -1,7 +1,0 @@
-use Rattle.std.proofs.Common.{refl}
-use Rattle.std.specs.Fmt.{digits}
-use Rattle.special_laws.proofs.audit_laws.worked_findings.Goals as goal
-
-pub returns-clause-wrong : goal.returns-clause-wrong
-unfolding digits
-returns-clause-wrong c = refl

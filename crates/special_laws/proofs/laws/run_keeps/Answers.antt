@@ -1,8 +1,0 @@
-use Rattle.special_laws.proofs.Holding.{run_is_told, run_keeps}
-use Rattle.special_laws.proofs.laws.run_keeps.Goals as goal
-
-pub returns-clause-told : goal.returns-clause-told
-returns-clause-told c = run_is_told
-
-pub returns-clause-kept : goal.returns-clause-kept
-returns-clause-kept c = run_keeps

@@ -1,7 +1,0 @@
-use Rattle.std.proofs.Common.{refl}
-use Rattle.std.specs.Fmt.{digits}
-use Rattle.special_laws.proofs.rehearsal_laws.worked_walks.Goals as goal
-
-pub returns-clause-lines : goal.returns-clause-lines
-unfolding digits
-returns-clause-lines c = refl

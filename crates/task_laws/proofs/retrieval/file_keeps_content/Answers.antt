@@ -1,5 +1,0 @@
-use Rattle.task_laws.proofs.FilesStored.{file_keeps_content}
-use Rattle.task_laws.proofs.retrieval.file_keeps_content.Goals as goal
-
-pub returns : goal.returns
-returns c = file_keeps_content

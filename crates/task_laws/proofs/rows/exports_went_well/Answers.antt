@@ -1,8 +1,0 @@
-use Rattle.std.proofs.Common.{[]}
-use Rattle.std.specs.Fmt.{digits}
-use Rattle.task_laws.proofs.rows.exports_went_well.Goals as goal
-use Rattle.ann_key.proofs.Lists.{not_nil}
-
-pub returns-clause-short : goal.returns-clause-short
-unfolding digits
-returns-clause-short c = λ well. not_nil 2 [] well.desk.found.lengths

@@ -1,8 +1,0 @@
-use Rattle.std.proofs.Common.{[]}
-use Rattle.std.specs.Fmt.{digits}
-use Rattle.task_laws.proofs.rows.others_went_well.Goals as goal
-use Rattle.ann_key.proofs.Lists.{not_nil}
-
-pub returns-clause-other_length : goal.returns-clause-other_length
-unfolding digits
-returns-clause-other_length c = λ well. not_nil 2 [] well.desk.found.lengths

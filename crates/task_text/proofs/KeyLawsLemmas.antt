@@ -1,0 +1,3 @@
+pub mod KeyScan
+pub mod KeyStops
+pub mod OneFault

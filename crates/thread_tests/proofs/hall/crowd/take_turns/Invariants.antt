@@ -1,0 +1,5 @@
+use Rattle.threads.specs.Passes.{IsPassOf}
+use Rattle.thread_tests.proofs.hall.crowd.take_turns.Given as goal
+
+abbrev pub invariant-loop : goal.invariant-loop
+invariant-loop g l = IsPassOf l.fn.hall l.pass

@@ -1,0 +1,5 @@
+pub mod Log
+pub mod Rule
+pub mod Resting
+pub mod Passes
+pub mod Roles

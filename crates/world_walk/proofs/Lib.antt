@@ -1,3 +1,0 @@
-mod Walking
-mod Turns
-mod Summing
