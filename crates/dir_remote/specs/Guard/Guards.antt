@@ -4,7 +4,7 @@ use Rattle.std.specs.Str.{IsUtf8}
 use Rattle.ann_key.specs.declared.bytes.NoMemory.{NoMemory as WithoutMemory}
 use Rattle.ann_outside.specs.Told.{DeskTold}
 use Rattle.kit_serve.specs.declared.kit.call.Said.{Said}
-use Rattle.kit_serve.specs.declared.kit.call.Said.TheVariants.{Yes, No, Failure}
+use Rattle.kit_serve.specs.declared.kit.call.Said.TheVariants.{Yes, No, Failure, Set}
 use Rattle.dir_remote.specs.Answers.{Prepares}
 use Rattle.dir_remote.specs.Contents.{LeavesInTransit}
 use Rattle.dir_remote.specs.Desks.{CheckAnswers, RemoveAnswers, RetrieveAnswers, StoreAnswers}
@@ -81,12 +81,14 @@ no_more said = []
 abbrev pub after_check : Option (List ℕ) → Result Said WithoutMemory → List Gate
 after_check directory (Ok No) = looks_of directory
 after_check directory (Ok Yes) = []
+after_check directory (Ok (Set pairs)) = []
 after_check directory (Ok (Failure text)) = []
 after_check directory (Err e) = []
 
 -- So is it said only then that a content is gone: there may have been none.
 abbrev pub after_yes : Option (List ℕ) → Result Said WithoutMemory → List Gate
 after_yes directory (Ok Yes) = looks_of directory
+after_yes directory (Ok (Set pairs)) = looks_of directory
 after_yes directory (Ok No) = []
 after_yes directory (Ok (Failure text)) = []
 after_yes directory (Err e) = []
