@@ -83,12 +83,14 @@ no_more said = []
 abbrev pub after_check : Option (List ℕ) → Result Said WithoutMemory → List Gate
 after_check directory (Ok No) = looks_of directory
 after_check directory (Ok Yes) = []
+after_check directory (Ok (Set pairs)) = []
 after_check directory (Ok (Failure text)) = []
 after_check directory (Err e) = []
 
 -- So is it said only then that a content is gone: there may have been none.
 abbrev pub after_yes : Option (List ℕ) → Result Said WithoutMemory → List Gate
 after_yes directory (Ok Yes) = looks_of directory
+after_yes directory (Ok (Set pairs)) = looks_of directory
 after_yes directory (Ok No) = []
 after_yes directory (Ok (Failure text)) = []
 after_yes directory (Err e) = []

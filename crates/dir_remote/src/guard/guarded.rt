@@ -189,6 +189,7 @@ impl<P: Place, D: Desk> Remote for Guarded<P, D> {
             Said::Yes => self.get_ready(),
             Said::No => Ok(Said::No),
             Said::Failure(text) => Ok(Said::Failure(text)),
+            Said::Set(pairs) => Ok(Said::Set(pairs)),
         }
     }
 
@@ -261,6 +262,7 @@ impl<P: Place, D: Desk> Remote for Guarded<P, D> {
         match self.remote.check(key)? {
             Said::No => self.confirm(Said::No),
             Said::Yes => Ok(Said::Yes),
+            Said::Set(pairs) => Ok(Said::Set(pairs)),
             Said::Failure(text) => Ok(Said::Failure(text)),
         }
     }
@@ -279,6 +281,7 @@ impl<P: Place, D: Desk> Remote for Guarded<P, D> {
         }
         match self.remote.remove(key)? {
             Said::Yes => self.confirm(Said::Yes),
+            Said::Set(pairs) => self.confirm(Said::Set(pairs)),
             Said::No => Ok(Said::No),
             Said::Failure(text) => Ok(Said::Failure(text)),
         }
