@@ -1,5 +1,6 @@
 // A directory remote that looks at its directory before it touches it.
 ghost use Rattle.std.specs.Prelude.{◌≡◌, ◌≢◌, ◌∷◌, [], not, codes, IsTrue, IfOk, None, Some, Ok, Err, Bool};
+ghost use Rattle.std.specs.Str.{IsUtf8};
 ghost use Rattle.ann_key.specs.KeyRefs.{text_of};
 ghost use Rattle.annex_model.specs.Lines.{has_newline};
 ghost use Rattle.annex_model.specs.Messages.{is_sent_key};
