@@ -59,5 +59,5 @@ got_within (x ∷ xs) (suc n) name at = let below : n < length xs = got_within x
 
 -- and one line more
 pub lines_push : (lines : List (List ℕ)) (line : List ℕ) → IsTrue (are_lines lines) → has_newline line ≡ false → IsTrue (are_lines (lines ++ line ∷ []))
-lines_push [] line all free = rw free tt
+lines_push [] line all free = rw free refl
 lines_push (x ∷ xs) line all free = let parts = and_parts (not (has_newline x)) (are_lines xs) all in rw parts.0 (lines_push xs line parts.1 free)
