@@ -191,7 +191,7 @@ answer_small : (setup : Setup) (job : Job) (said : Said) (over : Bool) → job.n
 answer_small setup job said over h = go (not over && settles setup job said) refl
   where
     go : (b : Bool) → (not over && settles setup job said) ≡ b → SmallDue (answer_due setup job said over)
-    go true e = rw e (h, tt)
+    go true e = rw e (mapped_small job.number h (finals_in job said))
     go false e = rw e tt
 
 -- the job of any number, among small ones
