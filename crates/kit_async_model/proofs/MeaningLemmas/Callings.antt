@@ -16,10 +16,11 @@ use Rattle.kit_async_model.specs.Jobs.{due_in, is_making_ready, is_awaiting, is_
 use Rattle.kit_async_model.specs.Legality.{some_job, is_turn_of, is_called, may_call}
 use Rattle.kit_async_model.specs.Standings.{Standing, with_call, answer_due, called_in, after}
 use Rattle.kit_async_model.specs.Meanings.{asked_in, Item, Calls, item_of, of_job}
+use Rattle.kit_async_model.proofs.Across.{finals_of}
 use Rattle.kit_async_model.proofs.Askings.{never, only_passes}
 use Rattle.kit_async_model.proofs.Places.{job_changed, passes_of}
 use Rattle.kit_async_model.proofs.MeaningLemmas.Numbers.{number_of}
-use Rattle.kit_async_model.proofs.MeaningLemmas.Phases.{Phase, Working, Asking, Awaiting, Calling, IsLeft, worked_left, called_left, agreed_left, Saying, finals_of}
+use Rattle.kit_async_model.proofs.MeaningLemmas.Phases.{Phase, Working, Asking, Awaiting, Calling, IsLeft, worked_left, called_left, agreed_left, Saying}
 use Rattle.kit_async_model.proofs.MeaningLemmas.Stands.{IsReadying, IsLast, IsWork, IsIn, At}
 use Rattle.kit_async_model.proofs.MeaningLemmas.Readying.{readying_awaits, readying_asked}
 use Rattle.kit_async_model.proofs.MeaningLemmas.Steps.{Steps, Moves, of_other, of_own, none_due}

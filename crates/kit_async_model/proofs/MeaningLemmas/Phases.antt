@@ -7,8 +7,9 @@ use Rattle.kit_serve.specs.declared.kit.call.Asked.{Asked}
 use Rattle.kit_serve.specs.declared.kit.call.Asked.TheVariants.{Prepare as AskPrepare}
 use Rattle.kit_serve.specs.declared.kit.call.Said.{Said}
 use Rattle.kit_serve.specs.declared.kit.call.Said.TheVariants.{No}
-use Rattle.kit_serve.specs.Kit.Kits.{is_yes, set_lines, final_line, final_lines}
+use Rattle.kit_serve.specs.Kit.Kits.{is_yes, final_lines}
 use Rattle.kit_async_model.specs.declared.setup.Setup.{Setup}
+use Rattle.kit_async_model.proofs.Across.{Finals}
 use Rattle.kit_async_model.specs.Meanings.{Item, Told, Says, Calls, asked_values, calls_from, IsReadied, IsWorked}
 
 -- the lines that are its last; a call of any remote for this, and the lines for it; with the values so far, a setting that is asked for, and
@@ -68,23 +69,6 @@ ends_by true setup request p q item f items k = (k.0, f (items ++ k.0) k.1)
 ends_by false setup request p q item f items k = f items k
 
 -- ---- the lines for a word
-
--- of which there is one at least
-pub record Finals (request : Option HostMessage) (said : Said) : Type 0 where
-  pub line : List ℕ
-  pub lines : List (List ℕ)
-  pub are : map remote_line (final_lines request said) ≡ line ∷ lines
-
-pub finals_of : (request : Option HostMessage) (said : Said) → Finals request said
-finals_of request said = go (set_lines request said) refl
-  where
-    go : (ms : List RemoteMessage) → set_lines request said ≡ ms → Finals request said
-    go [] e = record { line = remote_line (final_line request said); lines = []; are = ap (λ (ms : List RemoteMessage). map remote_line (ms ++ final_line request said ∷ [])) e }
-    go (m ∷ ms) e = record {
-      line = remote_line m;
-      lines = map remote_line (ms ++ final_line request said ∷ []);
-      are = ap (λ (ms : List RemoteMessage). map remote_line (ms ++ final_line request said ∷ [])) e;
-    }
 
 lines_said : (ms : List RemoteMessage) → map (λ l. Says l) (map remote_line ms) ≡ map (λ line. Says (remote_line line)) ms
 lines_said [] = refl

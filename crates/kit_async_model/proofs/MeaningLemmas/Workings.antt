@@ -12,10 +12,11 @@ use Rattle.kit_async_model.specs.Jobs.{request_of, is_making_ready, is_awaiting,
 use Rattle.kit_async_model.specs.Legality.{is_idle, is_free, some_job, may_take, is_turn_of, is_called}
 use Rattle.kit_async_model.specs.Standings.{Standing, with_taken, with_call, answer_due, called_in, after}
 use Rattle.kit_async_model.specs.Meanings.{item_of, of_job}
+use Rattle.kit_async_model.proofs.Across.{Finals}
 use Rattle.kit_async_model.proofs.Askings.{no_more}
 use Rattle.kit_async_model.proofs.Places.{job_changed}
 use Rattle.kit_async_model.proofs.MeaningLemmas.Numbers.{number_of, still_changed}
-use Rattle.kit_async_model.proofs.MeaningLemmas.Phases.{Phase, Working, Asking, Awaiting, Calling, Saying, Finals}
+use Rattle.kit_async_model.proofs.MeaningLemmas.Phases.{Phase, Working, Asking, Awaiting, Calling, Saying}
 use Rattle.kit_async_model.proofs.MeaningLemmas.Stands.{IsOwed, IsReadying, IsLast, IsIn, At, is_due_of, is_in_still}
 use Rattle.kit_async_model.proofs.MeaningLemmas.Readying.{readying_told, readying_taken}
 use Rattle.kit_async_model.proofs.MeaningLemmas.Steps.{Steps}
