@@ -1,5 +1,5 @@
 // The steps of a line of the host.
-ghost use Rattle.std.specs.Prelude.{◌≡◌, ◌≤◌, ◌||◌, ◌+◌, ◌*◌, ◌++◌, ◌∷◌, [], IfOk, IfSome, OnOk, OnErr, Some, None, true, false, length, map, option_map, slice_get};
+ghost use Rattle.std.specs.Prelude.{◌≡◌, ◌||◌, ◌+◌, ◌++◌, ◌∷◌, [], IfOk, IfSome, OnOk, OnErr, Some, None, true, false, length, map, option_map, slice_get};
 ghost use Rattle.annex_model.specs.Messages.{Getconfig, host_reading, remote_line};
 ghost use Rattle.wire_msg.specs.Shown.{host_shown};
 ghost use Rattle.kit_async_model.specs.declared.entry.Entry.TheVariants.{Heard, Say};
