@@ -1,7 +1,7 @@
 -- Worked journals of a kit, each of which is legal or isn't.
 use Rattle.std.specs.Prelude.{true, List, [], ◌∷◌, ◌++◌, Some, None, codes}
-use Rattle.kit_serve.specs.declared.kit.call.Said.{Said}
-use Rattle.kit_serve.specs.declared.kit.call.Said.TheVariants.{Yes, No, Set}
+use Rattle.kit_serve.specs.declared.kit.call.Said.TheVariants.{Yes, No}
+use Rattle.kit_serve.specs.Kit.Rows.{sets}
 use Rattle.kit_async_model.specs.declared.setup.Setup.{Setup}
 use Rattle.kit_async_model.specs.declared.about.Fact.TheVariants.{Fixed, Setting}
 use Rattle.kit_async_model.specs.declared.entry.Entry.{Entry}
@@ -126,10 +126,7 @@ asked_about_names =
 
 -- ---- a remote that sets a setting
 
-abbrev pub sets : Said
-sets = Set (record { name = codes "directory"; text = codes "/d" } ∷ [])
-
--- it says so to INITREMOTE
+-- at INITREMOTE
 abbrev pub initializing : List Entry
 initializing = version ∷ Heard (codes "INITREMOTE") ∷ Call 0 0 sets ∷ []
 
@@ -139,7 +136,7 @@ setting_told = Say 0 (codes "SETCONFIG directory /d")
 abbrev pub initialized : Entry
 initialized = Say 0 (codes "INITREMOTE-SUCCESS")
 
--- and to PREPARE
+-- and at PREPARE
 abbrev pub preparing : List Entry
 preparing = version ∷ Heard (codes "PREPARE") ∷ Call 0 0 sets ∷ []
 

@@ -6,7 +6,7 @@ ghost use Rattle.kit_async_model.specs.Laws.{FrontsAreLegal, OverIsLast, Unwritt
 ghost use Rattle.kit_async_model.specs.Legality.{is_legal, is_done};
 ghost use Rattle.kit_async_model.specs.Rows.{two, bare, known, version, error, tagging, asking, readying, ready, check_a, check_b, absent_a, crossed, whole};
 ghost use Rattle.kit_async_model.specs.Rows.{configs, first_config, last_config, info, kind_told, directory_told, info_end, unready, strange, unsupported};
-ghost use Rattle.kit_async_model.specs.Rows.{sets, initializing, setting_told, initialized, preparing, success};
+ghost use Rattle.kit_async_model.specs.Rows.{initializing, setting_told, initialized, preparing, success};
 ghost use Rattle.kit_async_model.specs.Rows.{names_of_two_jobs, asked_about_names, plain, plain_check, tagged_late};
 ghost use Rattle.kit_async_model.specs.Standings.{standing};
 

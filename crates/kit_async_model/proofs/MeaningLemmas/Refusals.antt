@@ -7,8 +7,9 @@ use Rattle.kit_serve.specs.declared.kit.call.Asked.TheVariants.{Prepare as AskPr
 use Rattle.kit_serve.specs.declared.kit.call.Said.{Said}
 use Rattle.kit_serve.specs.declared.kit.call.Said.TheVariants.{Yes, No}
 use Rattle.kit_serve.specs.Kit.Kits.{is_yes, final_lines}
+use Rattle.kit_serve.specs.Kit.Rows.{sets}
 use Rattle.kit_async_model.specs.Meanings.{Item, Told, Says, Calls, asked_values, calls_from, IsReadied}
-use Rattle.kit_async_model.specs.Rows.{two, bare, sets}
+use Rattle.kit_async_model.specs.Rows.{two, bare}
 use Rattle.kit_async_model.proofs.Askings.{never}
 use Rattle.kit_async_model.specs.Meaning.Rows.{told, success, prepares, initializing, setting, initialized}
 use Rattle.std.proofs.lemmas.Bool.{and_parts as both}

@@ -4,10 +4,11 @@ use Rattle.annex_model.specs.Messages.{HostMessage, Prepare, Initremote, Checkpr
 use Rattle.kit_serve.specs.declared.kit.call.Asked.TheVariants.{Prepare as AskPrepare, Check as AskCheck}
 use Rattle.kit_serve.specs.declared.kit.call.Said.{Said}
 use Rattle.kit_serve.specs.declared.kit.call.Said.TheVariants.{Yes, No}
+use Rattle.kit_serve.specs.Kit.Rows.{sets}
 use Rattle.kit_async_model.specs.declared.entry.Entry.{Entry}
 use Rattle.kit_async_model.specs.declared.entry.Entry.TheVariants.{Heard, Take, Call, Say}
 use Rattle.kit_async_model.specs.Meanings.{Item, Told, Says, Calls}
-use Rattle.kit_async_model.specs.Rows.{error, sets, check_b, absent_a, present_b}
+use Rattle.kit_async_model.specs.Rows.{error, check_b, absent_a, present_b}
 use Rattle.kit_async_model.specs.Standings.{Standing, opening}
 
 -- ---- how the kit stands when the request is heard

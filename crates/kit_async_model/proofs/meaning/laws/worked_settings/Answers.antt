@@ -1,5 +1,5 @@
 use Rattle.std.proofs.Common.{[], ◌∷◌, inr, refl, arith}
-use Rattle.kit_async_model.specs.Rows.{sets}
+use Rattle.kit_serve.specs.Kit.Rows.{sets}
 use Rattle.kit_async_model.specs.Meaning.Rows.{setting}
 use Rattle.kit_async_model.proofs.MeaningLemmas.Refusals.{unset}
 use Rattle.kit_async_model.proofs.meaning.laws.worked_settings.Goals as goal
