@@ -1,5 +1,5 @@
 -- No line ends within a line that the kit says.
-use Rattle.std.proofs.Common.{◌≡◌, ℕ, zero, suc, ◌<◌, arith, ◌==◌, ◌||◌, true, false, List, [], ◌∷◌, ◌++◌, length, slice_get, Some, IsTrue, refl, sym, ap, ◌∙◌}
+use Rattle.std.proofs.Common.{◌≡◌, ℕ, zero, suc, ◌<◌, arith, ◌==◌, ◌||◌, not, true, false, List, [], ◌∷◌, ◌++◌, length, slice_get, Some, IsTrue, refl, sym, ap, ◌∙◌}
 use Rattle.std.proofs.lemmas.Bool.{and_parts, not-true}
 use Rattle.std.proofs.lemmas.List.Folds.{list_any-append}
 use Rattle.annex_model.specs.Lines.{has_newline}
@@ -56,3 +56,8 @@ pub got_within : (settings : List (List ℕ)) (n : ℕ) (name : List ℕ) → sl
 got_within [] n name at = cc
 got_within (x ∷ xs) zero name at = omega arith
 got_within (x ∷ xs) (suc n) name at = let below : n < length xs = got_within xs n name at in omega arith
+
+-- and one line more
+pub lines_push : (lines : List (List ℕ)) (line : List ℕ) → IsTrue (are_lines lines) → has_newline line ≡ false → IsTrue (are_lines (lines ++ line ∷ []))
+lines_push [] line all free = rw free tt
+lines_push (x ∷ xs) line all free = let parts = and_parts (not (has_newline x)) (are_lines xs) all in rw parts.0 (lines_push xs line parts.1 free)

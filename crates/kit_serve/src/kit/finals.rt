@@ -64,7 +64,8 @@ fn final_message<'a>(request: HostMsg<'a>, said: &'a Said) -> RemoteMsg<'a>
     ensures sayable { IsAskable (host_shown request.entry) → IsSayable (remote_shown result) }
 {
     match said {
-        Said::Yes | Said::Set(_) => done(request),
+        Said::Yes => done(request),
+        Said::Set(_) => done(request),
         Said::No => refused(request),
         Said::Failure(text) => failed(request, text.view()),
     }

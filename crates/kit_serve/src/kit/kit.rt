@@ -151,7 +151,8 @@ impl<R: Remote> Kit<R> {
         ensures lines { IfOk result (λ say. IsTrue (are_lines say)) }
     {
         let lines = finals::final_lines(self.alloc, request, &said);
-        let prepares = matches!(request, HostMsg::Prepare) && matches!(said, Said::Yes | Said::Set(_));
+        let prepares = matches!(request, HostMsg::Prepare)
+            && matches!(said, Said::Yes | Said::Set(_));
         drop(said);
         let say = lines?;
         if prepares {
