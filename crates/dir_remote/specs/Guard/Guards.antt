@@ -1,5 +1,5 @@
 -- What each call of a directory remote that is served does: which folders it asks for, and which call of the remote inside is made.
-use Rattle.std.specs.Prelude.{ℕ, ◌≡◌, ◌≢◌, ◌⊎◌, ◌==◌, ◌&&◌, not, codes, if◌then◌else◌, Bool, true, false, List, [], ◌∷◌, ◌++◌, Option, Some, None, option_map, Result, Ok, Err, IsErr, IsOk, IfOk, IsTrue}
+use Rattle.std.specs.Prelude.{ℕ, ◌≡◌, ◌≢◌, ◌⊎◌, ◌==◌, ◌&&◌, not, codes, Bool, true, false, List, [], ◌∷◌, ◌++◌, Option, Some, None, option_map, Result, Ok, Err, IsErr, IsOk, IfOk, IsTrue}
 use Rattle.std.specs.Str.{IsUtf8}
 use Rattle.ann_key.specs.declared.bytes.NoMemory.{NoMemory as WithoutMemory}
 use Rattle.ann_outside.specs.Told.{DeskTold}
@@ -197,10 +197,15 @@ abbrev pub SetsUpKept : Bool → List ℕ → GuardTold → GuardTold → Result
 SetsUpKept sweeps path old new result =
     ((new ≡ old) × IsErr result) ⊎ ((said : Result Said WithoutMemory) × Founds sweeps path old new said × (result ≡ kept_as path said))
 
--- as the place spelled the path; where it can't, or a host can't keep that, the value is refused
+-- a path that a host can't keep is refused
+abbrev pub SetsUpIf : Bool → Bool → List ℕ → GuardTold → GuardTold → Result Said WithoutMemory → Type 0
+SetsUpIf true sweeps path old new result = SetsUpKept sweeps path old new result
+SetsUpIf false sweeps path old new result = (new ≡ old) × IsRefused result
+
+-- as the place spelled the path; where it can't, the value is refused
 abbrev pub SetsUpSpelled : Bool → Option (List ℕ) → GuardTold → GuardTold → Result Said WithoutMemory → Type 0
 SetsUpSpelled sweeps None old new result = (new ≡ old) × IsRefused result
-SetsUpSpelled sweeps (Some path) old new result = if is_kept path then SetsUpKept sweeps path old new result else ((new ≡ old) × IsRefused result)
+SetsUpSpelled sweeps (Some path) old new result = SetsUpIf (is_kept path) sweeps path old new result
 
 abbrev pub spelled_by : List ℕ → Option (List ℕ) → GuardTold → GuardTold
 spelled_by value path old = record old { steps = option_map (λ (steps : List Step). steps ++ Spelled value path ∷ []) old.steps }

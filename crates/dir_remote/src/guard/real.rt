@@ -6,7 +6,7 @@ use ann_key::{NoMemory, Text};
 use std::alloc::AllocGlobal;
 use std::fs::{File, Metadata, OpenFile, OpenOptions};
 use std::io::{ErrorKind, Write};
-use std::path::{Component, Path};
+use std::path::{Component, Path, PathBuf};
 use std::rt::{Clock, Env, Files};
 use std::time::SystemTime;
 use std::{env, fs, io};
@@ -199,7 +199,7 @@ fn names_of<R: Files + AllocGlobal + Clone + Drop>(
 }
 
 // The path from the root, in which `.` and `..` are left out: as git-annex makes one of its own directory remotes.
-fn whole_path<R: Env + AllocGlobal>(rt: &R, path: &str) -> io::Result<Text> {
+fn whole_path<R: Env + AllocGlobal>(rt: &R, path: &str) -> io::Result<PathBuf> {
     let mut whole = env::current_dir(rt)?;
     for part in Path::new(path).components() {
         match part {
@@ -210,7 +210,7 @@ fn whole_path<R: Env + AllocGlobal>(rt: &R, path: &str) -> io::Result<Text> {
             Component::RootDir | Component::CurDir => {}
         }
     }
-    Ok(Text::copy(rt.alloc(), whole.as_str())?)
+    Ok(whole)
 }
 
 impl<R: Files<File = File> + AllocGlobal + Clock + Env + Clone + Drop> Place for OsPlace<R> {
@@ -244,7 +244,7 @@ impl<R: Files<File = File> + AllocGlobal + Clock + Env + Clone + Drop> Place for
 
     fn spell(&mut self, path: &str) -> Result<Option<Text>, NoMemory> {
         match whole_path(&self.rt, path) {
-            Ok(whole) => Ok(Some(whole)),
+            Ok(whole) => Ok(Some(Text::copy(self.rt.alloc(), whole.as_str())?)),
             Err(error) if lacks_memory(&error) => Err(NoMemory),
             Err(_) => Ok(None),
         }
