@@ -2,6 +2,8 @@
 // https://git-annex.branchable.com/design/external_special_remote_protocol/
 #![tactic(auto)]
 
+mod following;
+mod laws;
 mod serving;
 
 ghost use Rattle.std.specs.Prelude.{◌≡◌, vec_len, IfOk};
