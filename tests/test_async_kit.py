@@ -46,7 +46,7 @@ SESSION_ROWS = [
      TAGGED + "J 1 GETCONFIG directory\nJ 1 PREPARE-FAILURE no directory\n", 0),
     ("a value that never comes", "EXTENSIONS ASYNC\nJ 1 PREPARE\n", TAGGED + "J 1 GETCONFIG directory\n", 0),
     ("set up under a number", "EXTENSIONS ASYNC\nJ 3 INITREMOTE\nJ 3 VALUE d\n",
-     TAGGED + "J 3 GETCONFIG directory\nJ 3 INITREMOTE-FAILURE directory is relative: give the whole path, such as /home/me/backup\n", 0),
+     TAGGED + "J 3 GETCONFIG directory\nJ 3 SETCONFIG directory {here}/d\nJ 3 INITREMOTE-SUCCESS\n", 0),
     ("a value that nobody asked for", "EXTENSIONS ASYNC\nJ 5 VALUE x\n", TAGGED + UNEXPECTED, 1),
     ("a request in the place of a value", "EXTENSIONS ASYNC\nJ 1 PREPARE\nJ 1 CHECKPRESENT WORM--a\n",
      TAGGED + "J 1 GETCONFIG directory\n" + UNEXPECTED, 1),
@@ -64,13 +64,13 @@ SESSION_ROWS = [
 
 @table(SESSION_ROWS)
 def a_session_with_tags(room, says, said, status):
-    expect(served(room, says), Done(status, said, ""))
+    expect(served(room, says), Done(status, said.replace("{here}", room.path()), ""))
 
 
 @table([(f"{most} threads, {name}", most, *row) for most in (0, 1, 5) for name, *row in SESSION_ROWS])
 def a_session_with_tags_where_more_threads_are_refused(room, most, says, said, status):
     few = {"LD_PRELOAD": preloaded(room, "tests/failing_calls.c"), "MOST_THREADS": most}
-    expect(served(room, says, few), Done(status, said, ""))
+    expect(served(room, says, few), Done(status, said.replace("{here}", room.path()), ""))
 
 
 def started_and_ready(room, tag):

@@ -43,7 +43,7 @@ GETS_READY = [
     ("an empty directory, and one that is no text", "PREPARE\nVALUE \nPREPARE\nVALUE \udcff\nCHECKPRESENT WORM--a\n",
      "GETCONFIG directory\nPREPARE-FAILURE no directory\nGETCONFIG directory\nPREPARE-FAILURE not text\n"
      "CHECKPRESENT-UNKNOWN WORM--a not prepared\n", 0),
-    ("set up with a path that isn't whole", "INITREMOTE\nVALUE d\nCHECKPRESENT WORM--a\n",
+    ("set up with a relative path that is no text", "INITREMOTE\nVALUE \udcff\nCHECKPRESENT WORM--a\n",
      "GETCONFIG directory\nINITREMOTE-FAILURE directory is relative: give the whole path, such as /home/me/backup\n"
      "CHECKPRESENT-UNKNOWN WORM--a not prepared\n", 0),
     ("ready, and then no longer", READY + "PREPARE\nVALUE \nCHECKPRESENT WORM--a\n",

@@ -6,7 +6,7 @@ import shutil
 import time
 
 from annexed import REMOTE, Annex
-from harness import ANNEX_REMOTE_DIR, expect, limits, require, table
+from harness import ANNEX_REMOTE_DIR, SPECIAL, UUID, Done, expect, limits, require, run, table
 from kits import SIGN, Kit, contents, unfinished
 
 KEY = "WORM-s7--a"
@@ -114,6 +114,44 @@ def case_an_init_makes_the_folder_and_leaves_a_small_file_in_it(room):
     expect(os.listdir(directory), [SIGN], "what is in the folder")
     require("annex-remote-dir" in room.text(f"disk/{SIGN}"), "a sentence for people")
     expect(says(room, "PREPARE", f"VALUE {directory}", f"CHECKPRESENT {KEY}"), f"PREPARE-SUCCESS\nCHECKPRESENT-FAILURE {KEY}\n")
+
+
+RELATIVE = [
+    ("a name", "sub", "contents", "{room}/sub/contents"),
+    ("beside the folder", "sub", "../contents", "{room}/contents"),
+    ("dots and slashes", "sub", ".//a/../contents/.", "{room}/sub/contents"),
+    ("the folder itself", "sub", ".", "{room}/sub"),
+    ("above the root", "sub", "../" * 40 + "{room}/contents", "{room}/contents"),
+    ("a space", "sub", "my contents", "{room}/sub/my contents"),
+]
+
+
+@table(RELATIVE)
+def an_init_sets_a_relative_directory_to_its_whole_path(room, begins_in, directory, whole):
+    here = os.path.realpath(room.path())
+    whole, directory = whole.replace("{room}", here), directory.replace("{room}", here)
+    begins = room.mkdir(begins_in)
+    script = 'cd "$BEGINS" && exec "$REMOTE"'
+    done = room.run(["/bin/sh", "-c", script], input=f"INITREMOTE\nVALUE {directory}\nPREPARE\nVALUE {whole}\n", env={"BEGINS": begins, "REMOTE": ANNEX_REMOTE_DIR})
+    asks = "GETCONFIG directory\n"
+    expect(done, Done(0, f"VERSION 1\n{asks}SETCONFIG directory {whole}\nINITREMOTE-SUCCESS\n{asks}PREPARE-SUCCESS\n", ""))
+    require(os.path.exists(f"{whole}/{SIGN}"), "the folder is set up")
+
+
+def case_a_relative_directory_whose_path_no_line_can_hold_is_refused(room):
+    begins = room.mkdir("two\nlines")
+    done = run(["/bin/sh", "-c", 'cd "$BEGINS" && exec "$REMOTE"'], input="INITREMOTE\nVALUE d\n", env={"BEGINS": begins, "REMOTE": ANNEX_REMOTE_DIR})
+    refused = "INITREMOTE-FAILURE directory is relative: give the whole path, such as /home/me/backup\n"
+    expect(done, Done(0, f"VERSION 1\nGETCONFIG directory\n{refused}", ""))
+    expect(os.listdir(begins), [], "what it made")
+
+
+def case_an_init_of_special_keeps_the_whole_path(room):
+    room.mkdir("sub")
+    done = run(["/bin/sh", "-c", 'cd "$BEGINS" && exec "$SPECIAL_BIN" init "$REMOTE" "$UUID" ../kept directory=../contents'],
+               env={"BEGINS": room.path("sub"), "REMOTE": ANNEX_REMOTE_DIR, "SPECIAL_BIN": SPECIAL, "UUID": UUID})
+    expect(done, Done(0, "initialized\n", ""))
+    expect(room.text("kept"), f"annex-keep 1\nconfig directory {os.path.realpath(room.path())}/contents\n")
 
 
 def case_an_init_touches_nothing_that_lies_there(room):
@@ -234,3 +272,13 @@ def git_annex_loses_nothing_by_a_folder_that_is_out_of_reach(room, take_away):
     annex.well("git", "annex", "copy", "-q", "--to", REMOTE, "two")
     annex.well("git", "annex", "get", "-q", "one")
     expect((annex.recorded(), annex.present()), (["one", "two"], ["one", "two"]), "all is well")
+
+
+@limits(seconds=60)
+def case_git_annex_keeps_the_whole_path_of_a_relative_directory(room):
+    annex = Annex(room)
+    annex.well("git", "annex", "initremote", "-q", REMOTE, "type=external", "externaltype=milgroez", "directory=../directory", "encryption=none")
+    annex.add({"sub/one": "content of one"})
+    script = f"cd sub && git annex copy -q --to {REMOTE} one && git annex drop -q one && git annex get -q one && git annex fsck -q --fast --from {REMOTE} one"
+    annex.well("/bin/sh", "-c", script)
+    expect(annex.stored(), [annex.key("sub/one")], "what is stored")

@@ -5,3 +5,4 @@ pub mod Meaning
 pub mod Passing
 pub mod Reading
 pub mod Removing
+pub mod Spelling

@@ -1,6 +1,7 @@
 // A directory remote as it is served: it looks whether its directory is there, and touches nothing where it isn't.
 mod gates;
 mod guarded;
+mod keeping;
 pub mod laws;
 mod left;
 mod mem_place;

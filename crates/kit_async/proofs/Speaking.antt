@@ -9,12 +9,12 @@ use Rattle.annex_model.specs.Messages.{RemoteMessage, remote_line, Version, Erro
 use Rattle.annex_model.specs.Messages.{HostMessage, host_reading, AskExtensions, Prepare, Initremote, Transfer, Checkpresent, Remove, Listconfigs, Getcost, Getavailability, Getinfo, Whereis, Value, Creds, HostError, Exportsupported, Export, Transferexport, Checkpresentexport, Removeexport, Renameexport}
 use Rattle.annex_model.specs.Tags.{untag}
 use Rattle.kit_serve.specs.declared.kit.call.Said.{Said}
-use Rattle.kit_serve.specs.declared.kit.call.Said.TheVariants.{Yes, No, Failure}
-use Rattle.kit_serve.specs.Kit.Kits.{Due, Silence, Line, Asks as AsksFor, final_line, readying, refusal, transfer_asked, work_due}
+use Rattle.kit_serve.specs.declared.kit.call.Said.TheVariants.{Yes, No, Failure, Set}
+use Rattle.kit_serve.specs.Kit.Kits.{Due, Silence, Line, Asks as AsksFor, final_lines, readying, refusal, transfer_asked, work_due}
 use Rattle.kit_serve.specs.declared.kit.describe.Pair.{Pair}
 use Rattle.kit_serve.specs.declared.kit.describe.Availability.{Availability as Reach}
 use Rattle.kit_serve.specs.declared.kit.describe.Availability.TheVariants.{Global, Local}
-use Rattle.kit_serve.specs.Kit.Descriptions.{Description, all_messages, availability_message, config_message, cost_message, list_messages}
+use Rattle.kit_serve.specs.Kit.Descriptions.{Description, all_messages, availability_message, config_message, cost_message, list_messages, set_message}
 use Rattle.kit_async_model.specs.declared.about.About.{About}
 use Rattle.kit_async_model.specs.declared.about.Fact.{Fact}
 use Rattle.kit_async_model.specs.declared.about.Fact.TheVariants.{Fixed, Setting}
@@ -26,7 +26,7 @@ use Rattle.kit_async_model.specs.declared.hearing.Hearing.{Hearing}
 use Rattle.kit_async_model.specs.declared.hearing.Hearing.TheVariants.{Foul, Unexpected, Aside, Asks, Replies}
 use Rattle.kit_async_model.specs.Abouts.{about_of, all_facts, ended, fact_lines, lines_about, lines_by, lines_or, or_unsupported, pair_lines, told_of}
 use Rattle.kit_async_model.specs.Hearings.{hearing_of, text_in, value_told}
-use Rattle.kit_async_model.specs.Jobs.{due_in, final_in, if_prepared, is_awaiting, is_job_line, is_tagged_as, job_of, lines_in, next_name, request_due, request_of, settles, with_job, without_job}
+use Rattle.kit_async_model.specs.Jobs.{due_in, finals_in, if_prepared, is_awaiting, is_job_line, is_tagged_as, job_of, lines_in, next_name, request_due, request_of, settles, with_job, without_job}
 use Rattle.kit_async_model.specs.Laws.{is_spoken}
 use Rattle.kit_async_model.specs.Legality.{comes_where, follows, is_lack, is_legal, is_said, legal_from, may_come}
 use Rattle.kit_async_model.specs.Lines.{said_lines}
@@ -95,24 +95,33 @@ word_free ExportsupportedFailure h = refl
 word_free (RenameexportSuccess key) h = refl
 word_free (RenameexportFailure key) h = refl
 
-final_answer : (request : Option HostMessage) (said : Said) → is_answer (final_line request said) ≡ true
+all_sets : (ps : List Pair) → list_all is_answer (all_messages set_message ps ++ InitremoteSuccess ∷ []) ≡ true
+all_sets [] = refl
+all_sets (p ∷ ps) = all_sets ps
+
+final_answer : (request : Option HostMessage) (said : Said) → list_all is_answer (final_lines request said) ≡ true
 final_answer None said = refl
 final_answer (Some (AskExtensions names)) said = refl
 final_answer (Some Prepare) Yes = refl
 final_answer (Some Prepare) No = refl
 final_answer (Some Prepare) (Failure text) = refl
+final_answer (Some Prepare) (Set pairs) = refl
 final_answer (Some Initremote) Yes = refl
 final_answer (Some Initremote) No = refl
 final_answer (Some Initremote) (Failure text) = refl
+final_answer (Some Initremote) (Set pairs) = all_sets pairs
 final_answer (Some (Transfer store key file)) Yes = refl
 final_answer (Some (Transfer store key file)) No = refl
 final_answer (Some (Transfer store key file)) (Failure text) = refl
+final_answer (Some (Transfer store key file)) (Set pairs) = refl
 final_answer (Some (Checkpresent key)) Yes = refl
 final_answer (Some (Checkpresent key)) No = refl
 final_answer (Some (Checkpresent key)) (Failure text) = refl
+final_answer (Some (Checkpresent key)) (Set pairs) = refl
 final_answer (Some (Remove key)) Yes = refl
 final_answer (Some (Remove key)) No = refl
 final_answer (Some (Remove key)) (Failure text) = refl
+final_answer (Some (Remove key)) (Set pairs) = refl
 final_answer (Some Listconfigs) said = refl
 final_answer (Some Getcost) said = refl
 final_answer (Some Getavailability) said = refl
@@ -318,14 +327,14 @@ descriptions_tell_no_word setup d facts e =
 
 -- ---- what an entry makes due
 
-if_answer : (b : Bool) (number : ℕ) (text : List ℕ) → is_own_word text ≡ false → DueIsAnswer (if b then (number, text) ∷ [] else [])
-if_answer true number text h = (h, tt)
-if_answer false number text h = tt
+if_answer : (b : Bool) (number : ℕ) (lines : List (List ℕ)) → AreFree lines → DueIsAnswer (if b then map (λ (line : List ℕ). (number, line)) lines else [])
+if_answer true number lines h = lines_answer number lines h
+if_answer false number lines h = tt
 
 called_answer : (setup : Setup) (s : Standing) (said : Said) (o : Option Job) → DueIsAnswer s.due → DueIsAnswer (called_in setup s said o).due
 called_answer setup s said None h = h
 called_answer setup s said (Some job) h =
-    if_answer (not s.over && settles setup job said) job.number (final_in job said) (word_free (final_line (request_of job) said) (final_answer (request_of job) said))
+    if_answer (not s.over && settles setup job said) job.number (finals_in job said) (messages_free (final_lines (request_of job) said) (final_answer (request_of job) said))
 
 kept_due : (b : Bool) (s t : Standing) → t.due ≡ s.due → (if b then s else t).due ≡ s.due
 kept_due true s t e = refl

@@ -289,10 +289,10 @@ calls_noted h p q r said asked reply is l k text e = go (own_step h p q (Called 
         → calls_of h.fixed r (seen_of q) ≡ calls_of h.fixed r (seen_of p) ++ record { asked = plain asked; said = said } ∷ []
     go (inl w) = noted (due_said (after h.fixed s call).due) (due_uncalled h.fixed (after h.fixed s call) r (after h.fixed s call).due) (w.group_is ∙ ap (λ (x : Stepped). x.group) step_is)
     go (inr (inl b)) = let bad : false ≡ true = b.may in absurd cc
-    go (inr (inr u)) = noted (Lack ∷ []) refl (u.1.group_is ∙ ap (λ (x : Entry). x ∷ Lack ∷ []) (first_is u.1.call u.1.answer (sym u.1.whole ∙ ap (λ (x : Stepped). x.group) step_is)))
+    go (inr (inr u)) = noted (Lack ∷ []) refl (u.1.group_is ∙ ap (λ (x : Entry). x ∷ Lack ∷ []) (first_is u.1.call u.1.answer u.1.more (sym u.1.whole ∙ ap (λ (x : Stepped). x.group) step_is)))
       where
-        first_is : (c a : Entry) → c ∷ a ∷ [] ≡ call ∷ due_said (after h.fixed s call).due → c ≡ call
-        first_is c a w = cc
+        first_is : (c a : Entry) (more : List Entry) → c ∷ a ∷ more ≡ call ∷ due_said (after h.fixed s call).due → c ≡ call
+        first_is c a more w = cc
 
 -- ---- nothing is noted else
 

@@ -1,6 +1,6 @@
 -- What the steps of a remote come to.
 use Rattle.std.proofs.Common.{zero, suc, ◌≡◌, ℕ, ◌+◌, ◌-◌, ◌*◌, ◌≤◌, ◌<◌, List, [], ◌∷◌, ◌++◌, refl, sym, ap, subst, ◌∙◌, Bool, true, false, not, ◌==◌, cond, Some, None, Option, length, get_or, length-append, append_assoc, arith}
-use Rattle.std.specs.Prelude.{Result, Ok, Err, IfOk, ◌&&◌, ◌||◌, find, position, fold, set, remove, slice_get, nat_lt, IfSome}
+use Rattle.std.specs.Prelude.{Result, Ok, Err, IfOk, ◌&&◌, ◌||◌, find, map, position, fold, set, remove, slice_get, nat_lt, IfSome}
 use Rattle.std.proofs.lemmas.Bool.Decides.{nat_tests}
 use Rattle.std.proofs.lemmas.List.{append-nil, length-set}
 use Rattle.std.proofs.lemmas.Option.{slice_get_within}
@@ -13,12 +13,14 @@ use Rattle.kit_async_model.specs.declared.entry.Entry.{Entry}
 use Rattle.kit_async_model.specs.declared.entry.Entry.TheVariants.{Take, Call, Say, Lack}
 use Rattle.kit_async_model.specs.declared.event.Reply.{Reply}
 use Rattle.kit_async_model.specs.declared.event.Reply.TheVariants.{Done, Odd, Unsaid}
-use Rattle.kit_async_model.specs.Jobs.{is_making_ready, is_awaiting, is_worked_by, settles, prepared_after, final_in, job_line, job_of, with_job, without_job}
-use Rattle.kit_async_model.specs.Standings.{Standing, with_taken, with_call, answer_due, called_in, told_by, said_line, said_in, after}
+use Rattle.kit_async_model.specs.Jobs.{request_of, is_making_ready, is_awaiting, is_worked_by, settles, prepared_after, finals_in, job_line, job_of, with_job, without_job}
+use Rattle.kit_async_model.specs.Standings.{Standing, with_taken, with_call, answer_due, called_in, told_by, after}
 use Rattle.kit_async_model.specs.Legality.{is_idle, is_free, is_turn_of, is_called, is_done}
 use Rattle.kit_async_model.specs.Events.{Stepped, waiting, due_said, work_in, first_free, free_step, turn_step, take_step, called_then, called_step, call_step}
 use Rattle.kit_async_model.specs.Books.{BookIsAsBefore, AnswerKept, AnswerBegun, BookValue, AreApart, most_calls, calls_owed, room_owed, Took, Lacked, IsCalledAt, CallNoted}
 use Rattle.kit_async_model.proofs.Places.{Found, found_place, found_none, read_is, job_there, job_changed, change_there, removal_there, removal_changed, calls_set, calls_remove, passes_of}
+use Rattle.kit_async_model.proofs.Across.{finals_of}
+use Rattle.kit_async_core.proofs.Saying.{with_number, say_all, each_said, said_through, said_goes}
 use Rattle.std.proofs.lemmas.Bool.{not-true as not_false, and_parts as both}
 
 -- ---- who may be called
@@ -91,7 +93,7 @@ same_job : (setup : Setup) (old new : BookValue) (remote : ℕ) (said : Said) (p
     → (n : CallNoted setup old new remote said place) → n.job ≡ k.job
 same_job setup old new remote said place k n = let both_are : Some n.job ≡ Some k.job = sym n.there ∙ k.there in cc
 
--- after a call the due line, if there is one
+-- after a call the lines that are due, if there are some
 called_took : (setup : Setup) (old new : BookValue) (remote : ℕ) (said : Said) (job : Job) (t : Standing) (due : List (ℕ × List ℕ))
     → call_step setup old.stands remote said ≡ called_then (after setup old.stands (Call job.number remote said)) (Call job.number remote said)
     → after setup old.stands (Call job.number remote said) ≡ t → t.due ≡ due
@@ -115,7 +117,7 @@ unanswered : (setup : Setup) (job : Job) (said : Said) (over : Bool) → (not ov
 unanswered setup job said over h = rw h refl
 
 answered : (setup : Setup) (job : Job) (said : Said) (over : Bool) → over ≡ false → settles setup job said ≡ true
-    → answer_due setup job said over ≡ (job.number, final_in job said) ∷ []
+    → answer_due setup job said over ≡ with_number job.number (finals_in job said)
 answered setup job said over o h = rw (o, h) refl
 
 pub noted_took : (setup : Setup) (old new : BookValue) (remote : ℕ) (said : Said) (place : ℕ) → old.stands.due ≡ [] → AreApart old.stands.jobs
@@ -146,50 +148,56 @@ remove_set [] place job = refl
 remove_set (x ∷ xs) zero job = refl
 remove_set (x ∷ xs) (suc k) job = ap (λ (js : List Job). x ∷ js) (remove_set xs k job)
 
--- it is answered: the answer is said and to be written, and the job is closed
-pub settled_took : (setup : Setup) (old new : BookValue) (remote : ℕ) (said : Said) (place : ℕ) (line : List ℕ) → AreApart old.stands.jobs
+-- it is answered: the lines of the answer are said and to be written, and the job is closed
+pub settled_took : (setup : Setup) (old new : BookValue) (remote : ℕ) (said : Said) (place : ℕ) (lines : List (List ℕ)) → AreApart old.stands.jobs
     → (k : IsCalledAt setup old.stands remote said place) → old.stands.over ≡ false → settles setup k.job said ≡ true
-    → line ≡ job_line k.job.number (final_in k.job said)
-    → new.journal ≡ old.journal ++ Call k.job.number remote said ∷ Say k.job.number line ∷ []
+    → lines ≡ map (job_line k.job.number) (finals_in k.job said)
+    → new.journal ≡ old.journal ++ Call k.job.number remote said ∷ say_all k.job.number lines
     → new.stands ≡ record old.stands {
       due = [];
       prepared = prepared_after setup k.job said old.stands.prepared;
       told = told_by (prepared_after setup k.job said old.stands.prepared) k.job old.stands.told;
       jobs = remove old.stands.jobs place;
-      unwritten = old.stands.unwritten ++ line ∷ [];
+      unwritten = old.stands.unwritten ++ lines;
     }
-    → new.room + 2 ≡ old.room
+    → new.room + length lines + 1 ≡ old.room + 2 * (length lines - 1)
     → Took setup old new (call_step setup old.stands remote said) Done
-settled_took setup old new remote said place line a k o h l j s r =
+settled_took setup old new remote said place lines a k o h l j s r =
     let job : Job = k.job in
     let w = knows setup old.stands remote said place a k in
-    let jobs : List Job = set old.stands.jobs place (with_call (settles setup job said) job) in
-    let due : List (ℕ × List ℕ) = (job.number, final_in job said) ∷ [] in
+    let f = finals_of (request_of job) said in
+    let called : Job = with_call (settles setup job said) job in
+    let jobs : List Job = set old.stands.jobs place called in
+    let due : List (ℕ × List ℕ) = with_number job.number (f.line ∷ f.lines) in
+    let wire : List (List ℕ) = map (job_line job.number) (f.line ∷ f.lines) in
+    let wired : lines ≡ wire = l ∙ ap (λ (ls : List (List ℕ)). map (job_line job.number) ls) f.are in
     let t : Standing = record old.stands { due = due; prepared = prepared_after setup job said old.stands.prepared; jobs = jobs } in
     let after_is : after setup old.stands (Call job.number remote said) ≡ t =
-    w.after_is ∙ ap (λ (o : List (ℕ × List ℕ)). record old.stands { due = o; prepared = prepared_after setup job said old.stands.prepared; jobs = jobs }) (answered setup job said old.stands.over o h) in
-    let u : Standing = said_line t (job_line job.number (final_in job said)) in
+    w.after_is ∙ ap (λ (o : List (ℕ × List ℕ)). record old.stands { due = o; prepared = prepared_after setup job said old.stands.prepared; jobs = jobs })
+    (answered setup job said old.stands.over o h ∙ ap (λ (ls : List (List ℕ)). with_number job.number ls) f.are) in
+    let u : Standing = record t { due = []; unwritten = old.stands.unwritten ++ wire } in
     let told : List (List ℕ) = told_by (prepared_after setup job said old.stands.prepared) job old.stands.told in
     let changed : with_job job.number (with_call (settles setup job said)) old.stands.jobs ≡ jobs = change_there (with_call (settles setup job said)) old.stands.jobs place job a k.there in
-    let found : job_of jobs job.number ≡ Some (with_call (settles setup job said) job) =
+    let found : job_of jobs job.number ≡ Some called =
     ap (λ (js : List Job). job_of js job.number) (sym changed)
     ∙ job_changed (with_call (settles setup job said)) old.stands.jobs job.number job (λ x. refl) (job_there old.stands.jobs place job a k.there) in
     let gone : without_job job.number jobs ≡ remove old.stands.jobs place =
     ap (without_job job.number) (sym changed)
     ∙ removal_changed (with_call (settles setup job said)) old.stands.jobs job.number (λ x. refl)
     ∙ removal_there old.stands.jobs place job a k.there in
-    let waits : is_awaiting setup (with_call (settles setup job said) job) ≡ false = called_waits setup old.stands.jobs remote job (passes_of (is_called setup old.stands.jobs remote) old.stands.jobs job k.called) in
-    let closes : said_in setup u (Some (with_call (settles setup job said) job)) ≡ record u { told = told; jobs = without_job job.number jobs } = rw (o, waits) refl in
+    let waits : is_awaiting setup called ≡ false = called_waits setup old.stands.jobs remote job (passes_of (is_called setup old.stands.jobs remote) old.stands.jobs job k.called) in
     called_took setup old new remote said job t due w.step after_is refl
-    (j ∙ ap (λ (x : List ℕ). old.journal ++ Call job.number remote said ∷ Say job.number x ∷ []) l)
-    (s ∙ ap (λ (x : List ℕ). record (said_line t x) { told = told; jobs = remove old.stands.jobs place }) l
+    (j ∙ ap (λ (ls : List (List ℕ)). old.journal ++ Call job.number remote said ∷ say_all job.number ls) wired
+    ∙ ap (λ (es : List Entry). old.journal ++ Call job.number remote said ∷ es) (sym (each_said job.number (f.line ∷ f.lines))))
+    (s ∙ ap (λ (ls : List (List ℕ)). record u { told = told; jobs = remove old.stands.jobs place; unwritten = old.stands.unwritten ++ ls }) wired
     ∙ ap (λ (js : List Job). record u { told = told; jobs = js }) (sym gone)
-    ∙ sym closes
-    ∙ sym (ap (said_in setup u) found))
+    ∙ sym (said_goes setup u called refl o waits)
+    ∙ sym (said_through setup t called f.line f.lines refl found))
     (λ m.
-    let e : room_owed setup new.stands ≡ 3 * calls_owed setup (remove old.stands.jobs place) + length (old.stands.unwritten ++ line ∷ []) = ap (room_owed setup) s in
+    let e : room_owed setup new.stands ≡ 3 * calls_owed setup (remove old.stands.jobs place) + length (old.stands.unwritten ++ lines) = ap (room_owed setup) s in
     let removed = calls_remove setup old.stands.jobs place job k.there in
-    omega (arith, e, m, r, removed, k.few, length-append old.stands.unwritten (line ∷ [])))
+    let some : length lines ≡ suc (length (map (job_line job.number) f.lines)) = ap (λ (ls : List (List ℕ)). length ls) wired in
+    omega (arith, e, m, r, removed, k.few, some, length-append old.stands.unwritten lines))
 
 -- no memory was found for the answer
 pub settled_lacked : (setup : Setup) (old new : BookValue) (remote : ℕ) (said : Said) (place : ℕ) → AreApart old.stands.jobs
@@ -209,12 +217,14 @@ settled_lacked setup old new remote said place a k o h j s r =
     let w = knows setup old.stands remote said place a k in
     let jobs : List Job = set old.stands.jobs place (with_call (settles setup job said) job) in
     let t : Standing = record old.stands { due = answer_due setup job said old.stands.over; prepared = prepared_after setup job said old.stands.prepared; jobs = jobs } in
-    let due : t.due ≡ (job.number, final_in job said) ∷ [] = answered setup job said old.stands.over o h in
+    let f = finals_of (request_of job) said in
+    let due : t.due ≡ with_number job.number (f.line ∷ f.lines) = answered setup job said old.stands.over o h ∙ ap (λ (ls : List (List ℕ)). with_number job.number ls) f.are in
     record {
       group = call ∷ Lack ∷ [];
       unsaid = record {
         call = call;
-        answer = Say job.number (job_line job.number (final_in job said));
+        answer = Say job.number (job_line job.number f.line);
+        more = due_said (with_number job.number f.lines);
         whole = ap (λ (step : Stepped). step.group) w.step
             ∙ ap (λ (u : Standing). call ∷ due_said u.due) w.after_is
             ∙ ap (λ (x : List (ℕ × List ℕ)). call ∷ due_said x) due;
@@ -267,9 +277,9 @@ pub record CoreBegun (old mid : BookValue) : Type 0 where
   pub room : old.room ≤ mid.room
   pub jobs : mid.stands.jobs ≡ old.stands.jobs
 
-pub begun_is : (old mid : BookValue) (place : ℕ) (said : Said) (o : Option (List ℕ)) → AnswerBegun old mid place said o → CoreBegun old mid
+pub begun_is : (old mid : BookValue) (place : ℕ) (said : Said) (o : Option (List (List ℕ))) → AnswerBegun old mid place said o → CoreBegun old mid
 begun_is old mid place said None b = record { room = b.room; jobs = ap (λ (t : Standing). t.jobs) b.stands }
-begun_is old mid place said (Some line) b = record { room = omega (arith, b.room); jobs = ap (λ (t : Standing). t.jobs) b.stands }
+begun_is old mid place said (Some lines) b = record { room = omega (arith, b.room); jobs = ap (λ (t : Standing). t.jobs) b.stands }
 
 -- there is room for the call, its answer, and that it is written
 pub some_room : (setup : Setup) (old : BookValue) (remote : ℕ) (said : Said) (place : ℕ) → IsCalledAt setup old.stands remote said place → room_owed setup old.stands ≤ old.room → 3 ≤ old.room
@@ -299,32 +309,32 @@ set_there [] place old new h = absurd cc
 set_there (x ∷ xs) zero old new h = refl
 set_there (x ∷ xs) (suc k) old new h = set_there xs k old new h
 
-pub answered_settles : (setup : Setup) (old mid noted new : BookValue) (remote : ℕ) (said : Said) (place number : ℕ) (line : List ℕ) → AreApart old.stands.jobs
+pub answered_settles : (setup : Setup) (old mid noted new : BookValue) (remote : ℕ) (said : Said) (place number : ℕ) (lines : List (List ℕ)) → AreApart old.stands.jobs
     → (k : IsCalledAt setup old.stands remote said place) → old.stands.over ≡ false → settles setup k.job said ≡ true → number ≡ k.job.number
-    → AnswerKept old mid place said line → CallNoted setup mid noted remote said place
-    → new.journal ≡ noted.journal ++ Say number line ∷ []
+    → AnswerKept old mid place said lines → CallNoted setup mid noted remote said place
+    → new.journal ≡ noted.journal ++ say_all number lines
     → IfSome (slice_get noted.stands.jobs place) (λ job. new.stands ≡ record noted.stands { due = []; told = told_by noted.stands.prepared job noted.stands.told; jobs = remove noted.stands.jobs place })
-    → new.room + 1 ≡ noted.room
+    → new.room + length lines ≡ noted.room
     → Took setup old new (call_step setup old.stands remote said) Done
-answered_settles setup old mid noted new remote said place number line a k o h num b n j s r =
+answered_settles setup old mid noted new remote said place number lines a k o h num b n j s r =
     let is : n.job ≡ k.job = mid_job setup old mid noted remote said place k (ap (λ (t : Standing). t.jobs) b.stands) n in
     let called : Job = with_call (settles setup n.job said) n.job in
     let there : slice_get noted.stands.jobs place ≡ Some called =
     ap (λ (t : Standing). slice_get t.jobs place) n.stands ∙ set_there mid.stands.jobs place n.job called n.there in
     let stands : new.stands ≡ record noted.stands { due = []; told = told_by noted.stands.prepared called noted.stands.told; jobs = remove noted.stands.jobs place } =
     subst (λ (x : Option Job). IfSome x (λ job. new.stands ≡ record noted.stands { due = []; told = told_by noted.stands.prepared job noted.stands.told; jobs = remove noted.stands.jobs place })) there s in
-    let answer : line ≡ job_line k.job.number (final_in k.job said) = subst (λ (x : Option Job). IfSome x (λ job. line ≡ job_line job.number (final_in job said))) k.there b.answer in
-    settled_took setup old new remote said place line a k o h answer
-    (j ∙ ap (λ (es : List Entry). es ++ Say number line ∷ []) (n.journal ∙ ap (λ (es : List Entry). es ++ Call n.job.number remote said ∷ []) b.journal)
-    ∙ append_assoc old.journal (Call n.job.number remote said ∷ []) (Say number line ∷ [])
-    ∙ ap (λ (x : Job). old.journal ++ Call x.number remote said ∷ Say number line ∷ []) is
-    ∙ ap (λ (m : ℕ). old.journal ++ Call k.job.number remote said ∷ Say m line ∷ []) num)
+    let answer : lines ≡ map (job_line k.job.number) (finals_in k.job said) = subst (λ (x : Option Job). IfSome x (λ job. lines ≡ map (job_line job.number) (finals_in job said))) k.there b.answer in
+    settled_took setup old new remote said place lines a k o h answer
+    (j ∙ ap (λ (es : List Entry). es ++ say_all number lines) (n.journal ∙ ap (λ (es : List Entry). es ++ Call n.job.number remote said ∷ []) b.journal)
+    ∙ append_assoc old.journal (Call n.job.number remote said ∷ []) (say_all number lines)
+    ∙ ap (λ (x : Job). old.journal ++ Call x.number remote said ∷ say_all number lines) is
+    ∙ ap (λ (m : ℕ). old.journal ++ Call k.job.number remote said ∷ say_all m lines) num)
     (stands
     ∙ ap (λ (t : Standing). record t { due = []; told = told_by t.prepared called t.told; jobs = remove t.jobs place }) n.stands
     ∙ ap (λ (t : Standing). record t { due = []; prepared = prepared_after setup n.job said t.prepared; told = told_by (prepared_after setup n.job said t.prepared) called t.told; jobs = remove (set t.jobs place called) place }) b.stands
-    ∙ ap (λ (js : List Job). record old.stands { due = []; prepared = prepared_after setup n.job said old.stands.prepared; told = told_by (prepared_after setup n.job said old.stands.prepared) called old.stands.told; jobs = js; unwritten = old.stands.unwritten ++ line ∷ [] })
+    ∙ ap (λ (js : List Job). record old.stands { due = []; prepared = prepared_after setup n.job said old.stands.prepared; told = told_by (prepared_after setup n.job said old.stands.prepared) called old.stands.told; jobs = js; unwritten = old.stands.unwritten ++ lines })
     (remove_set old.stands.jobs place called)
-    ∙ ap (λ (x : Job). record old.stands { due = []; prepared = prepared_after setup x said old.stands.prepared; told = told_by (prepared_after setup x said old.stands.prepared) x old.stands.told; jobs = remove old.stands.jobs place; unwritten = old.stands.unwritten ++ line ∷ [] }) is)
+    ∙ ap (λ (x : Job). record old.stands { due = []; prepared = prepared_after setup x said old.stands.prepared; told = told_by (prepared_after setup x said old.stands.prepared) x old.stands.told; jobs = remove old.stands.jobs place; unwritten = old.stands.unwritten ++ lines }) is)
     (omega (arith, r, n.room, b.room))
 
 pub lacking_settles : (setup : Setup) (old mid noted new : BookValue) (remote : ℕ) (said : Said) (place : ℕ) → AreApart old.stands.jobs

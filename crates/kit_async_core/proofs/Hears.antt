@@ -1,6 +1,6 @@
 -- What the steps of a line of the host come to.
-use Rattle.std.proofs.Common.{suc, ◌≡◌, ℕ, ◌+◌, ◌*◌, ◌≤◌, List, [], ◌∷◌, ◌++◌, refl, sym, ap, subst, ◌∙◌, Bool, true, false, ◌==◌, cond, Some, None, Option, length, get_or, length-append, append_assoc, arith}
-use Rattle.std.specs.Prelude.{◌&&◌, ◌||◌, position, drop, map, fold, set, slice_get, option_map, is_some, IfSome}
+use Rattle.std.proofs.Common.{suc, ◌≡◌, ℕ, ◌+◌, ◌*◌, ◌≤◌, List, [], ◌∷◌, ◌++◌, refl, sym, ap, subst, ◌∙◌, Bool, true, false, ◌==◌, cond, Some, None, Option, length, get_or, length-append, arith}
+use Rattle.std.specs.Prelude.{◌&&◌, ◌||◌, position, map, fold, set, slice_get, option_map, is_some, IfSome}
 use Rattle.annex_model.specs.Messages.{Getconfig, host_reading, remote_line}
 use Rattle.annex_model.specs.Messages.{HostMessage, AskExtensions, Prepare, Initremote, Transfer, Checkpresent, Remove, Listconfigs, Getcost, Getavailability, Getinfo, Whereis, Exportsupported, Export, Transferexport, Checkpresentexport, Removeexport, Renameexport, Value, Creds, HostError}
 use Rattle.kit_serve.specs.Kit.Kits.{Due, is_prepare, is_readying}
@@ -26,6 +26,7 @@ use Rattle.kit_async_model.proofs.Askings.{never}
 use Rattle.kit_async_model.proofs.FactLines.{not_zero}
 use Rattle.std.proofs.lemmas.Bool.{and_parts as both, eqb-true as equal}
 use Rattle.kit_async_model.proofs.Across.{live, over_said}
+use Rattle.kit_async_core.proofs.Saying.{with_number, say_all, each_said, said_through, said_goes}
 
 -- ---- any line
 
@@ -211,16 +212,8 @@ request_after setup s line job is = heard_of setup s line (Asks job.number) is.h
 fresh_calls : (setup : Setup) (s : Standing) (line : List ℕ) (job : Job) → IsRequest setup s line job → job.calls ≡ 0
 fresh_calls setup s line job is = ap (λ (j : Job). j.calls) is.job_is
 
--- what is said of a job, by the line that is due
-abbrev with_number : ℕ → List (List ℕ) → List (ℕ × List ℕ)
-with_number n lines = map (λ line. (n, line)) lines
-
 mapped_none : (setup : Setup) (told : List (List ℕ)) (job : Job) → lines_in setup told job ≡ [] → due_of_job setup told job ≡ []
 mapped_none setup told job e = ap (with_number job.number) e
-
--- these lines, said for a job
-abbrev pub say_all : ℕ → List (List ℕ) → List Entry
-say_all n lines = map (λ line. Say n line) lines
 
 -- some line is due, and these stand on the wire
 record SomeLine (setup : Setup) (told : List (List ℕ)) (job : Job) (said : List (List ℕ)) : Type 0 where
@@ -245,29 +238,6 @@ none_wired n [] said e h = refl
 none_wired n (line ∷ lines) said e h =
     let some : (suc (length (map (job_line n) lines)) == 0) ≡ true = subst (λ (ls : List (List ℕ)). (length ls == 0) ≡ true) (sym e) h in
     absurd (never (suc (length (map (job_line n) lines)) == 0) some (not_zero (length (map (job_line n) lines))))
-
-each_said : (n : ℕ) (lines : List (List ℕ)) → due_said (with_number n lines) ≡ say_all n (map (job_line n) lines)
-each_said n [] = refl
-each_said n (line ∷ lines) = ap (λ (es : List Entry). Say n (job_line n line) ∷ es) (each_said n lines)
-
--- where they are said one after the other, the job is open until the last of them
-said_through : (setup : Setup) (t : Standing) (job : Job) (line : List ℕ) (lines : List (List ℕ)) → t.due ≡ with_number job.number (line ∷ lines)
-    → job_of t.jobs job.number ≡ Some job
-    → fold (after setup) t (due_said (with_number job.number (line ∷ lines)))
-    ≡ said_in setup (record t { due = []; unwritten = t.unwritten ++ map (job_line job.number) (line ∷ lines) }) (Some job)
-said_through setup t job line [] d f =
-    let l : List ℕ = job_line job.number line in
-    ap (λ (due : List (ℕ × List ℕ)). said_in setup (record t { due = drop 1 due; unwritten = t.unwritten ++ l ∷ [] }) (job_of t.jobs job.number)) d
-    ∙ ap (said_in setup (record t { due = []; unwritten = t.unwritten ++ l ∷ [] })) f
-said_through setup t job line (next ∷ rest) d f =
-    let l : List ℕ = job_line job.number line in
-    let u : Standing = record t { due = with_number job.number (next ∷ rest); unwritten = t.unwritten ++ l ∷ [] } in
-    let first : after setup t (Say job.number l) ≡ u =
-    ap (λ (due : List (ℕ × List ℕ)). said_in setup (record t { due = drop 1 due; unwritten = t.unwritten ++ l ∷ [] }) (job_of t.jobs job.number)) d
-    ∙ ap (said_in setup u) f in
-    ap (λ (v : Standing). fold (after setup) v (due_said (with_number job.number (next ∷ rest)))) first
-    ∙ said_through setup u job next rest refl f
-    ∙ ap (λ (ls : List (List ℕ)). said_in setup (record t { due = []; unwritten = ls }) (Some job)) (append_assoc t.unwritten (l ∷ []) (map (job_line job.number) (next ∷ rest)))
 
 pub begin_took : (setup : Setup) (old new : BookValue) (line : List ℕ) (job : Job) → may_hear setup old.stands ≡ true
     → IsRequest setup old.stands line job → lines_in setup old.stands.told job ≡ []
@@ -301,10 +271,6 @@ said_stays setup u job w = go (is_some_due u.due) u.over
     go true b = refl
     go false true = refl
     go false false = rw w refl
-
-said_goes : (setup : Setup) (u : Standing) (job : Job) → is_some_due u.due ≡ false → u.over ≡ false → is_awaiting setup job ≡ false
-    → said_in setup u (Some job) ≡ record u { told = told_by u.prepared job u.told; jobs = without_job job.number u.jobs }
-said_goes setup u job d o a = rw (d, o, a) refl
 
 pub ask_took : (setup : Setup) (old new : BookValue) (line : List ℕ) (job : Job) (said : List (List ℕ)) → may_hear setup old.stands ≡ true
     → IsRequest setup old.stands line job → map (job_line job.number) (lines_in setup old.stands.told job) ≡ said → is_some_line said ≡ true → is_awaiting setup job ≡ true

@@ -17,7 +17,7 @@ use Rattle.kit_async_model.specs.declared.entry.Entry.{Entry}
 use Rattle.kit_async_model.specs.declared.entry.Entry.TheVariants.{Heard, Take, Call, Say, Wrote, Close, Lack}
 use Rattle.kit_async_model.specs.declared.hearing.Hearing.{Hearing}
 use Rattle.kit_async_model.specs.declared.hearing.Hearing.TheVariants.{Foul, Unexpected, Aside, Asks, Replies}
-use Rattle.kit_async_model.specs.Jobs.{is_making_ready, is_awaiting, is_for_any, is_number, is_worked_by, is_first_of_key, is_job_line, has_number, job_of, with_job, without_job, settles, lines_in, due_in}
+use Rattle.kit_async_model.specs.Jobs.{is_making_ready, is_awaiting, is_for_any, is_number, is_worked_by, is_first_of_key, is_job_line, has_number, job_of, with_job, without_job, settles, finals_in, lines_in, due_in}
 use Rattle.kit_async_model.specs.Hearings.{hearing_of, text_in, value_told}
 use Rattle.kit_async_model.specs.Legality.{Legal, holds_back, is_idle, is_free, some_job, is_turn_of, is_called, is_said, may_come, comes_where, follows, legal_from}
 use Rattle.kit_async_model.specs.Standings.{Standing, new_job, with_value, with_taken, with_call, due_of, answer_due, called_in, is_some_due, said_line, said_in, heard_as, after, standing}
@@ -213,7 +213,7 @@ answer_apart : (setup : Setup) (j : Job) (said : Said) (over now : Bool) (job : 
 answer_apart setup j said over now job h = go (not over && settles setup j said) refl
   where
     go : (b : Bool) → (not over && settles setup j said) ≡ b → DueApart (answer_due setup j said over) now job
-    go true e = rw e (inr h, tt)
+    go true e = rw e (mapped_apart now job j.number (finals_in j said) h)
     go false e = rw e tt
 
 called_lasts : (setup : Setup) (r n : ℕ) (s : Standing) (said : Said) (job : Job) → has_number n job ≡ false → s.due ≡ [] → Busy setup r s.jobs job

@@ -5,4 +5,5 @@ pub mod Hears
 pub mod KitHalls
 pub mod Lasting
 pub mod Listening
+pub mod Saying
 pub mod Steps

@@ -90,7 +90,7 @@ broken_hears Break = refl
 uncalled : (setup : Setup) (s : Standing) (event : Event) (group : List Entry) (reply : Reply) → is_call event ≡ true → IsUnsaid (event_step setup s 1 event) group reply → ⊥
 uncalled setup s (Hear line) group reply c u = absurd cc
 uncalled setup s TakeUp group reply c u = absurd cc
-uncalled setup s (Called said) group reply c u = let w : [] ≡ u.call ∷ u.answer ∷ [] = u.whole in absurd cc
+uncalled setup s (Called said) group reply c u = let w : [] ≡ u.call ∷ u.answer ∷ u.more = u.whole in absurd cc
 uncalled setup s Next group reply c u = absurd cc
 uncalled setup s Written group reply c u = absurd cc
 uncalled setup s Deafen group reply c u = absurd cc

@@ -11,6 +11,7 @@ use kit_async_model::jobs::{all_await, hold_back};
 use kit_async_model::{Entries, Entry, Job, Reply, Setup};
 use kit_serve::kit::Values;
 use std::alloc::Global;
+use std::collections::VecDeque;
 use std::marker::Model;
 
 /// The journal of a kit, and beside it how the kit stands, where nothing is due.
@@ -26,7 +27,7 @@ pub(crate) struct Book {
     pub(crate) over: bool,
     pub(crate) closed: bool,
     // What was said and isn't written yet.
-    pub(crate) unwritten: Vec<Bytes>,
+    pub(crate) unwritten: VecDeque<Bytes>,
 }
 
 impl Model for Book {
@@ -60,8 +61,8 @@ impl Book {
     {
         let line = Bytes::copy(alloc, b"VERSION 1")?;
         let copy = Bytes::copy(alloc, line.view())?;
-        let mut unwritten = Vec::new(alloc);
-        unwritten.push(copy)?;
+        let mut unwritten = VecDeque::new(alloc);
+        unwritten.push_back(copy)?;
         let mut journal = Entries::new(alloc, kept);
         journal.take_room(2)?;
         journal.push(Entry::Say { job: 0, line });
@@ -96,7 +97,7 @@ impl Book {
     pub(crate) fn next(&self, setup: &Setup) -> Result<Reply, NoMemory>
         ensures { IfOk result (λ reply. reply ≡ next_reply (is_done setup.now self.now.stands) self.now.stands.unwritten) }
     {
-        match self.unwritten.first() {
+        match self.unwritten.front() {
             Some(line) => Ok(Reply::Line(Bytes::copy(self.alloc, line.view())?)),
             None => Ok(waiting(self.is_done(setup))),
         }
@@ -111,7 +112,7 @@ impl Book {
         if self.unwritten.is_empty() {
             return Reply::Odd;
         }
-        self.unwritten.remove(0);
+        self.unwritten.pop_front();
         self.journal.push(Entry::Wrote);
         Reply::Done
     }

@@ -1,5 +1,5 @@
 // The steps of a line of the host.
-ghost use Rattle.std.specs.Prelude.{◌≡◌, ◌≤◌, ◌||◌, ◌+◌, ◌*◌, ◌++◌, ◌∷◌, [], IfOk, IfSome, OnOk, OnErr, Some, None, true, false, length, map, option_map, slice_get};
+ghost use Rattle.std.specs.Prelude.{◌≡◌, ◌||◌, ◌+◌, ◌++◌, ◌∷◌, [], IfOk, IfSome, OnOk, OnErr, Some, None, true, false, length, map, option_map, slice_get};
 ghost use Rattle.annex_model.specs.Messages.{Getconfig, host_reading, remote_line};
 ghost use Rattle.wire_msg.specs.Shown.{host_shown};
 ghost use Rattle.kit_async_model.specs.declared.entry.Entry.TheVariants.{Heard, Say};
@@ -13,6 +13,7 @@ ghost use Rattle.kit_async_model.specs.Standings.{starts_tags};
 ghost use Rattle.kit_async_core.specs.Steps.{AsksNext};
 
 use crate::book::{Book, waiting};
+use crate::lines::{all_wired, begin_lines, room_for, say_all};
 use ann_key::{Bytes, NoMemory};
 use kit_async_model::due::{has_async, job_line};
 use kit_async_model::hearing::{Hearing, hearing_of, text_in};
@@ -20,6 +21,7 @@ use kit_async_model::jobs::place_of;
 use kit_async_model::{Entries, Entry, Job, Reply, Setup};
 use kit_serve::kit::Values;
 use std::alloc::Global;
+use std::collections::VecDeque;
 use wire_msg::{HostMsg, RemoteMsg, read_host, write_remote};
 
 // EXTENSIONS with ASYNC among its names.
@@ -62,64 +64,11 @@ fn wired(alloc: Global, number: u64, text: Option<Bytes>) -> Result<Option<Bytes
     }
 }
 
-// The same of several.
-fn all_wired(alloc: Global, number: u64, texts: &[Bytes]) -> Result<Vec<Bytes>, NoMemory>
-    ensures { IfOk result (λ lines. lines.items ≡ map (job_line number) texts.now) }
-{
-    let mut lines = Vec::new(alloc);
-    for text in texts {
-        let text = Bytes::copy(alloc, text.view())?;
-        lines.push(job_line(alloc, number, text)?)?;
-    }
-    Ok(lines)
-}
-
-fn copies(alloc: Global, lines: &[Bytes]) -> Result<Vec<Bytes>, NoMemory>
-    ensures { IfOk result (λ copies. copies.items ≡ lines.now) }
-{
-    let mut copies = Vec::new(alloc);
-    for line in lines {
-        copies.push(Bytes::copy(alloc, line.view())?)?;
-    }
-    Ok(copies)
-}
-
-// These lines are said for that job. There is room for them.
-fn say_all(journal: &mut Entries, number: u64, said: Vec<Bytes>)
-    requires { length said.items ≤ journal.old.room }
-    ensures kept { journal.new.kept ≡ journal.old.kept }
-    ensures entries { journal.new.entries ≡ journal.old.entries ++ map (λ line. Say number line) said.items }
-    ensures room { journal.new.room + length said.items ≡ journal.old.room }
-{
-    for line in said {
-        journal.push(Entry::Say { job: number, line });
-    }
-}
-
-// Room for a line that is heard, and for so many that are said and to be written.
-fn take_room(journal: &mut Entries, said: usize, more: usize) -> Result<(), NoMemory>
-    ensures kept { journal.new.kept ≡ journal.old.kept }
-    ensures entries { journal.new.entries ≡ journal.old.entries }
-    ensures ok { OnOk result (journal.new.room ≡ journal.old.room + 1 + 2 * said + more) }
-    ensures err { OnErr result (journal.new.room ≡ journal.old.room) }
-{
-    let Some(twice) = said.checked_mul(2) else {
-        return Err(NoMemory);
-    };
-    let Some(whole) = twice.checked_add(more) else {
-        return Err(NoMemory);
-    };
-    let Some(room) = whole.checked_add(1) else {
-        return Err(NoMemory);
-    };
-    journal.take_room(room)
-}
-
 // A line was heard and these were said for that job, which are to be written.
 fn note_all_said(
     alloc: Global,
     journal: &mut Entries,
-    unwritten: &mut Vec<Bytes>,
+    unwritten: &mut VecDeque<Bytes>,
     line: Bytes,
     number: u64,
     said: Vec<Bytes>,
@@ -131,12 +80,11 @@ fn note_all_said(
     ensures room { OnOk result (journal.new.room ≡ journal.old.room + length said.items + more) }
     ensures err { OnErr result ((journal.new ≡ journal.old) × (unwritten.new.items ≡ unwritten.old.items)) }
 {
-    let mut copies = copies(alloc, said.as_slice())?;
-    unwritten.reserve(copies.len())?;
-    take_room(journal, said.len(), more)?;
-    let Ok(()) = unwritten.append(&mut copies) else {
-        unreachable!()
+    let Some(more) = more.checked_add(1) else {
+        return Err(NoMemory);
     };
+    let room = room_for(said.len(), more)?;
+    begin_lines(alloc, journal, unwritten, said.as_slice(), room)?;
     journal.push(Entry::Heard { line });
     say_all(journal, number, said);
     Ok(())
@@ -146,7 +94,7 @@ fn note_all_said(
 fn note_said(
     alloc: Global,
     journal: &mut Entries,
-    unwritten: &mut Vec<Bytes>,
+    unwritten: &mut VecDeque<Bytes>,
     line: Bytes,
     number: u64,
     said: Bytes,
@@ -169,7 +117,7 @@ fn note_said(
         job: number,
         line: said,
     });
-    unwritten.push_reserved(copy);
+    unwritten.push_back_reserved(copy);
     Ok(())
 }
 

@@ -5,6 +5,7 @@
 mod book;
 mod hear;
 pub mod laws;
+mod lines;
 mod machine;
 mod shared;
 mod work;

@@ -1,19 +1,48 @@
 // The steps of a remote: what it takes up, and what it says.
-ghost use Rattle.std.specs.Prelude.{◌≡◌, ◌⊎◌, ◌<◌, ◌≤◌, ◌+◌, ◌^◌, IfOk, IfSome, OnErr, false, true, not, ◌&&◌, length, remove, slice_get};
+ghost use Rattle.std.specs.Prelude.{◌≡◌, ◌⊎◌, ◌<◌, ◌≤◌, ◌+◌, ◌-◌, ◌*◌, ◌++◌, ◌^◌, IfOk, IfSome, IsTrue, OnErr, OnOk, false, true, not, ◌&&◌, length, option_map, remove, slice_get, vec_items};
+ghost use Rattle.std.specs.List.{list_all};
+ghost use Rattle.annex_model.specs.Lines.{has_newline};
+ghost use Rattle.annex_model.specs.Messages.{is_word};
 ghost use Rattle.kit_serve.specs.Kit.Calls.{is_line_said};
+ghost use Rattle.kit_serve.specs.Kit.Descriptions.{is_config};
 ghost use Rattle.kit_async_model.specs.Books.{Took, Lacked, BookIsAsBefore, AreApart, room_owed, IsAnswer, IsCalledAt, CallNoted, AnswerBegun};
 ghost use Rattle.kit_async_model.specs.Legality.{is_idle};
 ghost use Rattle.kit_async_model.specs.Events.{take_step, call_step, work_in};
-ghost use Rattle.kit_async_model.specs.Jobs.{final_in, job_line, prepared_after, settles};
+ghost use Rattle.kit_async_model.specs.Jobs.{prepared_after, settles};
 ghost use Rattle.kit_async_model.specs.Standings.{told_by, with_call};
 
 use crate::book::{Book, waiting};
+use crate::lines::{all_wired, begin_lines, room_for, say_all};
 use ann_key::{Bytes, NoMemory};
-use kit_async_model::due::job_line;
 use kit_async_model::jobs::{called, first_free, is_idle, turn_of};
 use kit_async_model::{Entry, Job, Reply, Setup};
-use kit_serve::kit::Said;
+use kit_serve::kit::{Pair, Said};
 use std::alloc::Global;
+
+fn is_line(bytes: &[u8]) -> bool
+    ensures { result ≡ not (has_newline bytes.now) }
+{
+    !bytes.contains(&b'\n')
+}
+
+fn is_word(bytes: &[u8]) -> bool
+    ensures { result ≡ is_word bytes.now }
+{
+    !bytes.contains(&b' ')
+}
+
+// The setting can be told on a line, its name as a word.
+fn is_config(pair: &Pair) -> bool
+    ensures { result ≡ is_config pair.now }
+{
+    is_word(pair.name.view()) && is_line(pair.name.view()) && is_line(pair.text.view())
+}
+
+fn are_configs(pairs: &[Pair]) -> bool
+    ensures { result ≡ list_all is_config pairs.now }
+{
+    pairs.iter().all(|pair| is_config(pair))
+}
 
 // No line ends in what the remote said.
 fn is_line_said(said: &Said) -> bool
@@ -21,7 +50,8 @@ fn is_line_said(said: &Said) -> bool
 {
     match said {
         Said::Yes | Said::No => true,
-        Said::Failure(text) => !text.view().contains(&b'\n'),
+        Said::Failure(text) => is_line(text.view()),
+        Said::Set(pairs) => are_configs(pairs.view()),
     }
 }
 
@@ -111,29 +141,47 @@ impl Book {
         note_in(&mut self.jobs[at], settles);
     }
 
-    // The answer to the job at that place, twice: for the journal and to be written.
-    fn answer(&self, at: usize, said: &Said) -> Result<(Bytes, Bytes), NoMemory>
+    // The answer to the job at that place.
+    fn answer(&self, at: usize, said: &Said) -> Result<Vec<Bytes>, NoMemory>
         requires at { at < length self.now.stands.jobs }
-        ensures { IfOk result (λ both. IsAnswer self.now.stands.jobs at said.now both.0 × IsAnswer self.now.stands.jobs at said.now both.1) }
+        requires text { IsTrue (is_line_said said.now) }
+        ensures { IfOk result (λ lines. IsAnswer self.now.stands.jobs at said.now lines.items) }
     {
         let job = &self.jobs[at];
-        let text = job.final_line(self.alloc, said)?;
-        let line = job_line(self.alloc, job.number, text)?;
-        let copy = Bytes::copy(self.alloc, line.view())?;
-        Ok((line, copy))
+        let texts = job.final_lines(self.alloc, said)?;
+        all_wired(self.alloc, job.number, texts.view())
+    }
+
+    // The lines are to be written. There is room for one of them, and each further one takes its own.
+    fn begin_wired(&mut self, lines: &[Bytes]) -> Result<(), NoMemory>
+        ensures kept { self.new.kept ≡ self.old.kept }
+        ensures journal { self.new.journal ≡ self.old.journal }
+        ensures room { OnOk result (self.new.room ≡ self.old.room + 2 * (length lines.now - 1)) }
+        ensures stands { OnOk result (self.new.stands ≡ record self.old.stands { unwritten = self.old.stands.unwritten ++ lines.now }) }
+        ensures err { OnErr result (BookIsAsBefore self.old self.new) }
+    {
+        let room = room_for(lines.len().saturating_sub(1), 0)?;
+        begin_lines(
+            self.alloc,
+            &mut self.journal,
+            &mut self.unwritten,
+            lines,
+            room,
+        )
     }
 
     // The answer, among the lines that are to be written.
-    fn begin_answer(&mut self, at: usize, said: &Said) -> Option<Bytes>
+    fn begin_answer(&mut self, at: usize, said: &Said) -> Option<Vec<Bytes>>
         requires at { at < length self.old.stands.jobs }
+        requires text { IsTrue (is_line_said said.now) }
         ensures kept { self.new.kept ≡ self.old.kept }
-        ensures begun { AnswerBegun self.old self.new at said.now result }
+        ensures begun { AnswerBegun self.old self.new at said.now (option_map vec_items result) }
     {
-        let Ok((line, copy)) = self.answer(at, said) else {
+        let Ok(lines) = self.answer(at, said) else {
             return None;
         };
-        match self.unwritten.push(copy) {
-            Ok(()) => Some(line),
+        match self.begin_wired(lines.as_slice()) {
+            Ok(()) => Some(lines),
             Err(_) => None,
         }
     }
@@ -177,8 +225,8 @@ impl Book {
         let number = self.jobs[at].number;
         self.note_call(setup, remote, said, at);
         match answer {
-            Some(line) => {
-                self.journal.push(Entry::Say { job: number, line });
+            Some(lines) => {
+                say_all(&mut self.journal, number, lines);
                 self.close_job(at);
                 Reply::Done
             }

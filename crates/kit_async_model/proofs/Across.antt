@@ -1,7 +1,10 @@
 -- What several crates above this one use.
-use Rattle.std.proofs.Common.{◌≡◌, true, false, not, refl, Bool, cond, Some, None, Option}
-use Rattle.std.specs.Prelude.{◌&&◌, ◌||◌}
+use Rattle.std.proofs.Common.{◌≡◌, ℕ, List, [], ◌∷◌, ◌++◌, true, false, not, refl, ap, Bool, cond, Some, None, Option}
+use Rattle.std.specs.Prelude.{◌&&◌, ◌||◌, map}
 use Rattle.std.specs.List.{list_any}
+use Rattle.annex_model.specs.Messages.{HostMessage, RemoteMessage, remote_line}
+use Rattle.kit_serve.specs.declared.kit.call.Said.{Said}
+use Rattle.kit_serve.specs.Kit.Kits.{set_lines, final_line, final_lines}
 use Rattle.kit_async_model.specs.declared.setup.Setup.{Setup}
 use Rattle.kit_async_model.specs.Standings.{Standing, is_some_due, told_by, said_in}
 use Rattle.kit_async_model.specs.Legality.{may_hear, holds_back}
@@ -22,3 +25,22 @@ over_said setup u (Some job) h = go (is_some_due u.due) u.over h
     go true b k = refl
     go false true k = refl
     go false false k = absurd cc
+
+-- ---- the lines for a word of a remote
+
+-- of which there is one at least
+pub record Finals (request : Option HostMessage) (said : Said) : Type 0 where
+  pub line : List ℕ
+  pub lines : List (List ℕ)
+  pub are : map remote_line (final_lines request said) ≡ line ∷ lines
+
+pub finals_of : (request : Option HostMessage) (said : Said) → Finals request said
+finals_of request said = go (set_lines request said) refl
+  where
+    go : (ms : List RemoteMessage) → set_lines request said ≡ ms → Finals request said
+    go [] e = record { line = remote_line (final_line request said); lines = []; are = ap (λ (ms : List RemoteMessage). map remote_line (ms ++ final_line request said ∷ [])) e }
+    go (m ∷ ms) e = record {
+      line = remote_line m;
+      lines = map remote_line (ms ++ final_line request said ∷ []);
+      are = ap (λ (ms : List RemoteMessage). map remote_line (ms ++ final_line request said ∷ [])) e;
+    }

@@ -93,19 +93,19 @@ steps_are_made setup past by event = event_made setup (standing setup past) by e
 
 -- ---- a call without its answer
 
-called_remote : (setup : Setup) (s : Standing) (by : ℕ) (said : Said) (call answer : Entry) → (event_step setup s by (Called said)).group ≡ call ∷ answer ∷ [] → 3 ≤ by
-called_remote setup s by said call answer e = go (is_of_remote setup by) refl e
+called_remote : (setup : Setup) (s : Standing) (by : ℕ) (said : Said) (call answer : Entry) (more : List Entry) → (event_step setup s by (Called said)).group ≡ call ∷ answer ∷ more → 3 ≤ by
+called_remote setup s by said call answer more e = go (is_of_remote setup by) refl e
   where
-    go : (b : Bool) → is_of_remote setup by ≡ b → (if_it_is b (call_step setup s (remote_of by) said)).group ≡ call ∷ answer ∷ [] → 3 ≤ by
+    go : (b : Bool) → is_of_remote setup by ≡ b → (if_it_is b (call_step setup s (remote_of by) said)).group ≡ call ∷ answer ∷ more → 3 ≤ by
     go true is k = at_least by (both (nat_le 3 by) (nat_lt (remote_of by) setup.remotes) is).0
     go false is k = absurd cc
 
-first_made : (by : ℕ) (group : List Entry) (call answer : Entry) → All (IsMadeBy by) group → group ≡ call ∷ answer ∷ [] → IsMadeBy by call
-first_made by group call answer a e = All-head (IsMadeBy by) call (answer ∷ []) (subst (All (IsMadeBy by)) e a)
+first_made : (by : ℕ) (group : List Entry) (call answer : Entry) (more : List Entry) → All (IsMadeBy by) group → group ≡ call ∷ answer ∷ more → IsMadeBy by call
+first_made by group call answer more a e = All-head (IsMadeBy by) call (answer ∷ more) (subst (All (IsMadeBy by)) e a)
 
 pub lacks_are_made : (setup : Setup) (past : List Entry) (by : ℕ) (said : Said) (group : List Entry) (reply : Reply)
     → IsUnsaid (step_of setup past by (Called said)) group reply → All (IsMadeBy by) group
 lacks_are_made setup past by said group reply u =
-    let three : 3 ≤ by = called_remote setup (standing setup past) by said u.call u.answer u.whole in
-    let first : IsMadeBy by u.call = first_made by (step_of setup past by (Called said)).group u.call u.answer (steps_are_made setup past by (Called said)) u.whole in
+    let three : 3 ≤ by = called_remote setup (standing setup past) by said u.call u.answer u.more u.whole in
+    let first : IsMadeBy by u.call = first_made by (step_of setup past by (Called said)).group u.call u.answer u.more (steps_are_made setup past by (Called said)) u.whole in
     subst (All (IsMadeBy by)) (sym u.group_is) (All-cons (IsMadeBy by) u.call (Lack ∷ []) first (one_of by Lack three))

@@ -15,7 +15,7 @@ use Rattle.kit_async_model.specs.declared.entry.Entry.{Entry}
 use Rattle.kit_async_model.specs.declared.entry.Entry.TheVariants.{Heard, Take, Call, Say, Wrote, Close, Lack}
 use Rattle.kit_async_model.specs.declared.hearing.Hearing.{Hearing}
 use Rattle.kit_async_model.specs.declared.hearing.Hearing.TheVariants.{Foul, Unexpected, Aside, Asks, Replies}
-use Rattle.kit_async_model.specs.Jobs.{has_number, job_of, with_job, is_awaiting, lines_in, settles}
+use Rattle.kit_async_model.specs.Jobs.{has_number, job_of, with_job, is_awaiting, lines_in, settles, finals_in}
 use Rattle.kit_async_model.specs.Hearings.{nonzero, parted, is_export, message_heard, strange_heard, reading_heard, text_heard, part_heard, hearing_of, awaits_in, is_open, has_some, text_in, value_told}
 use Rattle.kit_async_model.specs.Standings.{Standing, opening, new_job, with_value, with_taken, with_call, due_of, answer_due, called_in, is_some_due, said_in, heard_as, after, standing}
 use Rattle.std.proofs.lemmas.Bool.{eqb-true as equal_number, and_parts as both}
@@ -191,7 +191,7 @@ answer_small : (setup : Setup) (job : Job) (said : Said) (over : Bool) → job.n
 answer_small setup job said over h = go (not over && settles setup job said) refl
   where
     go : (b : Bool) → (not over && settles setup job said) ≡ b → SmallDue (answer_due setup job said over)
-    go true e = rw e (h, tt)
+    go true e = rw e (mapped_small job.number h (finals_in job said))
     go false e = rw e tt
 
 -- the job of any number, among small ones

@@ -1,5 +1,5 @@
 -- A journal that is being written, with how a kit stands after it, and what a step does to both.
-use Rattle.std.specs.Prelude.{ℕ, ◌≡◌, ◌⊎◌, ◌+◌, ◌-◌, ◌*◌, ◌≤◌, ◌<◌, Bool, true, false, if◌then◌else◌, List, [], ◌∷◌, ◌++◌, fold, find, set, length, slice_get, Option, Some, None, IfSome}
+use Rattle.std.specs.Prelude.{ℕ, ◌≡◌, ◌⊎◌, ◌+◌, ◌-◌, ◌*◌, ◌≤◌, ◌<◌, Bool, true, false, if◌then◌else◌, List, [], ◌∷◌, ◌++◌, fold, find, map, set, length, slice_get, Option, Some, None, IfSome}
 use Rattle.std.specs.List.{list_any}
 use Rattle.annex_model.specs.Messages.{host_reading}
 use Rattle.kit_serve.specs.declared.kit.call.Said.{Said}
@@ -11,7 +11,7 @@ use Rattle.kit_async_model.specs.declared.entry.Entry.TheVariants.{Call}
 use Rattle.kit_async_model.specs.declared.event.Event.{Event}
 use Rattle.kit_async_model.specs.declared.event.Reply.{Reply}
 use Rattle.kit_async_model.specs.declared.hearing.Hearing.TheVariants.{Asks, Replies}
-use Rattle.kit_async_model.specs.Jobs.{is_making_ready, has_number, settles, prepared_after, final_in, job_line}
+use Rattle.kit_async_model.specs.Jobs.{is_making_ready, has_number, settles, prepared_after, finals_in, job_line}
 use Rattle.kit_async_model.specs.Hearings.{hearing_of, text_in, value_told}
 use Rattle.kit_async_model.specs.Standings.{Standing, new_job, with_call, after, standing}
 use Rattle.kit_async_model.specs.Legality.{Legal, is_called}
@@ -120,17 +120,18 @@ pub record CallNoted (setup : Setup) (old new : BookValue) (remote : ℕ) (said 
     jobs = set old.stands.jobs place (with_call (settles setup job said) job);
   }
 
--- the line is the answer to the job
-abbrev pub IsAnswer : List Job → ℕ → Said → List ℕ → Type 0
-IsAnswer jobs place said line = IfSome (slice_get jobs place) (λ job. line ≡ job_line job.number (final_in job said))
+-- the lines are the answer to the job
+abbrev pub IsAnswer : List Job → ℕ → Said → List (List ℕ) → Type 0
+IsAnswer jobs place said lines = IfSome (slice_get jobs place) (λ job. lines ≡ map (job_line job.number) (finals_in job said))
 
-pub record AnswerKept (old new : BookValue) (place : ℕ) (said : Said) (line : List ℕ) : Type 0 where
-  pub answer : IsAnswer old.stands.jobs place said line
+-- There is room for one line of each answer; each further one takes more, to be said and to be written.
+pub record AnswerKept (old new : BookValue) (place : ℕ) (said : Said) (lines : List (List ℕ)) : Type 0 where
+  pub answer : IsAnswer old.stands.jobs place said lines
   pub journal : new.journal ≡ old.journal
-  pub room : new.room ≡ old.room
-  pub stands : new.stands ≡ record old.stands { unwritten = old.stands.unwritten ++ line ∷ [] }
+  pub room : new.room ≡ old.room + 2 * (length lines - 1)
+  pub stands : new.stands ≡ record old.stands { unwritten = old.stands.unwritten ++ lines }
 
 -- The answer to the job is among the lines that are to be written; or no memory was found for it.
-abbrev pub AnswerBegun : BookValue → BookValue → ℕ → Said → Option (List ℕ) → Type 0
+abbrev pub AnswerBegun : BookValue → BookValue → ℕ → Said → Option (List (List ℕ)) → Type 0
 AnswerBegun old new place said None = BookIsAsBefore old new
-AnswerBegun old new place said (Some line) = AnswerKept old new place said line
+AnswerBegun old new place said (Some lines) = AnswerKept old new place said lines

@@ -161,7 +161,8 @@ pub record IsBrokenOff (event : Event) (group : List Entry) (reply : Reply) : Ty
 pub record IsUnsaid (step : Stepped) (group : List Entry) (reply : Reply) : Type 0 where
   pub call : Entry
   pub answer : Entry
-  pub whole : step.group ≡ call ∷ answer ∷ []
+  pub more : List Entry
+  pub whole : step.group ≡ call ∷ answer ∷ more
   pub reply_is : reply ≡ Unsaid
   pub group_is : group ≡ call ∷ Lack ∷ []
 

@@ -5,7 +5,7 @@ use Rattle.annex_model.specs.Tags.{names_async, untag, tagged_line}
 use Rattle.kit_serve.specs.declared.kit.call.Said.{Said}
 use Rattle.kit_serve.specs.declared.kit.call.Asked.{Asked}
 use Rattle.kit_serve.specs.declared.kit.call.Asked.TheVariants.{Prepare as AskPrepare, Initialize as AskInitialize}
-use Rattle.kit_serve.specs.Kit.Kits.{Due, Line, is_readying, is_prepare, is_yes, work_due, final_line, asked_by}
+use Rattle.kit_serve.specs.Kit.Kits.{Due, Line, is_readying, is_prepare, is_yes, work_due, final_lines, asked_by}
 use Rattle.kit_async_model.specs.declared.setup.Setup.{Setup}
 use Rattle.kit_async_model.specs.declared.job.Job.{Job}
 use Rattle.kit_async_model.specs.Abouts.{lines_about}
@@ -92,9 +92,9 @@ lines_in setup told job = lines_about setup.about (if_prepared job.prepared told
 abbrev pub settles : Setup → Job → Said → Bool
 settles setup job said = not (is_making_ready job) || not (is_yes said) || (job.calls + 1 == setup.remotes)
 
--- the line for it
-abbrev pub final_in : Job → Said → List ℕ
-final_in job said = remote_line (final_line (request_of job) said)
+-- the lines for it
+abbrev pub finals_in : Job → Said → List (List ℕ)
+finals_in job said = map remote_line (final_lines (request_of job) said)
 
 -- the kit is prepared by it
 abbrev pub prepares : Setup → Job → Said → Bool

@@ -6,7 +6,7 @@ use Rattle.annex_model.specs.Tags.{untag, without_tag}
 use Rattle.kit_serve.specs.declared.kit.call.Said.{Said}
 use Rattle.kit_serve.specs.declared.kit.call.Asked.{Asked}
 use Rattle.kit_serve.specs.declared.kit.call.Asked.TheVariants.{Prepare as AskPrepare}
-use Rattle.kit_serve.specs.Kit.Kits.{Due, Silence, Line, Asks, is_readying, is_yes, final_line, asked_by}
+use Rattle.kit_serve.specs.Kit.Kits.{Due, Silence, Line, Asks, is_readying, is_yes, final_lines, asked_by}
 use Rattle.kit_async_model.specs.declared.setup.Setup.{Setup}
 use Rattle.kit_async_model.specs.declared.job.Job.{Job}
 use Rattle.kit_async_model.specs.declared.entry.Entry.{Entry}
@@ -106,14 +106,14 @@ pub record IsReadied (setup : Setup) (request : Option HostMessage) (items : Lis
   pub few : length firsts ≤ setup.remotes - 1
   pub agree : IsTrue (list_all is_yes firsts)
   pub ends : (is_yes last ≡ false) ⊎ (length firsts + 1 ≡ setup.remotes)
-  pub are : items ≡ Told request ∷ asked_values setup.settings values ++ calls_from 0 (AskPrepare values) (firsts ++ last ∷ []) ++ Says (remote_line (final_line request last)) ∷ []
+  pub are : items ≡ Told request ∷ asked_values setup.settings values ++ calls_from 0 (AskPrepare values) (firsts ++ last ∷ []) ++ map (λ line. Says (remote_line line)) (final_lines request last)
 
--- a request for a key: one call of one remote, and the line for what it said
+-- a request for a key: one call of one remote, and the lines for what it said
 pub record IsWorked (setup : Setup) (asked : Asked) (request : Option HostMessage) (items : List Item) : Type 0 where
   pub remote : ℕ
   pub said : Said
   pub among : remote ≤ setup.remotes - 1
-  pub are : items ≡ Told request ∷ Calls remote (Some asked) said ∷ Says (remote_line (final_line request said)) ∷ []
+  pub are : items ≡ Told request ∷ Calls remote (Some asked) said ∷ map (λ line. Says (remote_line line)) (final_lines request said)
 
 -- a request that is answered at once: its lines in their order, of which there is one at least
 abbrev pub IsSaid : List (List ℕ) → Option HostMessage → List Item → Type 0

@@ -1,6 +1,7 @@
 -- Worked journals of a kit, each of which is legal or isn't.
 use Rattle.std.specs.Prelude.{true, List, [], ◌∷◌, ◌++◌, Some, None, codes}
 use Rattle.kit_serve.specs.declared.kit.call.Said.TheVariants.{Yes, No}
+use Rattle.kit_serve.specs.Kit.Rows.{sets}
 use Rattle.kit_async_model.specs.declared.setup.Setup.{Setup}
 use Rattle.kit_async_model.specs.declared.about.Fact.TheVariants.{Fixed, Setting}
 use Rattle.kit_async_model.specs.declared.entry.Entry.{Entry}
@@ -122,6 +123,25 @@ abbrev pub asked_about_names : List Entry
 asked_about_names =
     ready ++ Heard (codes "J 3 EXPORTSUPPORTED") ∷ Say 3 (codes "J 3 UNSUPPORTED-REQUEST")
     ∷ Heard (codes "J 4 CHECKPRESENTEXPORT WORM--a") ∷ Say 4 (codes "J 4 UNSUPPORTED-REQUEST") ∷ []
+
+-- ---- a remote that sets a setting
+
+-- at INITREMOTE
+abbrev pub initializing : List Entry
+initializing = version ∷ Heard (codes "INITREMOTE") ∷ Call 0 0 sets ∷ []
+
+abbrev pub setting_told : Entry
+setting_told = Say 0 (codes "SETCONFIG directory /d")
+
+abbrev pub initialized : Entry
+initialized = Say 0 (codes "INITREMOTE-SUCCESS")
+
+-- and at PREPARE
+abbrev pub preparing : List Entry
+preparing = version ∷ Heard (codes "PREPARE") ∷ Call 0 0 sets ∷ []
+
+abbrev pub success : Entry
+success = Say 0 (codes "PREPARE-SUCCESS")
 
 -- ---- a host that doesn't tag its lines
 

@@ -10,7 +10,7 @@ use Rattle.kit_async_model.specs.declared.entry.Entry.{Entry}
 use Rattle.kit_async_model.specs.declared.entry.Entry.TheVariants.{Heard, Take, Call, Say, Wrote, Close, Lack}
 use Rattle.kit_async_model.specs.declared.hearing.Hearing.{Hearing}
 use Rattle.kit_async_model.specs.declared.hearing.Hearing.TheVariants.{Foul, Unexpected, Aside, Asks, Replies}
-use Rattle.kit_async_model.specs.Jobs.{request_of, is_awaiting, lines_in, settles, final_in, prepared_after, job_of, with_job, without_job}
+use Rattle.kit_async_model.specs.Jobs.{request_of, is_awaiting, lines_in, settles, finals_in, prepared_after, job_of, with_job, without_job}
 use Rattle.kit_async_model.specs.Hearings.{text_in, value_told, hearing_of}
 
 pub record Standing : Type 0 where
@@ -112,7 +112,7 @@ with_call settled job = record job { calls = job.calls + 1; settled = settled }
 
 -- what a call makes due, unless the kit is over
 abbrev pub answer_due : Setup → Job → Said → Bool → List (ℕ × List ℕ)
-answer_due setup job said over = if not over && settles setup job said then (job.number, final_in job said) ∷ [] else []
+answer_due setup job said over = if not over && settles setup job said then map (λ line. (job.number, line)) (finals_in job said) else []
 
 abbrev pub called_in : Setup → Standing → Said → Option Job → Standing
 called_in setup s said None = s

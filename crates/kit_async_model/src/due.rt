@@ -1,18 +1,19 @@
 // What is due in a job.
-ghost use Rattle.std.specs.Prelude.{◌≡◌, ◌∷◌, [], IfOk, Some, None, is_some, true, bytes_eq, codes};
+ghost use Rattle.std.specs.Prelude.{◌≡◌, ◌∷◌, [], IfOk, IsTrue, Some, None, is_some, true, bytes_eq, codes};
 ghost use Rattle.std.specs.Str.{is_utf8};
 ghost use Rattle.annex_model.specs.Messages.{Extensions, IsAskable, IsSayable, remote_line};
 ghost use Rattle.annex_model.specs.Tags.{names_async};
 ghost use Rattle.wire_msg.specs.Shown.{host_shown, remote_shown};
+ghost use Rattle.kit_serve.specs.Kit.Calls.{is_line_said};
 ghost use Rattle.kit_serve.specs.Kit.Kits.{work_due};
 ghost use Rattle.kit_async_model.specs.Abouts.{lines_by};
-ghost use Rattle.kit_async_model.specs.Jobs.{due_in, work_asked, if_prepared, lines_in, final_in, job_line, is_for_any, key_in, request_of, spoken};
+ghost use Rattle.kit_async_model.specs.Jobs.{due_in, work_asked, if_prepared, lines_in, finals_in, job_line, is_for_any, key_in, request_of, spoken};
 ghost use Rattle.kit_async_model.specs.Views.{DueOf, file_of};
 
 use crate::job::Job;
 use crate::setup::Setup;
 use ann_key::{Bytes, Key, NoMemory, Text};
-use kit_serve::kit::{Asked, Lines, Said, failed, final_message};
+use kit_serve::kit::{Asked, Lines, Said, failed, final_lines};
 use std::alloc::Global;
 use std::str;
 use wire_msg::{HostMsg, RemoteMsg, tag, write_remote};
@@ -147,13 +148,14 @@ impl Job {
         }
     }
 
-    /// The line for what its remote said, which settles it; without its tag.
-    pub fn final_line(&self, alloc: Global, said: &Said) -> Result<Bytes, NoMemory>
-        ensures { IfOk result (λ line. line ≡ final_in self.now said.now) }
+    /// The lines for what its remote said, which settles it; without their tags.
+    pub fn final_lines(&self, alloc: Global, said: &Said) -> Result<Lines, NoMemory>
+        requires { IsTrue (is_line_said said.now) }
+        ensures { IfOk result (λ lines. lines ≡ finals_in self.now said.now) }
     {
         match self.request() {
-            Some(request) => write_remote(alloc, &final_message(request, said)),
-            None => write_remote(alloc, &RemoteMsg::UnsupportedRequest),
+            Some(request) => final_lines(alloc, request, said),
+            None => one_line(alloc, &RemoteMsg::UnsupportedRequest),
         }
     }
 

@@ -6,7 +6,7 @@ ghost use Rattle.wire_msg.specs.Shown.{host_shown};
 ghost use Rattle.kit_async_model.specs.Jobs.{request_of, is_making_ready, next_name, is_awaiting, key_in, settles, prepares, prepared_after, is_worked_by};
 ghost use Rattle.kit_async_model.specs.Standings.{new_job};
 ghost use Rattle.kit_async_model.specs.Books.{most_calls};
-ghost use Rattle.kit_serve.specs.Kit.Kits.{is_readying, is_prepare};
+ghost use Rattle.kit_serve.specs.Kit.Kits.{is_readying, is_prepare, is_yes};
 
 use crate::setup::Setup;
 use ann_key::{Bytes, KeyRef, NoMemory};
@@ -38,6 +38,13 @@ fn is_readying(request: Option<HostMsg<'_>>) -> bool
     ensures { result ≡ is_readying (option_map host_shown request.entry) }
 {
     matches!(request, Some(HostMsg::Prepare | HostMsg::Initremote))
+}
+
+// Whether it is done.
+fn is_yes(said: &Said) -> bool
+    ensures { result ≡ is_yes said.now }
+{
+    matches!(said, Said::Yes | Said::Set(_))
 }
 
 impl Job {
@@ -109,7 +116,7 @@ impl Job {
         ensures { result ≡ settles setup.now self.now said.now }
     {
         !self.is_making_ready()
-            || !matches!(said, Said::Yes)
+            || !is_yes(said)
             || u64::from(self.calls) + 1 == u64::from(setup.remotes)
     }
 
@@ -124,14 +131,14 @@ impl Job {
     fn prepares(&self, setup: &Setup, said: &Said) -> bool
         ensures { result ≡ prepares setup.now self.now said.now }
     {
-        self.is_prepare() && matches!(said, Said::Yes) && self.settles(setup, said)
+        self.is_prepare() && is_yes(said) && self.settles(setup, said)
     }
 
     /// Whether the kit is prepared then, which was so before or wasn't.
     pub fn prepared_after(&self, setup: &Setup, said: &Said, prepared: bool) -> bool
         ensures { result ≡ prepared_after setup.now self.now said.now prepared }
     {
-        if self.is_making_ready() && !matches!(said, Said::Yes) {
+        if self.is_making_ready() && !is_yes(said) {
             false
         } else {
             prepared || self.prepares(setup, said)

@@ -1,11 +1,12 @@
 // Laws over the definitions, each the contract of a function with nothing to do.
 ghost use Rattle.std.specs.Prelude.{◌≡◌, [], ◌∷◌, ◌++◌, codes, true, false};
-ghost use Rattle.kit_serve.specs.declared.kit.call.Said.TheVariants.{Yes, No, Failure};
+ghost use Rattle.kit_serve.specs.declared.kit.call.Said.TheVariants.{Yes, No, Failure, Set};
 ghost use Rattle.kit_async_model.specs.declared.entry.Entry.TheVariants.{Heard, Take, Call, Say, Wrote, Close, Lack};
 ghost use Rattle.kit_async_model.specs.Laws.{FrontsAreLegal, OverIsLast, UnwrittenAre, StepsAreLegal, StepsAreMade};
 ghost use Rattle.kit_async_model.specs.Legality.{is_legal, is_done};
 ghost use Rattle.kit_async_model.specs.Rows.{two, bare, known, version, error, tagging, asking, readying, ready, check_a, check_b, absent_a, crossed, whole};
 ghost use Rattle.kit_async_model.specs.Rows.{configs, first_config, last_config, info, kind_told, directory_told, info_end, unready, strange, unsupported};
+ghost use Rattle.kit_async_model.specs.Rows.{initializing, setting_told, initialized, preparing, success};
 ghost use Rattle.kit_async_model.specs.Rows.{names_of_two_jobs, asked_about_names, plain, plain_check, tagged_late};
 ghost use Rattle.kit_async_model.specs.Standings.{standing};
 
@@ -60,6 +61,17 @@ pub fn worked_preparing()
     ensures one_of_two { is_legal two (readying ++ Call 1 0 Yes ∷ Say 1 (codes "J 1 PREPARE-SUCCESS") ∷ []) ≡ false }
     ensures after_a_no { is_legal two (readying ++ Call 1 0 No ∷ Call 1 1 Yes ∷ []) ≡ false }
     ensures first_says_no { is_legal two (readying ++ Call 1 0 (Failure (codes "no directory")) ∷ Say 1 (codes "J 1 PREPARE-FAILURE no directory") ∷ []) ≡ true }
+{}
+
+/// A setting that a remote sets is told before the answer to INITREMOTE. To another request that word is a Yes.
+pub fn worked_settings()
+    ensures told_first { is_legal bare (initializing ++ setting_told ∷ initialized ∷ []) ≡ true }
+    ensures told_last { is_legal bare (initializing ++ initialized ∷ setting_told ∷ []) ≡ false }
+    ensures left_out { is_legal bare (initializing ++ initialized ∷ []) ≡ false }
+    ensures told_alone { is_legal bare (initializing ++ setting_told ∷ Wrote ∷ []) ≡ false }
+    ensures prepared { is_legal bare (preparing ++ success ∷ []) ≡ true }
+    ensures told_to_prepare { is_legal bare (preparing ++ setting_told ∷ success ∷ []) ≡ false }
+    ensures no_word { is_legal bare (version ∷ Heard (codes "INITREMOTE") ∷ Call 0 0 (Set (record { name = codes "a b"; text = [] } ∷ [])) ∷ []) ≡ false }
 {}
 
 /// What isn't expected, and is answered by an error; and what isn't answered.

@@ -21,4 +21,5 @@ pub use entries::Entries;
 pub use entry::Entry;
 pub use event::{Event, Reply};
 pub use job::Job;
+pub use past::Past;
 pub use setup::Setup;

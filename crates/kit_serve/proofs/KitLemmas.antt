@@ -6,4 +6,5 @@ pub mod Fields
 pub mod FirstLines
 pub mod Following
 pub mod KeyLines
+pub mod Settings
 pub mod Waiting

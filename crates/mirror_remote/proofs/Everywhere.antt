@@ -6,7 +6,7 @@ use Rattle.std.specs.List.{list_all, list_any}
 use Rattle.annex_model.specs.Messages.{HostMessage, Transfer, Checkpresent, Remove}
 use Rattle.journal_model.specs.declared.verdict.Verdict.{Verdict}
 use Rattle.kit_serve.specs.declared.kit.call.Said.{Said}
-use Rattle.kit_serve.specs.declared.kit.call.Said.TheVariants.{Yes, No, Failure}
+use Rattle.kit_serve.specs.declared.kit.call.Said.TheVariants.{Yes, No, Failure, Set}
 use Rattle.kit_serve.specs.declared.kit.call.Asked.{Asked}
 use Rattle.kit_serve.specs.declared.kit.call.Asked.TheVariants.{Prepare as AskPrepare, Initialize as AskInitialize, Store as AskStore, Retrieve as AskRetrieve, Check as AskCheck, Remove as AskRemove}
 use Rattle.mirror_children.specs.declared.plan.plan.Plan.{Plan}
@@ -101,10 +101,12 @@ unready None plans old new said never b = unbegun plans old new said never b
 
 emptied : (asked : Asked) (answer : Result Said NoMemory) (was : Bool) (old new : MirrorValue) → (was ≡ false → old.children ≡ []) → Keeps asked answer old new → prepared_by asked answer was ≡ false → new.children ≡ []
 emptied (AskPrepare values) (Ok Yes) was old new known keeps h = absurd cc
+emptied (AskPrepare values) (Ok (Set pairs)) was old new known keeps h = absurd cc
 emptied (AskPrepare values) (Ok No) was old new known keeps h = unready (first_bad values) (plans_in values) old new No (λ e. absurd cc) keeps
 emptied (AskPrepare values) (Ok (Failure text)) was old new known keeps h = unready (first_bad values) (plans_in values) old new (Failure text) (λ e. absurd cc) keeps
 emptied (AskPrepare values) (Err e) was old new known keeps h = keeps.none
 emptied (AskInitialize values) (Ok Yes) was old new known keeps h = absurd cc
+emptied (AskInitialize values) (Ok (Set pairs)) was old new known keeps h = absurd cc
 emptied (AskInitialize values) (Ok No) was old new known keeps h = unready (first_bad values) (plans_in values) old new No (λ e. absurd cc) keeps
 emptied (AskInitialize values) (Ok (Failure text)) was old new known keeps h = unready (first_bad values) (plans_in values) old new (Failure text) (λ e. absurd cc) keeps
 emptied (AskInitialize values) (Err e) was old new known keeps h = keeps.none

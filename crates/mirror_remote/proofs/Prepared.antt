@@ -5,7 +5,8 @@ use Rattle.ann_key.specs.declared.bytes.NoMemory.{NoMemory}
 use Rattle.ann_outside.specs.Causes.{Rose}
 use Rattle.child_life.specs.End.Programs.{AddsAll}
 use Rattle.kit_serve.specs.declared.kit.call.Said.{Said}
-use Rattle.kit_serve.specs.declared.kit.call.Said.TheVariants.{Yes}
+use Rattle.kit_serve.specs.declared.kit.call.Said.TheVariants.{Yes, No, Failure, Set}
+use Rattle.kit_serve.specs.declared.kit.describe.Pair.{Pair}
 use Rattle.mirror_children.specs.declared.plan.plan.Plan.{Plan}
 use Rattle.mirror_children.specs.Plan.Settings.{first_bad, plans_in}
 use Rattle.mirror_children.specs.Rule.{failure, mirror_failure}
@@ -15,6 +16,7 @@ use Rattle.mirror_remote.specs.Starts.Readiness.{IsUnreadyAs, IsUnstartedAs, sta
 use Rattle.mirror_remote.specs.Starts.Outcomes.{AreAllReady, Empties, IsCutShort, IsStuck, MirrorValue, StartsAs}
 use Rattle.mirror_remote.proofs.StartsLemmas.Begun.{rose_later, stays_adds}
 use Rattle.mirror_remote.proofs.StartsLemmas.Preparing.{cut_none, nothing_done, stuck_cut}
+use Rattle.mirror_remote.specs.Lasting.{ComesTo, IsStarted}
 use Rattle.mirror_remote.specs.Mirrors.{Begins, BeginsTo, Prepares, PreparesTo, Says}
 use Rattle.ann_outside.proofs.Across.{stays_both}
 
@@ -114,3 +116,22 @@ prepares_bad values n old new (Err x) e bad h = cut_none (plans_in values) old n
 pub prepares_cut : (values : List (List ℕ)) (old new : MirrorValue) (r : Result Said NoMemory) (e : NoMemory) → r ≡ Err e → Empties old new → Prepares values old new r
 prepares_cut values old new (Err x) e is empty = cut_none (plans_in values) old new empty
 prepares_cut values old new (Ok said) e is empty = absurd cc
+
+-- ---- what comes after it
+
+begins_unset : {A : Type 0} (plans : List Plan) (old new : MirrorValue) (pairs : List Pair) → BeginsTo plans old new (Set pairs) → A
+begins_unset [] old new pairs (e, is) = absurd cc
+begins_unset (p ∷ ps) old new pairs (inl (a, is)) = absurd cc
+begins_unset (p ∷ ps) old new pairs (inr (n, s, is)) = absurd cc
+
+-- a prepare sets nothing
+prepares_unset : {A : Type 0} (bad : Option ℕ) (plans : List Plan) (old new : MirrorValue) (pairs : List Pair) → PreparesTo bad plans old new (Set pairs) → A
+prepares_unset (Some n) plans old new pairs (e, is) = absurd cc
+prepares_unset None plans old new pairs b = begins_unset plans old new pairs b
+
+pub started : (values : List (List ℕ)) (old new : MirrorValue) (said : Result Said NoMemory) (start : Result (Option Said) NoMemory) → Prepares values old new said → ComesTo said start → IsStarted values old new start
+started values old new (Ok Yes) start p is = subst (IsStarted values old new) (sym is) p
+started values old new (Ok (Set pairs)) start p is = prepares_unset (first_bad values) (plans_in values) old new pairs p
+started values old new (Ok No) start p is = subst (IsStarted values old new) (sym is) p
+started values old new (Ok (Failure text)) start p is = subst (IsStarted values old new) (sym is) p
+started values old new (Err e) start p is = subst (IsStarted values old new) (sym is) p

@@ -13,7 +13,7 @@ use Rattle.journal_scan.specs.Looks.{is_no_start}
 use Rattle.journal_model.specs.Legality.{is_empty}
 use Rattle.kit_serve.specs.declared.kit.call.Asked.{Asked}
 use Rattle.kit_serve.specs.declared.kit.call.Said.{Said}
-use Rattle.kit_serve.specs.declared.kit.call.Said.TheVariants.{Yes, No, Failure}
+use Rattle.kit_serve.specs.declared.kit.call.Said.TheVariants.{Yes, No, Failure, Set}
 use Rattle.mirror_children.specs.Children.{ChildValue}
 use Rattle.mirror_remote.specs.Starts.Outcomes.{MirrorValue}
 use Rattle.mirror_remote.specs.Mirrors.{Prepares}
@@ -55,6 +55,7 @@ IsStarted values old new (Err e) = Prepares values old new (Err e)
 -- what comes after a prepare that went so: the call, or its own word
 abbrev pub ComesTo : Result Said NoMemory → Result (Option Said) NoMemory → Type 0
 ComesTo (Ok Yes) start = start ≡ Ok None
+ComesTo (Ok (Set pairs)) start = start ≡ Ok None
 ComesTo (Ok No) start = start ≡ Ok (Some No)
 ComesTo (Ok (Failure text)) start = start ≡ Ok (Some (Failure text))
 ComesTo (Err e) start = start ≡ Err e
@@ -87,6 +88,7 @@ pub record Lasts (asked : Asked) (old new : LastingValue) (result : Result Said 
 -- the values that are kept after a prepare
 abbrev pub values_after : List (List ℕ) → Result Said NoMemory → Option (List (List ℕ))
 values_after values (Ok Yes) = Some values
+values_after values (Ok (Set pairs)) = Some values
 values_after values (Ok No) = None
 values_after values (Ok (Failure text)) = None
 values_after values (Err e) = None

@@ -4,7 +4,7 @@ use Rattle.ann_key.specs.declared.bytes.NoMemory.{NoMemory}
 use Rattle.annex_model.specs.Messages.{HostMessage, Transfer, Checkpresent, Remove}
 use Rattle.journal_model.specs.declared.verdict.Verdict.{Verdict}
 use Rattle.kit_serve.specs.declared.kit.call.Said.{Said}
-use Rattle.kit_serve.specs.declared.kit.call.Said.TheVariants.{Yes}
+use Rattle.kit_serve.specs.declared.kit.call.Said.TheVariants.{Yes, Set}
 use Rattle.kit_serve.specs.declared.kit.call.Asked.{Asked}
 use Rattle.kit_serve.specs.declared.kit.call.Asked.TheVariants.{Prepare as AskPrepare, Initialize as AskInitialize, Store as AskStore, Retrieve as AskRetrieve, Check as AskCheck, Remove as AskRemove}
 use Rattle.mirror_children.specs.Children.{ChildValue}
@@ -47,8 +47,10 @@ is_prepare asked = false
 -- whether a mirror is prepared after a call, by whether it was so before
 abbrev pub prepared_by : Asked → Result Said NoMemory → Bool → Bool
 prepared_by (AskPrepare values) (Ok Yes) was = true
+prepared_by (AskPrepare values) (Ok (Set pairs)) was = true
 prepared_by (AskPrepare values) answer was = false
 prepared_by (AskInitialize values) (Ok Yes) was = true
+prepared_by (AskInitialize values) (Ok (Set pairs)) was = true
 prepared_by (AskInitialize values) answer was = false
 prepared_by asked answer was = was
 

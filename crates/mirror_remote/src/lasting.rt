@@ -49,7 +49,7 @@ fn goes_on(said: Result<Said, NoMemory>) -> Result<Option<Said>, NoMemory>
     ensures text { IfOk result (λ said. IfSome said (λ s. IsTrue (is_line_said s))) }
 {
     match said {
-        Ok(Said::Yes) => Ok(None),
+        Ok(Said::Yes | Said::Set(_)) => Ok(None),
         Ok(said) => Ok(Some(said)),
         Err(e) => Err(e),
     }
@@ -108,7 +108,7 @@ where
         let copy = values.copy(self.alloc)?;
         let said = self.mirror.prepare(values);
         self.values = match said {
-            Ok(Said::Yes) => Some(copy),
+            Ok(Said::Yes | Said::Set(_)) => Some(copy),
             _ => None,
         };
         said
@@ -122,6 +122,7 @@ where
     }
 
     // Starts all children anew, where that is wanted. None is that the call goes on.
+    #[tactic(auto, using(crate::proofs::Prepared::started))]
     fn start(&mut self) -> Result<Option<Said>, NoMemory>
         ensures text { IfOk result (λ said. IfSome said (λ s. IsTrue (is_line_said s))) }
         ensures starts { Starts self.old self.new result }

@@ -1,15 +1,18 @@
 -- Which requests a kit has answered when it took lines that it expects: all of them, but for one that still awaits a VALUE.
 use Rattle.std.proofs.Common.{ℕ, ◌≡◌, ◌+◌, suc, Bool, true, false, not, cond, List, [], ◌∷◌, ◌++◌, length, map, Option, Some, None, refl, sym, ap, subst, ◌∙◌, arith, append_assoc, append-nil, length-append}
 use Rattle.std.specs.Prelude.{◌||◌, ◌&&◌, filter, slice_get, is_some, codes}
+use Rattle.std.specs.List.{list_all}
 use Rattle.std.specs.Str.{is_utf8}
 use Rattle.std.proofs.lemmas.Option.{same_Some}
 use Rattle.std.proofs.lemmas.List.{map-append}
 use Rattle.std.proofs.lemmas.List.Elements.{filter-append}
 use Rattle.std.proofs.lemmas.List.Folds.{list_all-append}
+use Rattle.annex_model.specs.Lines.{has_newline}
 use Rattle.annex_model.specs.Messages.{Getconfig, remote_line}
 use Rattle.annex_model.specs.Messages.{HostMessage, Prepare, Initremote, Transfer, Checkpresent, Remove, Export, Value, Creds, HostError, host_reading}
 use Rattle.kit_serve.specs.declared.kit.call.Call.{Call}
 use Rattle.kit_serve.specs.Kit.Kits.{Heard, messages, is_value, is_error, is_readying, request_of, values_of, next_setting, awaits_value, is_unexpected, ends_kit, is_over, is_prepared, final_line, Due, Silence, Line, Asks, refusal, transfer_asked, readying, work_due, expected_due, live_due, due_of, said_by, IsAskedBy, lines_to, IsServed}
+use Rattle.kit_serve.specs.Kit.Calls.{is_line_said}
 use Rattle.kit_serve.specs.Kit.Stages.{stage_of, is_free}
 use Rattle.kit_serve.proofs.KitLemmas.Behind.{request_pushed, values_pushed, some_behind-push, request_of-push, values_of-push, messages-push}
 use Rattle.kit_serve.proofs.KitLemmas.Waiting.{free_followed}
@@ -18,10 +21,12 @@ use Rattle.pair_kit.specs.Cues.{settings}
 use Rattle.pair_kit.specs.Pairs.{heard, is_spelled, are_spelled, taken_lines}
 use Rattle.pair_kit.specs.Works.{request_with, last_said}
 use Rattle.pair_kit.specs.Answered.{request_taken, noted, answers_to}
+use Rattle.pair_kit.specs.Paces.{sets_nothing, is_line_call, is_whole}
 use Rattle.pair_kit.proofs.Taking.{heard_more}
 use Rattle.pair_kit.proofs.PaceRequests.{is_asking}
+use Rattle.pair_kit.proofs.PaceKits.{only_final}
 use Rattle.pair_kit.proofs.PaceSaid.{served_front}
-use Rattle.pair_kit.proofs.PaceTexts.{heads}
+use Rattle.pair_kit.proofs.PaceTexts.{all_front, heads}
 use Rattle.pair_kit.proofs.AnswerLines.{answers_push, request_push}
 use Rattle.ann_key.proofs.Booleans.{and_false, left_false as either_left, true_and_false as true_not_false}
 use Rattle.std.proofs.lemmas.Bool.{and_parts as both}
@@ -70,12 +75,14 @@ is_answering (Line line) = true
 is_answering (Asks asked) = true
 
 -- where something is due, one line is said
-one_line : (due : Due) (request : Option HostMessage) (call : Option Call) → is_answering due ≡ true → IsAskedBy due call
+one_line : (due : Due) (request : Option HostMessage) (call : Option Call) → is_answering due ≡ true → IsAskedBy due call → is_line_call call ≡ true
     → (line : List ℕ) × (map remote_line (said_by due request call) ≡ line ∷ [])
-one_line Silence request call d asked = absurd cc
-one_line (Line line) request call d asked = (remote_line line, refl)
-one_line (Asks a) request None d asked = absurd cc
-one_line (Asks a) request (Some call) d asked = (remote_line (final_line request call.said), refl)
+one_line Silence request call d asked whole = absurd cc
+one_line (Line line) request call d asked whole = (remote_line line, refl)
+one_line (Asks a) request None d asked whole = absurd cc
+one_line (Asks a) request (Some call) d asked whole =
+    let nothing = (both (sets_nothing call.said) (is_line_said call.said) whole).0 in
+    (remote_line (final_line request call.said), ap (map remote_line) (only_final request call.said nothing))
 
 answering_if : (b : Bool) (x y : Due) → is_answering x ≡ true → is_answering y ≡ true → is_answering (cond b x y) ≡ true
 answering_if true x y p q = p
@@ -96,55 +103,55 @@ values_full : (values : List (List ℕ)) (value : List ℕ) → slice_get settin
 values_full values value = ap (slice_get settings) (length-append values (value ∷ [])) ∙ no_second (length values)
 
 answers_now : (m : HostMessage) (after : Bool) (due : Due) (request : Option HostMessage) (call : Option Call) → is_value m ≡ false → is_asking m ≡ true → after ≡ false
-    → is_answering due ≡ true → IsAskedBy due call → Comes m false after (map remote_line (said_by due request call))
-answers_now m after due request call v a none d asked = let l = one_line due request call d asked in Answers l.0 v a refl none l.1
+    → is_answering due ≡ true → IsAskedBy due call → is_line_call call ≡ true → Comes m false after (map remote_line (said_by due request call))
+answers_now m after due request call v a none d asked whole = let l = one_line due request call d asked whole in Answers l.0 v a refl none l.1
 
 brings_value : (prepared : Bool) (request said : Option HostMessage) (values : List (List ℕ)) (value : List ℕ) (call : Option Call)
-    → IsAskedBy (due_in prepared false true values (Value value)) call
+    → IsAskedBy (due_in prepared false true values (Value value)) call → is_line_call call ≡ true
     → Comes (Value value) true (awaits_in request values (Value value)) (map remote_line (said_by (due_in prepared false true values (Value value)) said call))
-brings_value prepared request said values value call asked =
+brings_value prepared request said values value call asked whole =
     let full = values_full values value in
     let due : due_in prepared false true values (Value value) ≡ readying None (values ++ value ∷ []) = ap (λ (o : Option (List ℕ)). readying o (values ++ value ∷ [])) full in
     let answering : is_answering (due_in prepared false true values (Value value)) ≡ true = ap is_answering due in
-    let l = one_line (due_in prepared false true values (Value value)) said call answering asked in
+    let l = one_line (due_in prepared false true values (Value value)) said call answering asked whole in
     Brings l.0 refl refl refl (ap (λ (o : Option (List ℕ)). is_readying request && is_some o) full ∙ and_false (is_readying request)) l.1
 
 -- a kit that expects the message, and was called for it
 comes_in : (prepared over awaits : Bool) (request said : Option HostMessage) (values : List (List ℕ)) (m : HostMessage) (call : Option Call)
-    → (over || (is_error m || is_unexpected awaits m)) ≡ false → IsAskedBy (due_in prepared over awaits values m) call
+    → (over || (is_error m || is_unexpected awaits m)) ≡ false → IsAskedBy (due_in prepared over awaits values m) call → is_line_call call ≡ true
     → Comes m awaits (awaits_in request values m) (map remote_line (said_by (due_in prepared over awaits values m) said call))
-comes_in prepared true awaits request said values m call ok asked = absurd cc
-comes_in prepared false true request said values (Value value) call ok asked = brings_value prepared request said values value call asked
-comes_in prepared false true request said values m call ok asked = absurd cc
-comes_in prepared false false request said values (Value value) call ok asked = absurd cc
-comes_in prepared false false request said values (Creds user password) call ok asked = absurd cc
-comes_in prepared false false request said values (HostError text) call ok asked = absurd cc
-comes_in prepared false false request said values (Export name) call ok asked = Names refl refl refl refl refl
-comes_in prepared false false request said values Prepare call ok asked = Begins refl refl refl refl refl
-comes_in prepared false false request said values Initremote call ok asked = Begins refl refl refl refl refl
-comes_in false false false request said values (Transfer store key file) call ok asked =
-    answers_now (Transfer store key file) false (refusal (Transfer store key file) (codes "not prepared")) said call refl refl refl refl asked
-comes_in true false false request said values (Transfer store key file) call ok asked =
+comes_in prepared true awaits request said values m call ok asked whole = absurd cc
+comes_in prepared false true request said values (Value value) call ok asked whole = brings_value prepared request said values value call asked whole
+comes_in prepared false true request said values m call ok asked whole = absurd cc
+comes_in prepared false false request said values (Value value) call ok asked whole = absurd cc
+comes_in prepared false false request said values (Creds user password) call ok asked whole = absurd cc
+comes_in prepared false false request said values (HostError text) call ok asked whole = absurd cc
+comes_in prepared false false request said values (Export name) call ok asked whole = Names refl refl refl refl refl
+comes_in prepared false false request said values Prepare call ok asked whole = Begins refl refl refl refl refl
+comes_in prepared false false request said values Initremote call ok asked whole = Begins refl refl refl refl refl
+comes_in false false false request said values (Transfer store key file) call ok asked whole =
+    answers_now (Transfer store key file) false (refusal (Transfer store key file) (codes "not prepared")) said call refl refl refl refl asked whole
+comes_in true false false request said values (Transfer store key file) call ok asked whole =
     let due : Due = cond (is_utf8 file) (Asks (transfer_asked store key file)) (refusal (Transfer store key file) (codes "not text")) in
     answers_now (Transfer store key file) false due said call refl refl refl
-    (answering_if (is_utf8 file) (Asks (transfer_asked store key file)) (refusal (Transfer store key file) (codes "not text")) refl refl) asked
-comes_in false false false request said values (Checkpresent key) call ok asked =
-    answers_now (Checkpresent key) false (due_in false false false values (Checkpresent key)) said call refl refl refl refl asked
-comes_in true false false request said values (Checkpresent key) call ok asked =
-    answers_now (Checkpresent key) false (due_in true false false values (Checkpresent key)) said call refl refl refl refl asked
-comes_in false false false request said values (Remove key) call ok asked =
-    answers_now (Remove key) false (due_in false false false values (Remove key)) said call refl refl refl refl asked
-comes_in true false false request said values (Remove key) call ok asked =
-    answers_now (Remove key) false (due_in true false false values (Remove key)) said call refl refl refl refl asked
-comes_in prepared false false request said values m call ok asked =
-    answers_now m false (due_in prepared false false values m) said call refl refl refl refl asked
+    (answering_if (is_utf8 file) (Asks (transfer_asked store key file)) (refusal (Transfer store key file) (codes "not text")) refl refl) asked whole
+comes_in false false false request said values (Checkpresent key) call ok asked whole =
+    answers_now (Checkpresent key) false (due_in false false false values (Checkpresent key)) said call refl refl refl refl asked whole
+comes_in true false false request said values (Checkpresent key) call ok asked whole =
+    answers_now (Checkpresent key) false (due_in true false false values (Checkpresent key)) said call refl refl refl refl asked whole
+comes_in false false false request said values (Remove key) call ok asked whole =
+    answers_now (Remove key) false (due_in false false false values (Remove key)) said call refl refl refl refl asked whole
+comes_in true false false request said values (Remove key) call ok asked whole =
+    answers_now (Remove key) false (due_in true false false values (Remove key)) said call refl refl refl refl asked whole
+comes_in prepared false false request said values m call ok asked whole =
+    answers_now m false (due_in prepared false false values m) said call refl refl refl refl asked whole
 
 -- ---- the same of what was heard
 
 -- an expected message, after what was heard
-pub comes : (h : List Heard) (e : Heard) → is_over settings (messages (h ++ e ∷ [])) ≡ false → IsAskedBy (due_of settings h e.message) e.call
+pub comes : (h : List Heard) (e : Heard) → is_over settings (messages (h ++ e ∷ [])) ≡ false → IsAskedBy (due_of settings h e.message) e.call → is_line_call e.call ≡ true
     → Comes e.message (awaits_value settings (messages h)) (awaits_value settings (messages (h ++ e ∷ []))) (lines_to settings h e)
-comes h e ok asked = there (request_of-push ms m) (values_of-push ms m)
+comes h e ok asked whole = there (request_of-push ms m) (values_of-push ms m)
   where
     ms : List HostMessage
     ms = messages h
@@ -175,7 +182,7 @@ comes h e ok asked = there (request_of-push ms m) (values_of-push ms m)
         (subst (λ (x : List (List ℕ)). Comes m awaits (is_readying (request_pushed (request_of ms) m) && is_some (slice_get settings (length x)))
         (map remote_line (said_by (due_by x) (request_of (ms ++ m ∷ [])) e.call))) (sym v)
         (comes_in (is_prepared h) over awaits (request_of ms) (request_of (ms ++ m ∷ [])) (values_of ms) m e.call expected
-        (subst (λ (x : List (List ℕ)). IsAskedBy (due_by x) e.call) v asked))))
+        (subst (λ (x : List (List ℕ)). IsAskedBy (due_by x) e.call) v asked) whole)))
 
 -- ---- all lines that were taken
 
@@ -187,11 +194,12 @@ by_last {X} P base step xs = along [] xs base
     along front [] h = subst P (sym (append-nil front)) h
     along front (x ∷ rest) h = subst P (append_assoc front (x ∷ []) rest) (along (front ++ x ∷ []) rest (step front x h))
 
--- a kit took these lines, and expected each
+-- a kit took these lines, and expected each, and its remote set nothing
 pub record AreExpected (taken : List Taken) : Type 0 where
   pub spelled : are_spelled taken ≡ true
   pub expected : is_over settings (messages (heard taken)) ≡ false
   pub served : IsServed settings (heard taken)
+  pub whole : list_all is_whole taken ≡ true
 
 -- the last line of them, after the others
 pub record IsLastTaken (before : List Taken) (t : Taken) : Type 0 where
@@ -216,6 +224,8 @@ last_taken before t h = by_reading (host_reading t.line) refl
         let more : heard (before ++ t ∷ []) ≡ heard before ++ one ∷ [] = heard_more before t.line t.call m e in
         let over : is_over settings (messages (heard before ++ one ∷ [])) ≡ false = ap (λ (l : List Heard). is_over settings (messages l)) (sym more) ∙ h.expected in
         let served = served_front [] (heard before) one (subst (IsServed settings) more h.served) in
+        let fronts = all_front is_whole before (t ∷ []) h.whole in
+        let own = (both (not (has_newline t.line)) (is_line_call t.call) (both (is_whole t) true fronts.1).0).1 in
         record {
           message = m;
           reads = e;
@@ -225,9 +235,10 @@ last_taken before t h = by_reading (host_reading t.line) refl
             expected = either_left (is_over settings (messages (heard before))) (ends_kit settings (messages (heard before)) m)
                 (sym (some_behind-push (ends_kit settings) [] (messages (heard before)) m) ∙ ap (is_over settings) (sym (messages-push (heard before) one)) ∙ over);
             served = served.0;
+            whole = fronts.0;
           };
           comes = subst (λ (l : List Heard). Comes m (awaits_value settings (messages (heard before))) (awaits_value settings (messages l)) (lines_to settings (heard before) one)) (sym more)
-              (comes (heard before) one over served.1);
+              (comes (heard before) one over served.1 own);
         }
 
 -- ---- the requests that are answered

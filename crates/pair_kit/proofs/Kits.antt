@@ -1,18 +1,20 @@
 -- One step of a kit of the world, by the word that its remote was given.
 use Rattle.std.proofs.Common.{ℕ, ◌≡◌, Bool, true, false, cond, List, [], ◌∷◌, ◌++◌, Option, Some, None, option_map, refl, sym, ap, subst, ◌∙◌}
-use Rattle.std.specs.Prelude.{IfSome, codes}
+use Rattle.std.specs.Prelude.{◌&&◌, IfSome, codes}
 use Rattle.std.specs.Str.{is_utf8}
 use Rattle.annex_model.specs.Messages.{HostMessage, Prepare, Initremote, Transfer, Checkpresent, Remove, Value, Error}
 use Rattle.kit_serve.specs.declared.kit.call.Said.{Said}
 use Rattle.kit_serve.specs.declared.kit.call.Said.TheVariants.{Yes}
 use Rattle.kit_serve.specs.declared.kit.call.Asked.{Asked}
-use Rattle.kit_serve.specs.declared.kit.call.Asked.TheVariants.{Prepare as AskPrepare, Store as AskStore, Retrieve as AskRetrieve, Check as AskCheck, Remove as AskRemove}
+use Rattle.kit_serve.specs.declared.kit.call.Asked.TheVariants.{Prepare as AskPrepare, Initialize as AskInitialize, Store as AskStore, Retrieve as AskRetrieve, Check as AskCheck, Remove as AskRemove}
 use Rattle.kit_serve.specs.declared.kit.call.Call.{Call}
+use Rattle.kit_serve.specs.Kit.Calls.{is_line_said}
 use Rattle.kit_serve.specs.Kit.Kits.{Heard, Due, Silence, Line, Asks, readying, transfer_asked, refusal, due_of, asked_by, live_due, expected_due, work_due, is_unexpected, awaits_value, is_over, is_prepared, messages, next_setting, values_of, with_call, IsAskedBy, lines_to}
 use Rattle.kit_serve.specs.Kit.Stages.{KitValue, Follows, Steps}
-use Rattle.pair_kit.specs.Shelves.{Items}
+use Rattle.pair_kit.specs.Shelves.{Items, content}
 use Rattle.pair_kit.specs.Cues.{CueValue, told_calls, settings, as_list}
-use Rattle.pair_kit.specs.Works.{word, word_for, call_for, StepsBy}
+use Rattle.pair_kit.specs.Works.{found, is_there, word, word_for, call_for, StepsBy}
+use Rattle.pair_kit.specs.Paces.{sets_nothing, is_line_call}
 
 -- ---- the call that was made
 
@@ -139,3 +141,31 @@ call_is keys files h m None asked said = refl
 call_is keys files h m (Some c) asked said =
     let w : word keys files c.asked ≡ c.said = gives_due keys files h m c.asked asked ∙ sym said in
     ap (λ (x : Said). Some (record { asked = c.asked; said = x })) (sym w)
+
+-- no line ends in the word, and it sets nothing
+abbrev is_line_word : Said → Bool
+is_line_word said = sets_nothing said && is_line_said said
+
+word_is_line : (keys files : Items) (asked : Asked) → is_line_word (word keys files asked) ≡ true
+word_is_line keys files (AskPrepare values) = refl
+word_is_line keys files (AskInitialize values) = refl
+word_is_line keys files (AskStore key file) = go (content file files)
+  where
+    go : (o : Option (List ℕ)) → is_line_word (found o (codes "no such file")) ≡ true
+    go None = refl
+    go (Some bytes) = refl
+word_is_line keys files (AskRetrieve key file) = go (content key keys)
+  where
+    go : (o : Option (List ℕ)) → is_line_word (found o (codes "no such key")) ≡ true
+    go None = refl
+    go (Some bytes) = refl
+word_is_line keys files (AskCheck key) = go (content key keys)
+  where
+    go : (o : Option (List ℕ)) → is_line_word (is_there o) ≡ true
+    go None = refl
+    go (Some bytes) = refl
+word_is_line keys files (AskRemove key) = refl
+
+pub call_is_line : (keys files : Items) (asked : Option Asked) → is_line_call (call_for keys files asked) ≡ true
+call_is_line keys files None = refl
+call_is_line keys files (Some asked) = word_is_line keys files asked

@@ -2,7 +2,7 @@
 use Rattle.std.proofs.Common.{ℕ, ◌≡◌, ◌⊎◌, inl, inr, Bool, true, false, not, cond, List, [], ◌∷◌, ◌++◌, length, slice_get, Option, Some, None, is_some, codes, IsTrue, bytes_eq, refl, sym, ap, subst, ◌∙◌}
 use Rattle.std.specs.Prelude.{◌&&◌, ◌||◌}
 use Rattle.std.specs.Str.{is_utf8}
-use Rattle.std.proofs.lemmas.Bool.{or_parts}
+use Rattle.std.proofs.lemmas.Bool.{and_parts, or_parts}
 use Rattle.annex_model.specs.Lines.{has_newline}
 use Rattle.annex_model.specs.declared.final_line.Final.{Final}
 use Rattle.annex_model.specs.declared.final_line.Final.TheVariants.{Done, Failed, Absent, Unknown, Unsupported}
@@ -13,19 +13,19 @@ use Rattle.annex_model.specs.Talks.{final_of, is_aside}
 use Rattle.journal_model.specs.Due.{is_error}
 use Rattle.journal_model.specs.Replies.{is_setting}
 use Rattle.kit_serve.specs.declared.kit.call.Said.{Said}
-use Rattle.kit_serve.specs.declared.kit.call.Said.TheVariants.{Yes, No, Failure}
+use Rattle.kit_serve.specs.declared.kit.call.Said.TheVariants.{Yes, No, Failure, Set}
 use Rattle.kit_serve.specs.declared.kit.call.Asked.{Asked}
 use Rattle.kit_serve.specs.declared.kit.call.Asked.TheVariants.{Prepare as AskPrepare, Check as AskCheck, Remove as AskRemove}
 use Rattle.kit_serve.specs.declared.kit.call.Call.{Call}
 use Rattle.kit_serve.specs.declared.kit.kit.Stage.{Stage}
 use Rattle.kit_serve.specs.declared.kit.kit.Stage.TheVariants.{Waiting, Readying}
 use Rattle.kit_serve.specs.Kit.Calls.{is_line_said}
-use Rattle.kit_serve.specs.Kit.Kits.{Heard, messages, has_line_fields, is_error as is_host_error, is_readying, is_prepared, is_unexpected, ends_kit, is_over, awaits_value, next_setting, request_of, values_of, final_line, Due, Asks, refusal, readying, transfer_asked, work_due, expected_due, live_due, due_of, said_by, IsAskedBy}
+use Rattle.kit_serve.specs.Kit.Kits.{Heard, messages, has_line_fields, is_error as is_host_error, is_readying, is_prepared, is_unexpected, ends_kit, is_over, awaits_value, next_setting, request_of, values_of, final_line, final_lines, Due, Asks, refusal, readying, transfer_asked, work_due, expected_due, live_due, due_of, said_by, IsAskedBy}
 use Rattle.kit_serve.specs.Kit.Stages.{is_free, stage_by, stage_of}
 use Rattle.kit_serve.proofs.KitLemmas.Behind.{request_pushed, values_pushed, some_behind-push, request_of-push, values_of-push}
 use Rattle.kit_serve.proofs.KitLemmas.Endless.{final_free}
 use Rattle.pair_kit.specs.Cues.{settings}
-use Rattle.pair_kit.specs.Paces.{is_name, is_line_call}
+use Rattle.pair_kit.specs.Paces.{is_name, sets_nothing, is_line_call}
 use Rattle.ann_key.proofs.Lists.{same_name as own}
 use Rattle.std.proofs.lemmas.Option.{same_Some as some_is}
 
@@ -106,33 +106,40 @@ finishes q said f sayable fine plain settles fields text = record {
 chosen : (b : Bool) (f : Final) → b ≡ true → cond {A = Option Final} b (Some f) None ≡ Some f
 chosen b f e = ap (λ (x : Bool). cond {A = Option Final} x (Some f) None) e
 
+-- one line is said for a word that sets nothing
+pub only_final : (request : Option HostMessage) (said : Said) → sets_nothing said ≡ true → final_lines request said ≡ final_line request said ∷ []
+only_final (Some Initremote) (Set pairs) nothing = absurd cc
+only_final request said nothing = refl
+
 -- what the remote said answers the request
-answers : (q : HostMessage) (said : Said) → IsAskable q → IsTrue (has_line_fields q) → IsTrue (is_line_said said) → SaysOne q (final_line (Some q) said ∷ []) Waiting
-answers Prepare Yes a fields text = finishes Prepare Yes Done tt refl refl refl fields text
-answers Prepare No a fields text = finishes Prepare No Failed tt refl refl refl fields text
-answers Prepare (Failure t) a fields text = finishes Prepare (Failure t) Failed tt refl refl refl fields text
-answers Initremote Yes a fields text = finishes Initremote Yes Done tt refl refl refl fields text
-answers Initremote No a fields text = finishes Initremote No Failed tt refl refl refl fields text
-answers Initremote (Failure t) a fields text = finishes Initremote (Failure t) Failed tt refl refl refl fields text
-answers (Transfer true key file) Yes a fields text =
+answers : (q : HostMessage) (said : Said) → sets_nothing said ≡ true → IsAskable q → IsTrue (has_line_fields q) → IsTrue (is_line_said said)
+    → SaysOne q (final_line (Some q) said ∷ []) Waiting
+answers q (Set pairs) nothing a fields text = absurd cc
+answers Prepare Yes nothing a fields text = finishes Prepare Yes Done tt refl refl refl fields text
+answers Prepare No nothing a fields text = finishes Prepare No Failed tt refl refl refl fields text
+answers Prepare (Failure t) nothing a fields text = finishes Prepare (Failure t) Failed tt refl refl refl fields text
+answers Initremote Yes nothing a fields text = finishes Initremote Yes Done tt refl refl refl fields text
+answers Initremote No nothing a fields text = finishes Initremote No Failed tt refl refl refl fields text
+answers Initremote (Failure t) nothing a fields text = finishes Initremote (Failure t) Failed tt refl refl refl fields text
+answers (Transfer true key file) Yes nothing a fields text =
     finishes (Transfer true key file) Yes Done (tt, a.1.0) refl refl (chosen (bytes_eq key key) Done (own key)) fields text
-answers (Transfer true key file) No a fields text =
+answers (Transfer true key file) No nothing a fields text =
     finishes (Transfer true key file) No Failed (tt, (a.1.0, tt)) refl refl (chosen (bytes_eq key key) Failed (own key)) fields text
-answers (Transfer true key file) (Failure t) a fields text =
+answers (Transfer true key file) (Failure t) nothing a fields text =
     finishes (Transfer true key file) (Failure t) Failed (tt, (a.1.0, tt)) refl refl (chosen (bytes_eq key key) Failed (own key)) fields text
-answers (Transfer false key file) Yes a fields text =
+answers (Transfer false key file) Yes nothing a fields text =
     finishes (Transfer false key file) Yes Done (tt, a.1.0) refl refl (chosen (bytes_eq key key) Done (own key)) fields text
-answers (Transfer false key file) No a fields text =
+answers (Transfer false key file) No nothing a fields text =
     finishes (Transfer false key file) No Failed (tt, (a.1.0, tt)) refl refl (chosen (bytes_eq key key) Failed (own key)) fields text
-answers (Transfer false key file) (Failure t) a fields text =
+answers (Transfer false key file) (Failure t) nothing a fields text =
     finishes (Transfer false key file) (Failure t) Failed (tt, (a.1.0, tt)) refl refl (chosen (bytes_eq key key) Failed (own key)) fields text
-answers (Checkpresent key) Yes a fields text = finishes (Checkpresent key) Yes Done a refl refl (chosen (bytes_eq key key) Done (own key)) fields text
-answers (Checkpresent key) No a fields text = finishes (Checkpresent key) No Absent a refl refl (chosen (bytes_eq key key) Absent (own key)) fields text
-answers (Checkpresent key) (Failure t) a fields text = finishes (Checkpresent key) (Failure t) Unknown (a, tt) refl refl (chosen (bytes_eq key key) Unknown (own key)) fields text
-answers (Remove key) Yes a fields text = finishes (Remove key) Yes Done a refl refl (chosen (bytes_eq key key) Done (own key)) fields text
-answers (Remove key) No a fields text = finishes (Remove key) No Failed (a, tt) refl refl (chosen (bytes_eq key key) Failed (own key)) fields text
-answers (Remove key) (Failure t) a fields text = finishes (Remove key) (Failure t) Failed (a, tt) refl refl (chosen (bytes_eq key key) Failed (own key)) fields text
-answers q said a fields text = finishes q said Unsupported tt refl refl refl fields text
+answers (Checkpresent key) Yes nothing a fields text = finishes (Checkpresent key) Yes Done a refl refl (chosen (bytes_eq key key) Done (own key)) fields text
+answers (Checkpresent key) No nothing a fields text = finishes (Checkpresent key) No Absent a refl refl (chosen (bytes_eq key key) Absent (own key)) fields text
+answers (Checkpresent key) (Failure t) nothing a fields text = finishes (Checkpresent key) (Failure t) Unknown (a, tt) refl refl (chosen (bytes_eq key key) Unknown (own key)) fields text
+answers (Remove key) Yes nothing a fields text = finishes (Remove key) Yes Done a refl refl (chosen (bytes_eq key key) Done (own key)) fields text
+answers (Remove key) No nothing a fields text = finishes (Remove key) No Failed (a, tt) refl refl (chosen (bytes_eq key key) Failed (own key)) fields text
+answers (Remove key) (Failure t) nothing a fields text = finishes (Remove key) (Failure t) Failed (a, tt) refl refl (chosen (bytes_eq key key) Failed (own key)) fields text
+answers q said nothing a fields text = finishes q said Unsupported tt refl refl refl fields text
 
 -- ---- what is due
 
@@ -142,11 +149,13 @@ none_asked x e = absurd cc
 asks_says : (q : HostMessage) (x : Asked) (call : Option Call) → IsAskable q → IsTrue (has_line_fields q) → is_line_call call ≡ true → IsAskedBy (Asks x) call
     → SaysOne q (said_by (Asks x) (Some q) call) Waiting
 asks_says q x None a fields c asked = none_asked x asked
-asks_says q x (Some call) a fields c asked = answers q call.said a fields c
+asks_says q x (Some call) a fields c asked =
+    let parts = and_parts (sets_nothing call.said) (is_line_said call.said) c in
+    subst (λ (l : List RemoteMessage). SaysOne q l Waiting) (sym (only_final (Some q) call.said parts.0)) (answers q call.said parts.0 a fields parts.1)
 
 refuses : (q : HostMessage) (text : List ℕ) (call : Option Call) → IsAskable q → IsTrue (has_line_fields q) → has_newline text ≡ false
     → SaysOne q (said_by (refusal q text) (Some q) call) Waiting
-refuses q text call a fields whole = answers q (Failure text) a fields (ap not whole)
+refuses q text call a fields whole = answers q (Failure text) refl a fields (ap not whole)
 
 transfers : (b : Bool) (store : Bool) (key file : List ℕ) (call : Option Call) → IsAskable (Transfer store key file) → IsTrue (has_line_fields (Transfer store key file))
     → is_line_call call ≡ true → IsAskedBy (cond b (Asks (transfer_asked store key file)) (refusal (Transfer store key file) (codes "not text"))) call

@@ -15,13 +15,17 @@ use Rattle.kit_serve.specs.declared.kit.call.Said.TheVariants.{Yes, No, Failure}
 use Rattle.kit_serve.specs.declared.kit.call.Asked.{Asked}
 use Rattle.kit_serve.specs.declared.kit.call.Asked.TheVariants.{Prepare as AskPrepare, Initialize as AskInitialize, Store as AskStore, Retrieve as AskRetrieve, Check as AskCheck, Remove as AskRemove}
 use Rattle.kit_serve.specs.Kit.Kits.{Heard, Due, Silence, Line, Asks, messages, request_of, values_of, next_setting, awaits_value, is_readying, is_over, is_unexpected, is_error, is_value, is_prepared, readying, refusal, transfer_asked, final_line, work_due, expected_due, live_due, due_of, asked_by, said_by}
+use Rattle.kit_serve.specs.Kit.Calls.{is_line_said}
 use Rattle.kit_serve.proofs.KitLemmas.Behind.{request_pushed, request_of-push, messages-push}
 use Rattle.kit_serve.proofs.KitLemmas.Following.{over_pushed}
 use Rattle.pair_kit.specs.declared.answer.Answer.{Answer}
 use Rattle.pair_kit.specs.Shelves.{Items, content}
 use Rattle.pair_kit.specs.Cues.{settings}
-use Rattle.pair_kit.specs.Works.{found, is_there, call_for, bytes_found, bytes_put, last_said, answered}
+use Rattle.pair_kit.specs.Works.{found, is_there, word, call_for, bytes_found, bytes_put, last_said, answered}
+use Rattle.pair_kit.specs.Paces.{sets_nothing}
 use Rattle.pair_kit.specs.Stored.{is_success, granted, granted_by}
+use Rattle.pair_kit.proofs.Kits.{call_is_line}
+use Rattle.pair_kit.proofs.PaceKits.{only_final}
 use Rattle.annex_model.proofs.Across.{same_way}
 
 -- ---- lines that grant nothing
@@ -278,18 +282,27 @@ prepare_line (Some Initremote) ready = (refl, tt)
 prepare_line None ready = (refl, tt)
 prepare_line (Some m) ready = absurd (false≢true ready)
 
+-- the one line that is said for a call
+effect_said : (keys files : Items) (c : ℕ) (text : List ℕ) (request : Option HostMessage) (free : Bool) (asked : Asked) → Suits request (host_reading text) free (Asks asked)
+    → Effect keys files (Some asked) (answered c text (last_said free (remote_line (final_line request (word keys files asked)) ∷ [])) (bytes_put keys files (Some asked)))
+effect_said keys files c text request free (AskPrepare values) s =
+    let line = prepare_line request s in
+    still_said c text free (final_line request Yes) [] line.0 line.1
+effect_said keys files c text request free (AskInitialize values) s =
+    let line = prepare_line request s in
+    still_said c text free (final_line request Yes) [] line.0 line.1
+effect_said keys files c text request free (AskStore key file) s = transfer_effect c text request free true key file (codes "no such file") (content file files) s
+effect_said keys files c text request free (AskRetrieve key file) s = transfer_effect c text request free false key file (codes "no such key") (content key keys) s
+effect_said keys files c text request free (AskCheck key) s = check_effect c text request free key (content key keys) s
+effect_said keys files c text request free (AskRemove key) s = one_said c text request free (Remove key) (RemoveSuccess key) [] s refl s.askable (remove_granted key)
+
 pub effect : (keys files : Items) (c : ℕ) (text : List ℕ) (request : Option HostMessage) (free : Bool) (due : Due) → Suits request (host_reading text) free due
     → Effect keys files (asked_by due)
     (answered c text (last_said free (map remote_line (said_by due request (call_for keys files (asked_by due))))) (bytes_put keys files (asked_by due)))
 effect keys files c text request free Silence s = silent c text free []
 effect keys files c text request free (Line line) s = still_said c text free line [] s.0 s.1
-effect keys files c text request free (Asks (AskPrepare values)) s =
-    let line = prepare_line request s in
-    still_said c text free (final_line request Yes) [] line.0 line.1
-effect keys files c text request free (Asks (AskInitialize values)) s =
-    let line = prepare_line request s in
-    still_said c text free (final_line request Yes) [] line.0 line.1
-effect keys files c text request free (Asks (AskStore key file)) s = transfer_effect c text request free true key file (codes "no such file") (content file files) s
-effect keys files c text request free (Asks (AskRetrieve key file)) s = transfer_effect c text request free false key file (codes "no such key") (content key keys) s
-effect keys files c text request free (Asks (AskCheck key)) s = check_effect c text request free key (content key keys) s
-effect keys files c text request free (Asks (AskRemove key)) s = one_said c text request free (Remove key) (RemoveSuccess key) [] s refl s.askable (remove_granted key)
+effect keys files c text request free (Asks asked) s =
+    let said : Said = word keys files asked in
+    let nothing = (and_parts (sets_nothing said) (is_line_said said) (call_is_line keys files (Some asked))).0 in
+    subst (λ (l : List RemoteMessage). Effect keys files (Some asked) (answered c text (last_said free (map remote_line l)) (bytes_put keys files (Some asked)))) (sym (only_final request said nothing))
+    (effect_said keys files c text request free asked s)

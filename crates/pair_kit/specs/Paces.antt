@@ -14,6 +14,8 @@ use Rattle.journal_model.specs.Journal.{each_of, writes, got_lines, open_jobs, a
 use Rattle.journal_model.specs.Parts.{part}
 use Rattle.journal_model.specs.Registers.{settings as settings_made}
 use Rattle.kit_serve.specs.declared.kit.call.Call.{Call}
+use Rattle.kit_serve.specs.declared.kit.call.Said.{Said}
+use Rattle.kit_serve.specs.declared.kit.call.Said.TheVariants.{Set}
 use Rattle.kit_serve.specs.declared.kit.kit.Stage.TheVariants.{Waiting}
 use Rattle.kit_serve.specs.Kit.Calls.{is_line_said}
 use Rattle.kit_serve.specs.Kit.Kits.{is_over, request_of as request_of_messages}
@@ -45,10 +47,15 @@ replies_to ms = length (filter (λ m. not (is_name m)) ms)
 abbrev pub is_message_line : List ℕ → Bool
 is_message_line line = not (has_newline line) && is_some (host_reading line)
 
--- no line ends in what the remote said
+-- what the remote said sets nothing, so that one line is said for it
+abbrev pub sets_nothing : Said → Bool
+sets_nothing (Set pairs) = false
+sets_nothing said = true
+
+-- no line ends in what the remote said, and it sets nothing
 abbrev pub is_line_call : Option Call → Bool
 is_line_call None = true
-is_line_call (Some call) = is_line_said call.said
+is_line_call (Some call) = sets_nothing call.said && is_line_said call.said
 
 -- one line was taken, and one is said to it
 abbrev pub is_whole : Taken → Bool

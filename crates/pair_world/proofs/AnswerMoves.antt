@@ -214,6 +214,7 @@ module _ (w : WorldValue) (c j : ℕ) (line : List ℕ) (m : RemoteMessage) (l :
         spelled = linked.heard.spelled;
         expected = ap (is_over settings) (sym h.heard_all) ∙ (s.expected c).expected;
         served = linked.heard.follows.served;
+        whole = s.whole c;
       }
 
       its : IsAnswer h.before h.last said

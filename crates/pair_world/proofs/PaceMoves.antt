@@ -1,5 +1,5 @@
 -- Each move keeps host and kits in step, and neither finds fault with the other.
-use Rattle.std.proofs.Common.{ℕ, zero, suc, ◌≡◌, ◌+◌, ◌-◌, ◌<◌, ◌^◌, ◌==◌, Bool, true, false, not, cond, List, [], ◌∷◌, ◌++◌, length, get_or, set, Option, Some, None, codes, refl, sym, ap, subst, ◌∙◌, arith, append-nil}
+use Rattle.std.proofs.Common.{ℕ, zero, suc, ◌≡◌, ◌+◌, ◌-◌, ◌<◌, ◌^◌, ◌==◌, Bool, true, false, not, cond, List, [], ◌∷◌, ◌++◌, length, get_or, set, Option, Some, None, refl, sym, ap, subst, ◌∙◌, arith, append-nil}
 use Rattle.std.specs.Prelude.{◌&&◌, ◌||◌}
 use Rattle.std.specs.List.{list_all, list_any}
 use Rattle.std.proofs.lemmas.Bool.Decides.{nat_tests}
@@ -18,28 +18,25 @@ use Rattle.journal_model.specs.Journal.{any, is_started, is_ended, is_mute, is_l
 use Rattle.journal_model.specs.Legality.{is_empty, may_come}
 use Rattle.journal_model.specs.Registers.{settings as settings_made}
 use Rattle.journal_model.proofs.Looks.{any-append}
-use Rattle.kit_serve.specs.declared.kit.call.Asked.{Asked}
-use Rattle.kit_serve.specs.declared.kit.call.Asked.TheVariants.{Prepare as AskPrepare, Initialize as AskInitialize, Store as AskStore, Retrieve as AskRetrieve, Check as AskCheck, Remove as AskRemove}
-use Rattle.kit_serve.specs.Kit.Calls.{is_line_said}
 use Rattle.host_core.specs.declared.event.Event.{Event}
 use Rattle.host_core.specs.declared.event.Event.TheVariants.{Got as GotEvent, Stop as StopEvent, Sent as SentEvent}
 use Rattle.host_core.specs.declared.event.Reply.{Reply}
 use Rattle.host_core.specs.declared.event.Reply.TheVariants.{Child}
 use Rattle.host_core.specs.Steps.{Step, step_of, group_of}
-use Rattle.pair_kit.specs.Shelves.{Items, content}
 use Rattle.pair_kit.specs.declared.taken.Taken.{Taken}
 use Rattle.pair_world.specs.declared.step.Move.{Move}
 use Rattle.pair_world.specs.declared.step.Move.TheVariants.{Event as EventMove, Write, ToKit, Work, ToHost, Hear, End as EndMove}
 use Rattle.pair_world.specs.declared.step.Moved.{Moved}
 use Rattle.pair_world.specs.declared.step.Moved.TheVariants.{Did, Not}
 use Rattle.pair_kit.specs.Pairs.{PairValue, no_pair, said_lines, is_child, pair_of, with_pair, moved_to_kit, moved_to_host, written_to}
-use Rattle.pair_kit.specs.Works.{found, is_there, word, call_for, is_waiting, next_message}
+use Rattle.pair_kit.specs.Works.{call_for, is_waiting, next_message}
 use Rattle.pair_kit.specs.Worlds.{WorldValue, AreLinked}
 use Rattle.pair_world.specs.Moves.{Moves, IsMade, is_barred, is_odd, is_unended, DoesEvent, DoesWrite, DoesToKit, DoesToHost, DoesTake, DoesWork, DoesHear, DoesEnd, stepped, reply_to, begun_by, line_of, is_amiss, is_silent, is_long, heard_event, left_at}
 use Rattle.pair_kit.specs.Paces.{is_line_call, is_whole, IsExpected, KeepsStep, AreInStep}
 use Rattle.pair_kit.specs.Peace.{finds_fault, is_error_line, AtPeace}
 use Rattle.pair_world.proofs.Linking.{pair_at, no_child, there, not_silent, step_got}
 use Rattle.pair_world.proofs.PaceEvents.{event_goes, stop_goes, sent_goes}
+use Rattle.pair_kit.proofs.Kits.{call_is_line}
 use Rattle.pair_kit.proofs.PaceGroups.{JournalInStep, Goes, IsNumbered, goes_nowhere, end_goes}
 use Rattle.pair_kit.proofs.PaceHeard.{has_taken}
 use Rattle.pair_kit.proofs.PaceHears.{hear_goes}
@@ -88,31 +85,6 @@ whole_begun reply n = refl
 whole_put : (old new : WorldValue) (c : ℕ) (p : PairValue) → AreInStep old → IsWhole p → new.pairs ≡ with_pair old.pairs c p → (d : ℕ) → IsWhole (pair_of new.pairs d)
 whole_put old new c p h own pairs d =
     subst (λ (ps : List PairValue). IsWhole (pair_of ps d)) (sym pairs) (from_places (with_pair old.pairs c p) (whole_set old.pairs (c - 1) p (to_places old.pairs h.whole) own) d)
-
--- the word of a remote is a line
-word_free : (keys files : Items) (asked : Asked) → is_line_said (word keys files asked) ≡ true
-word_free keys files (AskPrepare values) = refl
-word_free keys files (AskInitialize values) = refl
-word_free keys files (AskStore key file) = go (content file files)
-  where
-    go : (o : Option (List ℕ)) → is_line_said (found o (codes "no such file")) ≡ true
-    go None = refl
-    go (Some bytes) = refl
-word_free keys files (AskRetrieve key file) = go (content key keys)
-  where
-    go : (o : Option (List ℕ)) → is_line_said (found o (codes "no such key")) ≡ true
-    go None = refl
-    go (Some bytes) = refl
-word_free keys files (AskCheck key) = go (content key keys)
-  where
-    go : (o : Option (List ℕ)) → is_line_said (is_there o) ≡ true
-    go None = refl
-    go (Some bytes) = refl
-word_free keys files (AskRemove key) = refl
-
-call_free : (keys files : Items) (asked : Option Asked) → is_line_call (call_for keys files asked) ≡ true
-call_free keys files None = refl
-call_free keys files (Some asked) = word_free keys files asked
 
 -- ---- what a move adds to the journal
 
@@ -176,7 +148,7 @@ moves_take old c m new d h =
         ap (λ (p : PairValue). list_all is_whole p.taken) d.takes.goes ∙ list_all-append is_whole (pair_of old.pairs c).taken (taken ∷ [])
         ∙ ap (λ (b : Bool). b && (is_whole taken && true)) (h.whole c)
         ∙ ap (λ (b : Bool). (not b && is_line_call taken.call) && true) (first_whole (pair_of old.pairs c).at_kit)
-        ∙ ap (λ (b : Bool). b && true) (call_free old.keys old.files d.asked)
+        ∙ ap (λ (b : Bool). b && true) (call_is_line old.keys old.files d.asked)
 
 moves_work : (old : WorldValue) (c : ℕ) (m : Option HostMessage) (reply : Reply) (new : WorldValue) → DoesWork old c m reply new → AreInStep old → MovesOn old new
 moves_work old c None reply new d h =

@@ -2,6 +2,8 @@
 // https://git-annex.branchable.com/design/external_special_remote_protocol/
 #![tactic(auto)]
 
+mod following;
+mod laws;
 mod serving;
 
 ghost use Rattle.std.specs.Prelude.{◌≡◌, vec_len, IfOk};
@@ -21,10 +23,10 @@ const HELP: &[u8] = b"\
 annex-remote-dir: a directory as a special remote of git-annex
 
 A host starts it without words and talks to it over its standard input and output.
-Its one setting is `directory`, the folder in which the contents of keys are kept, by its
-whole path. The setup makes it, and leaves a small file .annex-remote-dir in it. Where the
-folder is missing or empty, its disk may not be mounted: then each request fails, and
-nothing is made.
+Its one setting is `directory`, the folder in which the contents of keys are kept. The setup
+makes it, leaves a small file .annex-remote-dir in it, and has the host keep its whole path.
+Where the folder is missing or empty, its disk may not be mounted: then each request fails,
+and nothing is made.
 It says that a content is stored when it is on the disk. Where the environment has
 ANNEX_REMOTE_DIR_SYNC=0 it doesn't wait for the disk: it is faster, and a loss of power may
 take what was stored last.

@@ -1,9 +1,12 @@
 // The directory remotes are made, and served.
-ghost use Rattle.std.specs.Prelude.{◌≡◌, ◌<◌, ◌≤◌, false, true, map, vec_len, IfOk, IfSome};
+ghost use Rattle.std.specs.Prelude.{◌≡◌, ◌<◌, ◌≤◌, false, true, map, vec_len, All, IfOk, IfSome};
 ghost use Rattle.dir_remote.specs.Contents.{IsMark};
+ghost use Rattle.dir_remote.specs.Guard.Guards.{told_by};
 ghost use Rattle.kit_async.specs.Served.{HasCauses, Serves, described_setup, status_of, tells_by};
+ghost use Rattle.remote_dir_bin.specs.Following.{Follows};
 ghost use Rattle.remote_dir_bin.specs.Serving.{facts, mark_of, remote_over, remotes_over};
 
+use crate::following::{Followed, follow};
 use ann_key::{Bytes, NoMemory, Text};
 use ann_outside::{Desk, Sink, Source};
 use dir_remote::guard::{Guarded, Place};
@@ -52,12 +55,15 @@ fn remote<P: Place + Drop, D: Desk + Drop>(
     moment: Moment,
     number: u32,
     seat: Seat<P, D>,
-) -> Result<Guarded<P, D>, NoMemory>
+) -> Result<Followed<P, D>, NoMemory>
     ensures { IfOk result (λ remote. remote ≡ remote_over moment number seat) }
 {
     let Seat { place, desk } = seat;
     match mark_of(alloc, moment, number) {
-        Some(mark) => Ok(Guarded::new(alloc, place, desk, mark, number == 1)),
+        Some(mark) => {
+            let remote = Guarded::new(alloc, place, desk, mark, number == 1);
+            Ok(Followed::new(alloc, remote))
+        }
         None => Err(NoMemory),
     }
 }
@@ -67,7 +73,7 @@ fn remotes<P: Place + Drop, D: Desk + Drop>(
     alloc: Global,
     moment: Moment,
     seats: Vec<Seat<P, D>>,
-) -> Result<Vec<Guarded<P, D>>, NoMemory>
+) -> Result<Vec<Followed<P, D>>, NoMemory>
     requires { vec_len seats ≤ 4 }
     ensures remotes { IfOk result (λ remotes. remotes.items ≡ remotes_over moment 1 seats.items) }
     ensures length { IfOk result (λ remotes. vec_len remotes ≡ vec_len seats) }
@@ -93,6 +99,7 @@ fn facts(alloc: Global) -> Result<Vec<Fact>, NoMemory>
 
 /// Serves a guarded directory remote over each seat, one to four, to the host behind the source and the sink: so many requests are
 /// worked on at the same time. Each has a mark of its own, and the first one clears the directory of what ended processes left in it.
+/// The calls of each, which are those that the journal has, and what its place and its desk tell in the end come of one course of calls.
 /// It is `NoMemory` only where none is found before the first line is said.
 pub fn serve<
     P: Place + Send + Drop,
@@ -107,18 +114,21 @@ pub fn serve<
     seats: Vec<Seat<P, D>>,
     source: S,
     sink: W,
-) -> Result<BoundedEnd<Guarded<P, D>, S, W>, NoMemory>
+) -> Result<BoundedEnd<Followed<P, D>, S, W>, NoMemory>
     requires seats { (0 < vec_len seats) × (vec_len seats ≤ 4) }
     requires open { ((S.told source).is_open ≡ true) × ((W.told sink).is_open ≡ true) }
     ensures serves { IfOk result (λ end. Serves
-        (described_setup false ⟦<Guarded<P, D> as Remote>⟧.settings ⟦<Guarded<P, D> as Describe>⟧.description facts (remotes_over moment 1 seats.items))
-        (tells_by (S.told source) (W.told sink) (map ⟦<Guarded<P, D> as Remote>⟧.calls (remotes_over moment 1 seats.items)))
-        (tells_by (S.told end.source) (W.told end.sink) (map ⟦<Guarded<P, D> as Remote>⟧.calls end.remotes.items)) end.journal) }
+        (described_setup false ⟦<Followed<P, D> as Remote>⟧.settings ⟦<Followed<P, D> as Describe>⟧.description facts (remotes_over moment 1 seats.items))
+        (tells_by (S.told source) (W.told sink) (map ⟦<Followed<P, D> as Remote>⟧.calls (remotes_over moment 1 seats.items)))
+        (tells_by (S.told end.source) (W.told end.sink) (map ⟦<Followed<P, D> as Remote>⟧.calls end.remotes.items)) end.journal) }
     ensures status { IfOk result (λ end. end.status ≡ status_of end.journal.why) }
     ensures causes { IfOk result (λ end. HasCauses end.journal.why (S.told source) (S.told end.source) (W.told sink) (W.told end.sink)) }
+    ensures followed { IfOk result (λ end. All (λ r. Follows r.remote.sweeps r.calls (told_by P.steps D.told r.remote)) end.remotes.items) }
     ensures open { IfOk result (λ end. ((S.told end.source).is_open ≡ true) × ((W.told end.sink).is_open ≡ true)) }
 {
     let remotes = remotes(alloc, moment, seats)?;
     let facts = facts(alloc)?;
-    Ok(serve_async_described_bounded(rt, alloc, remotes, facts, source, sink))
+    let end = serve_async_described_bounded(rt, alloc, remotes, facts, source, sink);
+    follow(end.remotes.as_slice());
+    Ok(end)
 }

@@ -1,15 +1,17 @@
 -- What each call of a directory remote that is served does: which folders it asks for, and which call of the remote inside is made.
-use Rattle.std.specs.Prelude.{ℕ, ◌≡◌, ◌≢◌, ◌⊎◌, ◌==◌, not, Bool, true, false, List, [], ◌∷◌, ◌++◌, Option, Some, None, Result, Ok, Err, IsErr, IsOk, IfOk, IsTrue}
+use Rattle.std.specs.Prelude.{ℕ, ◌≡◌, ◌≢◌, ◌⊎◌, ◌==◌, ◌&&◌, not, codes, Bool, true, false, List, [], ◌∷◌, ◌++◌, Option, Some, None, option_map, Result, Ok, Err, IsErr, IsOk, IfOk, IsTrue}
 use Rattle.std.specs.Str.{IsUtf8}
 use Rattle.ann_key.specs.declared.bytes.NoMemory.{NoMemory as WithoutMemory}
 use Rattle.ann_outside.specs.Told.{DeskTold}
+use Rattle.annex_model.specs.Lines.{has_newline}
 use Rattle.kit_serve.specs.declared.kit.call.Said.{Said}
-use Rattle.kit_serve.specs.declared.kit.call.Said.TheVariants.{Yes, No, Failure}
+use Rattle.kit_serve.specs.declared.kit.call.Said.TheVariants.{Yes, No, Failure, Set}
 use Rattle.dir_remote.specs.Answers.{Prepares}
 use Rattle.dir_remote.specs.Contents.{LeavesInTransit}
 use Rattle.dir_remote.specs.Desks.{CheckAnswers, RemoveAnswers, RetrieveAnswers, StoreAnswers}
 use Rattle.dir_remote.specs.declared.guard.gates.Gate.{Gate}
 use Rattle.dir_remote.specs.declared.guard.place.Step.{Step}
+use Rattle.dir_remote.specs.declared.guard.place.Step.TheVariants.{Spelled}
 use Rattle.dir_remote.specs.declared.guard.place.Want.TheVariants.{Founded}
 use Rattle.dir_remote.specs.Guard.Gates.{is_whole, looks_of, AreGates, Passes, IsHeld, store_gates, removal_gates}
 use Rattle.dir_remote.specs.Guard.Sentences.{line_of, relative_sentence}
@@ -81,12 +83,14 @@ no_more said = []
 abbrev pub after_check : Option (List ℕ) → Result Said WithoutMemory → List Gate
 after_check directory (Ok No) = looks_of directory
 after_check directory (Ok Yes) = []
+after_check directory (Ok (Set pairs)) = []
 after_check directory (Ok (Failure text)) = []
 after_check directory (Err e) = []
 
 -- So is it said only then that a content is gone: there may have been none.
 abbrev pub after_yes : Option (List ℕ) → Result Said WithoutMemory → List Gate
 after_yes directory (Ok Yes) = looks_of directory
+after_yes directory (Ok (Set pairs)) = looks_of directory
 after_yes directory (Ok No) = []
 after_yes directory (Ok (Failure text)) = []
 after_yes directory (Err e) = []
@@ -151,7 +155,7 @@ pub record Readies (sweeps : Bool) (value : List ℕ) (old new : GuardTold) (ste
 abbrev pub ReadiesBy : Bool → List ℕ → GuardTold → GuardTold → Result Said WithoutMemory → Type 0
 ReadiesBy sweeps value old new result = (steps : List Step) × Adds old.steps new.steps steps × Readies sweeps value old new steps result
 
--- what is refused at INITREMOTE: a directory that isn't whole
+-- a directory that isn't whole
 abbrev pub is_relative : List ℕ → Bool
 is_relative [] = false
 is_relative (b ∷ bytes) = not (b == 47)
@@ -170,9 +174,51 @@ pub record Founds (sweeps : Bool) (value : List ℕ) (old new : GuardTold) (resu
   pub course : (IsIdle old new × IsHeld (record { want = Founded; path = value } ∷ []) first result × (more ≡ []))
       ⊎ (Passes (record { want = Founded; path = value } ∷ []) first × Readies sweeps value old new more result)
 
--- A value that isn't whole is refused; of one that is, the directory is set up, and then the remote gets ready.
+-- ---- a relative directory
+
+abbrev pub IsRefused : Result Said WithoutMemory → Type 0
+IsRefused result = IfOk result (λ said. said ≡ Failure (line_of relative_sentence))
+
+-- a path from the root that a host can keep: a line can hold it
+abbrev pub is_kept : List ℕ → Bool
+is_kept path = is_whole path && not (has_newline path)
+
+-- the host is to keep this directory
+abbrev pub keeping : List ℕ → Said
+keeping path = Set (record { name = codes "directory"; text = path } ∷ [])
+
+-- where the directory got ready, the host is told to keep its path
+abbrev pub kept_as : List ℕ → Result Said WithoutMemory → Result Said WithoutMemory
+kept_as path (Ok Yes) = Ok (keeping path)
+kept_as path result = result
+
+-- The directory of that path is set up, and the host told to keep the path; or no memory was found before anything was done.
+abbrev pub SetsUpKept : Bool → List ℕ → GuardTold → GuardTold → Result Said WithoutMemory → Type 0
+SetsUpKept sweeps path old new result =
+    ((new ≡ old) × IsErr result) ⊎ ((said : Result Said WithoutMemory) × Founds sweeps path old new said × (result ≡ kept_as path said))
+
+-- a path that a host can't keep is refused
+abbrev pub SetsUpIf : Bool → Bool → List ℕ → GuardTold → GuardTold → Result Said WithoutMemory → Type 0
+SetsUpIf true sweeps path old new result = SetsUpKept sweeps path old new result
+SetsUpIf false sweeps path old new result = (new ≡ old) × IsRefused result
+
+-- as the place spelled the path; where it can't, the value is refused
+abbrev pub SetsUpSpelled : Bool → Option (List ℕ) → GuardTold → GuardTold → Result Said WithoutMemory → Type 0
+SetsUpSpelled sweeps None old new result = (new ≡ old) × IsRefused result
+SetsUpSpelled sweeps (Some path) old new result = SetsUpIf (is_kept path) sweeps path old new result
+
+abbrev pub spelled_by : List ℕ → Option (List ℕ) → GuardTold → GuardTold
+spelled_by value path old = record old { steps = option_map (λ (steps : List Step). steps ++ Spelled value path ∷ []) old.steps }
+
+-- The place is asked for the path from the root, and the directory is set up by that.
+abbrev pub SetsUpRelative : Bool → List ℕ → GuardTold → GuardTold → Result Said WithoutMemory → Type 0
+SetsUpRelative sweeps value old new result =
+    ((new ≡ old) × IsErr result) ⊎ ((path : Option (List ℕ)) × SetsUpSpelled sweeps path (spelled_by value path old) new result)
+
+-- A relative value is set up by its path from the root; of a whole one the directory is set up, and then the remote gets ready.
 pub record Initializes (sweeps : Bool) (value : List ℕ) (old new : GuardTold) (result : Result Said WithoutMemory) : Type 0 where
-  pub relative : IsTrue (is_relative value) → (new ≡ old) × IfOk result (λ said. said ≡ Failure (line_of relative_sentence))
+  pub relative : IsTrue (is_relative value) → IsUtf8 value → SetsUpRelative sweeps value old new result
+  pub no_relative : IsTrue (is_relative value) → ¬ (IsUtf8 value) → (new ≡ old) × IsRefused result
   pub founds : IsTrue (is_whole value) → IsUtf8 value → Founds sweeps value old new result
   pub no_text : IsTrue (is_whole value) → ¬ (IsUtf8 value) → ReadiesBy sweeps value old new result
   pub empty : value ≡ [] → ReadiesBy sweeps value old new result

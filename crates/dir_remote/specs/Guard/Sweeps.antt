@@ -4,7 +4,7 @@ use Rattle.ann_key.specs.declared.bytes.NoMemory.{NoMemory as WithoutMemory}
 use Rattle.dir_remote.specs.declared.guard.place.Seen.{Seen}
 use Rattle.dir_remote.specs.declared.guard.place.Seen.TheVariants.{Fits}
 use Rattle.dir_remote.specs.declared.guard.place.Step.{Step}
-use Rattle.dir_remote.specs.declared.guard.place.Step.TheVariants.{Stood, Listed, Met, Removed}
+use Rattle.dir_remote.specs.declared.guard.place.Step.TheVariants.{Stood, Listed, Met, Removed, Spelled}
 use Rattle.dir_remote.specs.declared.guard.place.Want.TheVariants.{Way}
 use Rattle.dir_remote.specs.declared.guard.place.What.TheVariants.{OldFile, Else}
 use Rattle.dir_remote.specs.Guard.Gates.{under}
@@ -78,4 +78,5 @@ abbrev pub RemovesLeft : List ℕ → Step → Type 0
 RemovesLeft folder (Stood want path seen) = ⊤
 RemovesLeft folder (Listed other names) = ⊤
 RemovesLeft folder (Met file what) = ⊤
+RemovesLeft folder (Spelled path whole) = ⊤
 RemovesLeft folder (Removed file done) = (name : List ℕ) × (file ≡ under folder name) × (is_left name ≡ true)

@@ -1,5 +1,6 @@
 // A directory remote that looks at its directory before it touches it.
 ghost use Rattle.std.specs.Prelude.{◌≡◌, ◌≢◌, ◌∷◌, [], not, codes, IsTrue, IfOk, None, Some, Ok, Err, Bool};
+ghost use Rattle.std.specs.Str.{IsUtf8};
 ghost use Rattle.ann_key.specs.KeyRefs.{text_of};
 ghost use Rattle.annex_model.specs.Lines.{has_newline};
 ghost use Rattle.annex_model.specs.Messages.{is_sent_key};
@@ -9,10 +10,11 @@ ghost use Rattle.dir_remote.specs.Answers.{first_of};
 ghost use Rattle.dir_remote.specs.Contents.{IsMark};
 ghost use Rattle.dir_remote.specs.Guard.Gates.{looks_of};
 ghost use Rattle.dir_remote.specs.Guard.Steps.{AddsSome};
-ghost use Rattle.dir_remote.specs.Guard.Guards.{Checks, Enters, Founds, Initializes, Keeps, SameButPlace, Stands, SweptAs, ReadiesBy, Removes, Retrieves, Stores, is_relative, told_by};
+ghost use Rattle.dir_remote.specs.Guard.Guards.{Checks, Enters, Founds, Initializes, Keeps, SameButPlace, Stands, SweptAs, ReadiesBy, Removes, Retrieves, SetsUpKept, SetsUpRelative, Stores, IsRefused, is_relative, told_by};
 
 use crate::DirRemote;
 use crate::guard::gates::{enter, enter_to_remove, enter_to_store, found, is_whole};
+use crate::guard::keeping::{is_kept, keeping, one_value};
 use crate::guard::place::Place;
 use crate::guard::sentences::relative;
 use crate::guard::sweeping::sweep;
@@ -134,6 +136,39 @@ impl<P: Place, D: Desk> Guarded<P, D> {
     }
 }
 
+// A relative directory, which is set up by its path from the root.
+impl<P: Place, D: Desk> Guarded<P, D> {
+    // Sets up the directory of that path, and has the host keep the path.
+    fn set_up_kept(&mut self, path: &str) -> Result<Said, NoMemory>
+        requires line { IsTrue (not (has_newline path.now)) }
+        ensures kept { SetsUpKept self.old.sweeps path.now (told_by P.steps D.told self.old) (told_by P.steps D.told self.new) result }
+        ensures line { IfOk result (λ said. IsTrue (is_line_said said)) }
+        ensures sweeps { self.new.sweeps ≡ self.old.sweeps }
+    {
+        let pairs = keeping(self.alloc, path)?;
+        let values = one_value(self.alloc, path)?;
+        match self.set_up(path, &values) {
+            Ok(Said::Yes) => Ok(Said::Set(pairs)),
+            result => result,
+        }
+    }
+
+    fn set_up_relative(&mut self, value: &[u8]) -> Result<Said, NoMemory>
+        ensures text { IsUtf8 value.now → SetsUpRelative self.old.sweeps value.now (told_by P.steps D.told self.old) (told_by P.steps D.told self.new) result }
+        ensures no_text { ¬ (IsUtf8 value.now) → (self.new ≡ self.old) × IsRefused result }
+        ensures line { IfOk result (λ said. IsTrue (is_line_said said)) }
+        ensures sweeps { self.new.sweeps ≡ self.old.sweeps }
+    {
+        let Ok(path) = str::from_utf8(value) else {
+            return relative(self.alloc);
+        };
+        match self.place.spell(path)? {
+            Some(whole) if is_kept(whole.view()) => self.set_up_kept(whole.view()),
+            _ => relative(self.alloc),
+        }
+    }
+}
+
 impl<P: Place, D: Desk> Remote for Guarded<P, D> {
     ghost settings = { λ r. codes "directory" ∷ [] };
 
@@ -155,10 +190,11 @@ impl<P: Place, D: Desk> Remote for Guarded<P, D> {
             Said::Yes => self.get_ready(),
             Said::No => Ok(Said::No),
             Said::Failure(text) => Ok(Said::Failure(text)),
+            Said::Set(pairs) => Ok(Said::Set(pairs)),
         }
     }
 
-    // A directory that isn't whole is refused: the same words would be another directory elsewhere.
+    // A relative directory would be another one elsewhere.
     fn initialize(&mut self, values: &Values) -> Result<Said, NoMemory>
         requires lines { IsTrue (are_lines values.now) }
         ensures calls { None ≡ called None (plain (Initialize values.now)) result }
@@ -169,7 +205,7 @@ impl<P: Place, D: Desk> Remote for Guarded<P, D> {
     {
         let value = first(values);
         if is_relative(value) {
-            return relative(self.alloc);
+            return self.set_up_relative(value);
         }
         if !is_whole(value) {
             return self.prepare(values);
@@ -227,6 +263,7 @@ impl<P: Place, D: Desk> Remote for Guarded<P, D> {
         match self.remote.check(key)? {
             Said::No => self.confirm(Said::No),
             Said::Yes => Ok(Said::Yes),
+            Said::Set(pairs) => Ok(Said::Set(pairs)),
             Said::Failure(text) => Ok(Said::Failure(text)),
         }
     }
@@ -245,6 +282,7 @@ impl<P: Place, D: Desk> Remote for Guarded<P, D> {
         }
         match self.remote.remove(key)? {
             Said::Yes => self.confirm(Said::Yes),
+            Said::Set(pairs) => self.confirm(Said::Set(pairs)),
             Said::No => Ok(Said::No),
             Said::Failure(text) => Ok(Said::Failure(text)),
         }

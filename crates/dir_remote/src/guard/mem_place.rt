@@ -3,7 +3,7 @@ ghost use Rattle.std.specs.Prelude.{◌≡◌, ◌++◌, ◌∷◌, [], IfOk, If
 ghost use Rattle.dir_remote.specs.Guard.Gates.{under};
 ghost use Rattle.dir_remote.specs.Guard.MemPlaces.{is_there, met_in, names_in, stood_in, without};
 ghost use Rattle.dir_remote.specs.Guard.Steps.{stepped};
-ghost use Rattle.dir_remote.specs.declared.guard.place.Step.TheVariants.{Stood, Listed, Met, Removed};
+ghost use Rattle.dir_remote.specs.declared.guard.place.Step.TheVariants.{Stood, Listed, Met, Removed, Spelled};
 
 use crate::guard::gates::below;
 use crate::guard::place::{Names, Place, Seen, Step, Want, What};
@@ -19,7 +19,7 @@ pub struct MemFile {
     pub is_old: bool,
 }
 
-/// A folder in memory, with files in it and no folders, which tells its calls. No other folder is there.
+/// A folder in memory, with files in it and no folders, which tells its calls. No other folder is there, and programs are started in it.
 #[derive(Drop)]
 pub struct MemPlace {
     alloc: Global,
@@ -167,6 +167,21 @@ impl Place for MemPlace {
         let file = Text::copy(self.alloc, file)?;
         self.steps.push(Step::Met { file, what })?;
         Ok(what)
+    }
+
+    fn spell(&mut self, path: &str) -> Result<Option<Text>, NoMemory>
+        ensures steps { Some self.new.steps ≡ stepped (Some self.old.steps) (λ whole. Spelled path.now whole) result }
+        ensures told { IfOk result (λ whole. whole ≡ Some (under self.old.folder path.now)) }
+        ensures stays { (self.new.folder ≡ self.old.folder) × (self.new.files ≡ self.old.files) }
+    {
+        let whole = below(self.alloc, self.folder.view(), path)?;
+        let told = Text::copy(self.alloc, whole.view())?;
+        let path = Text::copy(self.alloc, path)?;
+        self.steps.push(Step::Spelled {
+            path,
+            whole: Some(told),
+        })?;
+        Ok(Some(whole))
     }
 
     fn remove(&mut self, file: &str) -> Result<bool, NoMemory>

@@ -1,7 +1,7 @@
 // What a directory remote asks about its folders and the files that stores left behind.
 ghost use Rattle.std.specs.Prelude.{◌≡◌, List, Option};
 ghost use Rattle.dir_remote.specs.Guard.Steps.{stepped};
-ghost use Rattle.dir_remote.specs.declared.guard.place.Step.TheVariants.{Stood, Listed, Met, Removed};
+ghost use Rattle.dir_remote.specs.declared.guard.place.Step.TheVariants.{Stood, Listed, Met, Removed, Spelled};
 
 use ann_key::{NoMemory, Text};
 use std::marker::Model;
@@ -83,6 +83,8 @@ pub enum Step {
     Met { file: Text, what: What },
     /// Whether it is gone.
     Removed { file: Text, done: bool },
+    /// From the root.
+    Spelled { path: Text, whole: Option<Text> },
 }
 
 /// The folders of a directory remote.
@@ -103,6 +105,10 @@ pub trait Place {
     /// What has that path.
     fn meet(&mut self, file: &str) -> Result<What, NoMemory>
         ensures steps { steps self.new ≡ stepped (steps self.old) (λ what. Met file.now what) result };
+
+    /// The same path from the root, where the folder is known in which the program was started. Nothing needs to be there.
+    fn spell(&mut self, path: &str) -> Result<Option<Text>, NoMemory>
+        ensures steps { steps self.new ≡ stepped (steps self.old) (λ whole. Spelled path.now whole) result };
 
     /// Takes the file away. Where that fails it stays.
     fn remove(&mut self, file: &str) -> Result<bool, NoMemory>

@@ -6,10 +6,10 @@ use ann_key::{NoMemory, Text};
 use std::alloc::AllocGlobal;
 use std::fs::{File, Metadata, OpenFile, OpenOptions};
 use std::io::{ErrorKind, Write};
-use std::path::Path;
-use std::rt::{Clock, Files};
+use std::path::{Component, Path, PathBuf};
+use std::rt::{Clock, Env, Files};
 use std::time::SystemTime;
-use std::{fs, io};
+use std::{env, fs, io};
 
 // A store that goes on writes to its file more often than that.
 const DAY_SECONDS: u64 = 86_400;
@@ -28,7 +28,7 @@ pub struct OsPlace<R> {
     syncs: bool,
 }
 
-impl<R: Files<File = File> + AllocGlobal + Clock + Clone + Drop> OsPlace<R> {
+impl<R: Files<File = File> + AllocGlobal + Clock + Env + Clone + Drop> OsPlace<R> {
     /// The folders of that runtime. Where it syncs, what is made is on the disk when the call answers.
     pub fn new(rt: R, syncs: bool) -> OsPlace<R>
         ensures { ⟦<OsPlace<R> as Place>⟧.steps result ≡ None }
@@ -198,7 +198,22 @@ fn names_of<R: Files + AllocGlobal + Clone + Drop>(
     Ok(names)
 }
 
-impl<R: Files<File = File> + AllocGlobal + Clock + Clone + Drop> Place for OsPlace<R> {
+// The path from the root, in which `.` and `..` are left out: as git-annex makes one of its own directory remotes.
+fn whole_path<R: Env + AllocGlobal>(rt: &R, path: &str) -> io::Result<PathBuf> {
+    let mut whole = env::current_dir(rt)?;
+    for part in Path::new(path).components() {
+        match part {
+            Component::ParentDir => {
+                whole.pop();
+            }
+            Component::Normal(name) => whole.push(name)?,
+            Component::RootDir | Component::CurDir => {}
+        }
+    }
+    Ok(whole)
+}
+
+impl<R: Files<File = File> + AllocGlobal + Clock + Env + Clone + Drop> Place for OsPlace<R> {
     ghost steps = { λ p. None };
 
     fn stand(&mut self, want: Want, path: &str) -> Result<Seen, NoMemory> {
@@ -224,6 +239,14 @@ impl<R: Files<File = File> + AllocGlobal + Clock + Clone + Drop> Place for OsPla
             Ok(metadata) if is_old(&metadata, now) => Ok(What::OldFile),
             Err(error) if lacks_memory(&error) => Err(NoMemory),
             _ => Ok(What::Else),
+        }
+    }
+
+    fn spell(&mut self, path: &str) -> Result<Option<Text>, NoMemory> {
+        match whole_path(&self.rt, path) {
+            Ok(whole) => Ok(Some(Text::copy(self.rt.alloc(), whole.as_str())?)),
+            Err(error) if lacks_memory(&error) => Err(NoMemory),
+            Err(_) => Ok(None),
         }
     }
 

@@ -11,7 +11,7 @@ use Rattle.kit_async_model.specs.declared.entry.Entry.{Entry}
 use Rattle.kit_async_model.specs.declared.entry.Entry.TheVariants.{Heard, Take, Call, Say, Wrote, Close, Lack}
 use Rattle.kit_async_model.specs.declared.hearing.Hearing.{Hearing}
 use Rattle.kit_async_model.specs.declared.hearing.Hearing.TheVariants.{Foul, Unexpected, Aside, Asks, Replies}
-use Rattle.kit_async_model.specs.Jobs.{is_awaiting, is_job_line, has_number, job_of, without_job, lines_in, settles, final_in}
+use Rattle.kit_async_model.specs.Jobs.{is_awaiting, is_job_line, has_number, job_of, without_job, lines_in, settles, finals_in}
 use Rattle.kit_async_model.specs.Hearings.{text_in, value_told, hearing_of, is_open}
 use Rattle.kit_async_model.specs.Legality.{some_job, is_called, may_come, comes_where, is_said, follows, legal_from, is_legal}
 use Rattle.kit_async_model.specs.Standings.{Standing, opening, unexpected_line, new_job, with_call, due_of, with_request, with_told, told_by, is_some_due, called_in, said_line, said_in, heard_as, after, standing}
@@ -65,15 +65,14 @@ answer_owned : (setup : Setup) (s : Standing) (said : Said) (job : Job) → job_
     → IsOwned (called_in setup s said (Some job)) (called_in setup s said (Some job)).due
 answer_owned setup s said job found = go (not s.over && settles setup job said) refl
   where
-    go : (b : Bool) → (not s.over && settles setup job said) ≡ b → IsOwned (called_in setup s said (Some job)) (cond b ((job.number, final_in job said) ∷ []) [])
+    go : (b : Bool) → (not s.over && settles setup job said) ≡ b → IsOwned (called_in setup s said (Some job)) (cond b (map (λ line. (job.number, line)) (finals_in job said)) [])
     go false e = tt
-    go true e = (
-      inl (record {
-        opened = ap is_open (job_changed (with_call (settles setup job said)) s.jobs job.number job (λ j. refl) found);
-        live = not_true s.over (both (not s.over) (settles setup job said) e).0;
-      }),
-      tt,
-    )
+    go true e =
+        mapped_owned (called_in setup s said (Some job)) job.number (finals_in job said)
+        (record {
+          opened = ap is_open (job_changed (with_call (settles setup job said)) s.jobs job.number job (λ j. refl) found);
+          live = not_true s.over (both (not s.over) (settles setup job said) e).0;
+        })
 
 called_owned : (setup : Setup) (s : Standing) (m : ℕ) (said : Said) → s.due ≡ [] → (o : Option Job) → job_of s.jobs m ≡ o
     → IsOwned (called_in setup s said o) (called_in setup s said o).due

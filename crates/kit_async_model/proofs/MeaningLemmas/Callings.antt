@@ -2,12 +2,12 @@
 use Rattle.std.proofs.Common.{◌≡◌, ◌⊎◌, inl, inr, ℕ, ◌+◌, ◌-◌, ◌≤◌, ◌<◌, List, [], ◌∷◌, refl, sym, ap, subst, ◌∙◌, Bool, true, false, not, ◌==◌, cond, Some, Option, arith}
 use Rattle.std.specs.Prelude.{◌||◌, nat_lt}
 use Rattle.std.proofs.lemmas.Bool.Decides.{nat_tests}
-use Rattle.annex_model.specs.Messages.{HostMessage, remote_line}
+use Rattle.annex_model.specs.Messages.{HostMessage}
 use Rattle.kit_serve.specs.declared.kit.call.Asked.{Asked}
 use Rattle.kit_serve.specs.declared.kit.call.Asked.TheVariants.{Prepare as AskPrepare}
 use Rattle.kit_serve.specs.declared.kit.call.Said.{Said}
 use Rattle.kit_serve.specs.Kit.Calls.{is_line_said}
-use Rattle.kit_serve.specs.Kit.Kits.{asked_by, is_yes, final_line}
+use Rattle.kit_serve.specs.Kit.Kits.{asked_by, is_yes}
 use Rattle.kit_async_model.specs.declared.setup.Setup.{Setup}
 use Rattle.kit_async_model.specs.declared.job.Job.{Job}
 use Rattle.kit_async_model.specs.declared.entry.Entry.TheVariants.{Call}
@@ -16,6 +16,7 @@ use Rattle.kit_async_model.specs.Jobs.{due_in, is_making_ready, is_awaiting, is_
 use Rattle.kit_async_model.specs.Legality.{some_job, is_turn_of, is_called, may_call}
 use Rattle.kit_async_model.specs.Standings.{Standing, with_call, answer_due, called_in, after}
 use Rattle.kit_async_model.specs.Meanings.{asked_in, Item, Calls, item_of, of_job}
+use Rattle.kit_async_model.proofs.Across.{finals_of}
 use Rattle.kit_async_model.proofs.Askings.{never, only_passes}
 use Rattle.kit_async_model.proofs.Places.{job_changed, passes_of}
 use Rattle.kit_async_model.proofs.MeaningLemmas.Numbers.{number_of}
@@ -53,9 +54,10 @@ work_moves : (setup : Setup) (s : Standing) (n : ℕ) (request : Option HostMess
 work_moves setup s n request remote asked said job found w c =
     let settled : settles setup job said ≡ true = rw w.unready refl in
     let taken : is_number remote job.taken ≡ true = (both (is_number remote job.taken) (job.calls == 0) c).0 in
-    call_moves setup s n request remote asked said (Working asked) (Saying (remote_line (final_line request said)) []) job found w.asks
-    (work_last setup job (settles setup job said) w.unready, answer_owed setup n request job said s.over (number_of s.jobs n job found) w.request_is settled)
-    (worked_left setup asked request remote said (among_of setup remote (w.among remote taken)))
+    let f = finals_of request said in
+    call_moves setup s n request remote asked said (Working asked) (Saying f.line f.lines) job found w.asks
+    (work_last setup job (settles setup job said) w.unready, answer_owed setup n request job said s.over f (number_of s.jobs n job found) w.request_is settled)
+    (worked_left setup asked request remote said f (among_of setup remote (w.among remote taken)))
 
 -- ---- getting ready
 
@@ -105,9 +107,10 @@ turn_moves setup s n request values remote said job found r t = go (settles setu
         → Moves setup n request (Calling values remote) (of_job n (Some (n, Calls remote (asked_in setup (Some job)) said))) (called_in setup s said (Some job))
     go true e =
         let last : IsLast setup (with_call (settles setup job said) job) = subst (λ (b : Bool). IsLast setup (with_call b job)) (sym e) (ready_last setup request job values remote r) in
-        call_moves setup s n request remote (AskPrepare values) said (Calling values remote) (Saying (remote_line (final_line request said)) []) job found asks
-        (last, answer_owed setup n request job said s.over (number_of s.jobs n job found) r.request_is e)
-        (called_left setup request values remote said (among_of setup remote t.few) (settled_ends setup job said remote r.ready r.calls_are e))
+        let f = finals_of request said in
+        call_moves setup s n request remote (AskPrepare values) said (Calling values remote) (Saying f.line f.lines) job found asks
+        (last, answer_owed setup n request job said s.over f (number_of s.jobs n job found) r.request_is e)
+        (called_left setup request values remote said f (among_of setup remote t.few) (settled_ends setup job said remote r.ready r.calls_are e))
     go false e =
         let a = unsettled_agrees setup job said remote r.ready r.calls_are e in
         let next : IsReadying setup request (with_call (settles setup job said) job) values [] (remote + 1) =

@@ -2,16 +2,17 @@
 use Rattle.std.proofs.Common.{◌≡◌, ◌⊎◌, inl, inr, ℕ, suc, ◌+◌, ◌-◌, ◌≤◌, List, [], ◌∷◌, ◌++◌, refl, sym, ap, subst, ◌∙◌, append-nil, Bool, true, false, Some, length, append_assoc, arith, Option}
 use Rattle.std.specs.Prelude.{IsTrue, map}
 use Rattle.std.specs.List.{list_all}
-use Rattle.annex_model.specs.Messages.{HostMessage, Value, Getconfig, remote_line}
+use Rattle.annex_model.specs.Messages.{HostMessage, RemoteMessage, Value, Getconfig, remote_line}
 use Rattle.kit_serve.specs.declared.kit.call.Asked.{Asked}
 use Rattle.kit_serve.specs.declared.kit.call.Asked.TheVariants.{Prepare as AskPrepare}
 use Rattle.kit_serve.specs.declared.kit.call.Said.{Said}
 use Rattle.kit_serve.specs.declared.kit.call.Said.TheVariants.{No}
-use Rattle.kit_serve.specs.Kit.Kits.{is_yes, final_line}
+use Rattle.kit_serve.specs.Kit.Kits.{is_yes, final_lines}
 use Rattle.kit_async_model.specs.declared.setup.Setup.{Setup}
+use Rattle.kit_async_model.proofs.Across.{Finals}
 use Rattle.kit_async_model.specs.Meanings.{Item, Told, Says, Calls, asked_values, calls_from, IsReadied, IsWorked}
 
--- the lines that are its last; a call of any remote for this, and the line for it; with the values so far, a setting that is asked for, and
+-- the lines that are its last; a call of any remote for this, and the lines for it; with the values so far, a setting that is asked for, and
 -- those after it; the value of a setting, and the settings after it; calls from this remote on
 pub data Phase : Type 0 where
   Saying : (line : List ℕ) (lines : List (List ℕ)) → Phase
@@ -27,21 +28,21 @@ asking values (name ∷ names) = Asking values name names
 
 -- ---- what may come
 
--- one remote's call, and the line for it
+-- one remote's call, and the lines for it
 pub record WorkLeft (setup : Setup) (asked : Asked) (request : Option HostMessage) (items : List Item) : Type 0 where
   pub remote : ℕ
   pub said : Said
   pub among : remote ≤ setup.remotes - 1
-  pub are : items ≡ Calls remote (Some asked) said ∷ Says (remote_line (final_line request said)) ∷ []
+  pub are : items ≡ Calls remote (Some asked) said ∷ map (λ line. Says (remote_line line)) (final_lines request said)
 
--- the calls of the remotes from this one on, and the line for the last of them
+-- the calls of the remotes from this one on, and the lines for the last of them
 pub record CallsLeft (setup : Setup) (request : Option HostMessage) (values : List (List ℕ)) (remote : ℕ) (items : List Item) : Type 0 where
   pub firsts : List Said
   pub last : Said
   pub few : remote + length firsts ≤ setup.remotes - 1
   pub agree : IsTrue (list_all is_yes firsts)
   pub ends : (is_yes last ≡ false) ⊎ (remote + length firsts + 1 ≡ setup.remotes)
-  pub are : items ≡ calls_from remote (AskPrepare values) (firsts ++ last ∷ []) ++ Says (remote_line (final_line request last)) ∷ []
+  pub are : items ≡ calls_from remote (AskPrepare values) (firsts ++ last ∷ []) ++ map (λ line. Says (remote_line line)) (final_lines request last)
 
 abbrev pub AskingLeft : Setup → Option HostMessage → List (List ℕ) → List (List ℕ) → List Item → Type 0
 AskingLeft setup request values [] items = CallsLeft setup request values 0 items
@@ -67,6 +68,16 @@ pub ends_by : (b : Bool) (setup : Setup) (request : Option HostMessage) (p q : P
 ends_by true setup request p q item f items k = (k.0, f (items ++ k.0) k.1)
 ends_by false setup request p q item f items k = f items k
 
+-- ---- the lines for a word
+
+lines_said : (ms : List RemoteMessage) → map (λ l. Says l) (map remote_line ms) ≡ map (λ line. Says (remote_line line)) ms
+lines_said [] = refl
+lines_said (m ∷ ms) = ap (λ (xs : List Item). Says (remote_line m) ∷ xs) (lines_said ms)
+
+finals_said : (request : Option HostMessage) (said : Said) (f : Finals request said) (items : List Item) → items ≡ map (λ l. Says l) (f.line ∷ f.lines)
+    → items ≡ map (λ line. Says (remote_line line)) (final_lines request said)
+finals_said request said f items k = k ∙ ap (λ (ls : List (List ℕ)). map (λ (l : List ℕ). Says l) ls) (sym f.are) ∙ lines_said (final_lines request said)
+
 -- ---- one item more
 
 pub asking_left : (setup : Setup) (request : Option HostMessage) (values names : List (List ℕ)) (items : List Item) → IsLeft setup request (asking values names) items
@@ -86,21 +97,21 @@ pub told_left : (setup : Setup) (request : Option HostMessage) (values : List (L
     → IsLeft setup request (asking (values ++ value ∷ []) names) items → IsLeft setup request (Awaiting values names) (Told (Some (Value value)) ∷ items)
 told_left setup request values value names items k = (value, items, refl, asking_left setup request (values ++ value ∷ []) names items k)
 
-pub worked_left : (setup : Setup) (asked : Asked) (request : Option HostMessage) (remote : ℕ) (said : Said) → remote ≤ setup.remotes - 1 → (items : List Item)
-    → IsLeft setup request (Saying (remote_line (final_line request said)) []) items → IsLeft setup request (Working asked) (Calls remote (Some asked) said ∷ items)
-worked_left setup asked request remote said h items k =
-    record { remote = remote; said = said; among = h; are = ap (λ (xs : List Item). Calls remote (Some asked) said ∷ xs) k }
+pub worked_left : (setup : Setup) (asked : Asked) (request : Option HostMessage) (remote : ℕ) (said : Said) (f : Finals request said) → remote ≤ setup.remotes - 1 → (items : List Item)
+    → IsLeft setup request (Saying f.line f.lines) items → IsLeft setup request (Working asked) (Calls remote (Some asked) said ∷ items)
+worked_left setup asked request remote said f h items k =
+    record { remote = remote; said = said; among = h; are = ap (λ (xs : List Item). Calls remote (Some asked) said ∷ xs) (finals_said request said f items k) }
 
-pub called_left : (setup : Setup) (request : Option HostMessage) (values : List (List ℕ)) (remote : ℕ) (said : Said) → remote ≤ setup.remotes - 1
-    → (is_yes said ≡ false) ⊎ (remote + 1 ≡ setup.remotes) → (items : List Item) → IsLeft setup request (Saying (remote_line (final_line request said)) []) items
+pub called_left : (setup : Setup) (request : Option HostMessage) (values : List (List ℕ)) (remote : ℕ) (said : Said) (f : Finals request said) → remote ≤ setup.remotes - 1
+    → (is_yes said ≡ false) ⊎ (remote + 1 ≡ setup.remotes) → (items : List Item) → IsLeft setup request (Saying f.line f.lines) items
     → IsLeft setup request (Calling values remote) (Calls remote (Some (AskPrepare values)) said ∷ items)
-called_left setup request values remote said h e items k = record {
+called_left setup request values remote said f h e items k = record {
   firsts = [];
   last = said;
   few = let none : remote + 0 ≡ remote = omega arith in omega (arith, none, h);
   agree = refl;
   ends = ends e;
-  are = ap (λ (xs : List Item). Calls remote (Some (AskPrepare values)) said ∷ xs) k;
+  are = ap (λ (xs : List Item). Calls remote (Some (AskPrepare values)) said ∷ xs) (finals_said request said f items k);
 }
   where
     ends : (is_yes said ≡ false) ⊎ (remote + 1 ≡ setup.remotes) → (is_yes said ≡ false) ⊎ (remote + 0 + 1 ≡ setup.remotes)
@@ -126,7 +137,7 @@ agreed_left setup request values remote said y items k = record {
 
 pub calls_end : (setup : Setup) (request : Option HostMessage) (values : List (List ℕ)) (remote : ℕ) → remote ≤ setup.remotes - 1 → (items : List Item) × CallsLeft setup request values remote items
 calls_end setup request values remote h = (
-  Calls remote (Some (AskPrepare values)) No ∷ Says (remote_line (final_line request No)) ∷ [],
+  Calls remote (Some (AskPrepare values)) No ∷ map (λ line. Says (remote_line line)) (final_lines request No),
   record {
     firsts = [];
     last = No;
@@ -151,7 +162,7 @@ Within setup p = Unit {0}
 pub can_end : (setup : Setup) (request : Option HostMessage) (p : Phase) → Within setup p → (items : List Item) × IsLeft setup request p items
 can_end setup request (Saying line lines) h = (map (λ (l : List ℕ). Says l) (line ∷ lines), refl)
 can_end setup request (Working asked) h =
-    (Calls 0 (Some asked) No ∷ Says (remote_line (final_line request No)) ∷ [], record { remote = 0; said = No; among = omega arith; are = refl })
+    (Calls 0 (Some asked) No ∷ map (λ line. Says (remote_line line)) (final_lines request No), record { remote = 0; said = No; among = omega arith; are = refl })
 can_end setup request (Asking values name names) h = asking_ends setup request values (name ∷ names)
 can_end setup request (Awaiting values names) h =
     let more = asking_ends setup request (values ++ [] ∷ []) names in
@@ -201,7 +212,7 @@ readied setup request items k =
       ends = ends c.last (length c.firsts) c.ends;
       are = ap (λ (xs : List Item). Told request ∷ xs)
           (v.are ∙ ap (λ (xs : List Item). asked_values setup.settings v.values ++ xs) c.are
-          ∙ sym (append_assoc (asked_values setup.settings v.values) (calls_from 0 (AskPrepare v.values) (c.firsts ++ c.last ∷ [])) (Says (remote_line (final_line request c.last)) ∷ [])));
+          ∙ sym (append_assoc (asked_values setup.settings v.values) (calls_from 0 (AskPrepare v.values) (c.firsts ++ c.last ∷ [])) (map (λ (line : RemoteMessage). Says (remote_line line)) (final_lines request c.last))));
     }
   where
     ends : (last : Said) (n : ℕ) → (is_yes last ≡ false) ⊎ (0 + n + 1 ≡ setup.remotes) → (is_yes last ≡ false) ⊎ (n + 1 ≡ setup.remotes)

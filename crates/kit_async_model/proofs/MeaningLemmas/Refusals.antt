@@ -1,21 +1,22 @@
--- Items that PREPARE of two remotes may not have.
-use Rattle.std.proofs.Common.{◌≡◌, ◌⊎◌, inl, inr, ℕ, ◌+◌, ◌≤◌, List, [], ◌∷◌, ◌++◌, sym, ap, false, Some, length, arith}
-use Rattle.std.specs.Prelude.{IsTrue, codes}
+-- Items that PREPARE of two remotes may not have, nor INITREMOTE of one.
+use Rattle.std.proofs.Common.{◌≡◌, ◌⊎◌, inl, inr, ℕ, ◌+◌, ◌≤◌, List, [], ◌∷◌, ◌++◌, sym, ap, subst, false, Some, length, arith}
+use Rattle.std.specs.Prelude.{IsTrue, codes, drop, map}
 use Rattle.std.specs.List.{list_all}
-use Rattle.annex_model.specs.Messages.{Prepare, remote_line}
+use Rattle.annex_model.specs.Messages.{Prepare, Initremote, remote_line}
 use Rattle.kit_serve.specs.declared.kit.call.Asked.TheVariants.{Prepare as AskPrepare}
 use Rattle.kit_serve.specs.declared.kit.call.Said.{Said}
 use Rattle.kit_serve.specs.declared.kit.call.Said.TheVariants.{Yes, No}
-use Rattle.kit_serve.specs.Kit.Kits.{is_yes, final_line}
+use Rattle.kit_serve.specs.Kit.Kits.{is_yes, final_lines}
+use Rattle.kit_serve.specs.Kit.Rows.{sets}
 use Rattle.kit_async_model.specs.Meanings.{Item, Told, Says, Calls, asked_values, calls_from, IsReadied}
-use Rattle.kit_async_model.specs.Rows.{two}
+use Rattle.kit_async_model.specs.Rows.{two, bare}
 use Rattle.kit_async_model.proofs.Askings.{never}
-use Rattle.kit_async_model.specs.Meaning.Rows.{told, success, prepares}
+use Rattle.kit_async_model.specs.Meaning.Rows.{told, success, prepares, initializing, setting, initialized}
 use Rattle.std.proofs.lemmas.Bool.{and_parts as both}
 
--- the calls, and the line for the last of them
+-- the calls, and the lines for the last of them
 abbrev answered : List Said → Said → List Item
-answered firsts last = calls_from 0 (AskPrepare (codes "d" ∷ [])) (firsts ++ last ∷ []) ++ Says (remote_line (final_line (Some Prepare) last)) ∷ []
+answered firsts last = calls_from 0 (AskPrepare (codes "d" ∷ [])) (firsts ++ last ∷ []) ++ map (λ line. Says (remote_line line)) (final_lines (Some Prepare) last)
 
 -- what follows the value
 record Answered (items : List Item) : Type 0 where
@@ -30,7 +31,7 @@ after_value : (items : List Item) → IsReadied two (Some Prepare) (told ++ item
 after_value items r = record { firsts = r.firsts; last = r.last; few = r.few; agree = r.agree; ends = r.ends; are = go r.values r.all r.are }
   where
     go : (values : List (List ℕ)) → length values ≡ 1
-        → told ++ items ≡ Told (Some Prepare) ∷ asked_values (codes "directory" ∷ []) values ++ calls_from 0 (AskPrepare values) (r.firsts ++ r.last ∷ []) ++ Says (remote_line (final_line (Some Prepare) r.last)) ∷ []
+        → told ++ items ≡ Told (Some Prepare) ∷ asked_values (codes "directory" ∷ []) values ++ calls_from 0 (AskPrepare values) (r.firsts ++ r.last ∷ []) ++ map (λ line. Says (remote_line line)) (final_lines (Some Prepare) r.last)
         → items ≡ answered r.firsts r.last
     go [] h k = absurd (omega (arith, h))
     go (value ∷ []) h k = cc
@@ -86,3 +87,24 @@ no_value more r = let a = after_value (Calls 0 (Some (AskPrepare [])) Yes ∷ mo
     go : (firsts : List Said) (last : Said) → Calls 0 (Some (AskPrepare [])) Yes ∷ more ≡ answered firsts last → ⊥
     go [] last k = cc
     go (first ∷ firsts) last k = cc
+
+-- ---- a setting that is set
+
+-- it is told first
+pub unset : (more : List Item) → IsReadied bare (Some Initremote) (initializing ++ initialized ∷ more) → ⊥
+unset more r = go r.values r.firsts r.last r.few r.are
+  where
+    said : Said → List Item
+    said last = map (λ line. Says (remote_line line)) (final_lines (Some Initremote) last)
+
+    first : (last : Said) → sets ≡ last → initialized ∷ more ≡ said last → ⊥
+    first last is k =
+        let w : initialized ∷ more ≡ setting ∷ initialized ∷ [] = subst (λ (s : Said). initialized ∷ more ≡ said s) (sym is) k in
+        let wrong : ◌≡◌ {A = ℕ} 73 83 = cc in
+        omega (arith, wrong)
+
+    go : (values : List (List ℕ)) (firsts : List Said) (last : Said) → length firsts ≤ 0
+        → initializing ++ initialized ∷ more ≡ Told (Some Initremote) ∷ calls_from 0 (AskPrepare values) (firsts ++ last ∷ []) ++ said last
+        → ⊥
+    go values (one ∷ firsts) last few k = omega (arith, few)
+    go values [] last few k = let is : sets ≡ last = cc in first last is (ap (λ (xs : List Item). drop 2 xs) k)

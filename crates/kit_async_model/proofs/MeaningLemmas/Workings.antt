@@ -4,14 +4,15 @@ use Rattle.std.specs.Prelude.{◌&&◌, nat_lt, is_some, map}
 use Rattle.std.proofs.lemmas.Bool.Decides.{nat_tests}
 use Rattle.annex_model.specs.Messages.{HostMessage, remote_line}
 use Rattle.kit_serve.specs.declared.kit.call.Said.{Said}
-use Rattle.kit_serve.specs.Kit.Kits.{final_line}
+use Rattle.kit_serve.specs.Kit.Kits.{final_lines}
 use Rattle.kit_async_model.specs.declared.setup.Setup.{Setup}
 use Rattle.kit_async_model.specs.declared.job.Job.{Job}
 use Rattle.kit_async_model.specs.declared.entry.Entry.TheVariants.{Take}
-use Rattle.kit_async_model.specs.Jobs.{request_of, is_making_ready, is_awaiting, next_name, is_number, is_worked_by, job_of, settles, final_in}
+use Rattle.kit_async_model.specs.Jobs.{request_of, is_making_ready, is_awaiting, next_name, is_number, is_worked_by, job_of, settles, finals_in}
 use Rattle.kit_async_model.specs.Legality.{is_idle, is_free, some_job, may_take, is_turn_of, is_called}
 use Rattle.kit_async_model.specs.Standings.{Standing, with_taken, with_call, answer_due, called_in, after}
 use Rattle.kit_async_model.specs.Meanings.{item_of, of_job}
+use Rattle.kit_async_model.proofs.Across.{Finals}
 use Rattle.kit_async_model.proofs.Askings.{no_more}
 use Rattle.kit_async_model.proofs.Places.{job_changed}
 use Rattle.kit_async_model.proofs.MeaningLemmas.Numbers.{number_of, still_changed}
@@ -72,8 +73,12 @@ take_step setup s n request m remote p at d h = go (m == n) refl
 answer_other : (setup : Setup) (n : ℕ) (j : Job) (said : Said) (over : Bool) → (j.number == n) ≡ false → is_due_of n (answer_due setup j said over) ≡ false
 answer_other setup n j said over h = go (not over && settles setup j said)
   where
-    go : (b : Bool) → is_due_of n (cond b ((j.number, final_in j said) ∷ []) []) ≡ false
-    go true = rw h refl
+    none : (lines : List (List ℕ)) → is_due_of n (map (λ line. (j.number, line)) lines) ≡ false
+    none [] = refl
+    none (line ∷ lines) = rw h (none lines)
+
+    go : (b : Bool) → is_due_of n (cond b (map (λ line. (j.number, line)) (finals_in j said)) []) ≡ false
+    go true = none (finals_in j said)
     go false = refl
 
 pub called_other : (setup : Setup) (s : Standing) (n m : ℕ) (request : Option HostMessage) (said : Said) (p : Phase) → At setup s n request p → s.due ≡ [] → (m == n) ≡ false
@@ -97,11 +102,12 @@ shut true b c d = refl
 shut false b c d = refl
 
 -- what is due where it settles the job
-pub answer_owed : (setup : Setup) (n : ℕ) (request : Option HostMessage) (job : Job) (said : Said) (over : Bool) → job.number ≡ n → request_of job ≡ request → settles setup job said ≡ true
-    → IsOwed n (remote_line (final_line request said) ∷ []) (answer_due setup job said over) over
-answer_owed setup n request job said true is r h = inl refl
-answer_owed setup n request job said false is r h =
-    inr (rw h (ap (λ (k : ℕ). (k, final_in job said) ∷ []) is ∙ ap (λ (m : Option HostMessage). (n, remote_line (final_line m said)) ∷ []) r))
+pub answer_owed : (setup : Setup) (n : ℕ) (request : Option HostMessage) (job : Job) (said : Said) (over : Bool) (f : Finals request said) → job.number ≡ n → request_of job ≡ request → settles setup job said ≡ true
+    → IsOwed n (f.line ∷ f.lines) (answer_due setup job said over) over
+answer_owed setup n request job said true f is r h = inl refl
+answer_owed setup n request job said false f is r h =
+    inr (rw h (ap (λ (k : ℕ). map (λ (l : List ℕ). (k, l)) (finals_in job said)) is ∙ ap (λ (m : Option HostMessage). map (λ (l : List ℕ). (n, l)) (map remote_line (final_lines m said))) r
+    ∙ ap (λ (ls : List (List ℕ)). map (λ (l : List ℕ). (n, l)) ls) f.are))
 
 -- and where it doesn't
 pub answer_none : (setup : Setup) (job : Job) (said : Said) (over : Bool) → settles setup job said ≡ false → answer_due setup job said over ≡ []

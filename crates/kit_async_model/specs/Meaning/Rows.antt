@@ -1,9 +1,10 @@
 -- Worked jobs, each of which is as it is meant to be or isn't.
 use Rattle.std.specs.Prelude.{ℕ, true, List, [], ◌∷◌, Option, Some, codes}
-use Rattle.annex_model.specs.Messages.{HostMessage, Prepare, Checkpresent, Value}
+use Rattle.annex_model.specs.Messages.{HostMessage, Prepare, Initremote, Checkpresent, Value}
 use Rattle.kit_serve.specs.declared.kit.call.Asked.TheVariants.{Prepare as AskPrepare, Check as AskCheck}
 use Rattle.kit_serve.specs.declared.kit.call.Said.{Said}
 use Rattle.kit_serve.specs.declared.kit.call.Said.TheVariants.{Yes, No}
+use Rattle.kit_serve.specs.Kit.Rows.{sets}
 use Rattle.kit_async_model.specs.declared.entry.Entry.{Entry}
 use Rattle.kit_async_model.specs.declared.entry.Entry.TheVariants.{Heard, Take, Call, Say}
 use Rattle.kit_async_model.specs.Meanings.{Item, Told, Says, Calls}
@@ -54,6 +55,18 @@ readied = Say 1 (codes "J 1 GETCONFIG directory") ∷ Heard (codes "J 1 VALUE d"
 -- and what follows an untagged one, with a line that isn't the value
 abbrev pub unexpected : List Entry
 unexpected = Say 0 (codes "GETCONFIG directory") ∷ Heard (codes "GETCOST") ∷ error ∷ []
+
+-- ---- a remote that sets a setting
+
+-- INITREMOTE of the one remote, of which nothing is asked for
+abbrev pub initializing : List Item
+initializing = Told (Some Initremote) ∷ Calls 0 (Some (AskPrepare [])) sets ∷ []
+
+abbrev pub setting : Item
+setting = Says (codes "SETCONFIG directory /d")
+
+abbrev pub initialized : Item
+initialized = Says (codes "INITREMOTE-SUCCESS")
 
 -- ---- about the remotes
 

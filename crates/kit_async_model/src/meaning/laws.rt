@@ -1,14 +1,14 @@
 // What a legal journal means for each job. Each law is the contract of a function with nothing to do.
 ghost use Rattle.std.specs.Prelude.{◌≡◌, [], ◌∷◌, ◌++◌, Some, None, true, false, codes};
-ghost use Rattle.annex_model.specs.Messages.{Prepare, Listconfigs};
+ghost use Rattle.annex_model.specs.Messages.{Prepare, Initremote, Listconfigs};
 ghost use Rattle.kit_serve.specs.declared.kit.call.Asked.TheVariants.{Prepare as AskPrepare, Check};
 ghost use Rattle.kit_serve.specs.declared.kit.call.Said.TheVariants.{Yes, No};
 ghost use Rattle.kit_async_model.specs.declared.entry.Entry.TheVariants.{Heard, Take};
 ghost use Rattle.kit_async_model.specs.Meanings.{Told, Says, Calls, stays_open, job_items, IsMeant, JobsAreMeant};
-ghost use Rattle.kit_async_model.specs.Rows.{two, known, version, tagging, ready, check_a, check_b};
+ghost use Rattle.kit_async_model.specs.Rows.{two, bare, known, version, tagging, ready, check_a, check_b};
 ghost use Rattle.kit_async_model.specs.Standings.{standing};
 ghost use Rattle.kit_async_model.specs.Meaning.Belonging.{EachBelongs};
-ghost use Rattle.kit_async_model.specs.Meaning.Rows.{check, asked, checks, absent, overlapping, told, prepares, success, readied, unexpected, unprepared, prepared, configs_told};
+ghost use Rattle.kit_async_model.specs.Meaning.Rows.{check, asked, checks, absent, overlapping, told, prepares, success, readied, unexpected, unprepared, prepared, initializing, setting, initialized, configs_told};
 
 /// Each job of a legal journal is as a kit that serves one job at a time would serve it: a settled one whole, an open one so far.
 pub fn jobs_are_meant()
@@ -57,6 +57,13 @@ pub fn worked_arguments()
     ensures another_key { IsMeant true two prepared check (asked ∷ Calls 0 (Some (Check (codes "WORM--b"))) No ∷ []) → ⊥ }
     ensures another_value { IsMeant true two unprepared (Some Prepare) (told ++ Calls 0 (Some (AskPrepare (codes "e" ∷ []))) Yes ∷ []) → ⊥ }
     ensures no_value { IsMeant true two unprepared (Some Prepare) (told ++ Calls 0 (Some (AskPrepare [])) Yes ∷ []) → ⊥ }
+{}
+
+/// What the items of INITREMOTE may be where the remote sets a setting.
+pub fn worked_settings()
+    ensures whole { IsMeant false bare unprepared (Some Initremote) (initializing ++ setting ∷ initialized ∷ []) }
+    ensures left_out { IsMeant false bare unprepared (Some Initremote) (initializing ++ initialized ∷ []) → ⊥ }
+    ensures told_last { IsMeant true bare unprepared (Some Initremote) (initializing ++ initialized ∷ setting ∷ []) → ⊥ }
 {}
 
 /// What the items of a request about the remotes may be, and of a line that spells no message.

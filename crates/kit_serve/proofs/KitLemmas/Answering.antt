@@ -9,7 +9,7 @@ use Rattle.kit_serve.specs.declared.kit.call.Call.{Call}
 use Rattle.kit_serve.specs.declared.kit.kit.Stage.{Stage}
 use Rattle.kit_serve.specs.declared.kit.kit.Stage.TheVariants.{Over}
 use Rattle.kit_serve.specs.Kit.Calls.{called}
-use Rattle.kit_serve.specs.Kit.Kits.{Due, Asks, Line, work_due, refusal, transfer_asked, asked_by, said_by, final_line, is_prepare, is_yes}
+use Rattle.kit_serve.specs.Kit.Kits.{Due, Asks, Line, work_due, refusal, transfer_asked, asked_by, said_by, final_lines, is_prepare, is_yes}
 use Rattle.kit_serve.specs.Kit.Stages.{KitValue, Answers, Tries, AnswersAt, TriesAt}
 use Rattle.ann_key.proofs.Booleans.{never_true as is_false}
 
@@ -34,13 +34,13 @@ no_more true p = refl
 no_more false true = refl
 no_more false false = refl
 
--- the remote was asked for what is due, and its word gives the line
+-- the remote was asked for what is due, and its word gives the lines
 pub answers_asked : {R E : Type 0} (calls : R → Option (List Call)) (r r' : R) (p : Bool) (s stage : Stage) (old new : KitValue R) (due : Due) (asked : Asked) (request : Option HostMessage) (said : Said) (result : Result (List (List ℕ)) E)
     → record { remote = r; prepared = p; stage = s } ≡ old
     → due ≡ Asks asked
     → calls r' ≡ called {E = E} (calls r) asked (Ok said)
     → OnOk result (new ≡ record { remote = r'; prepared = p || (is_prepare request && is_yes said); stage = stage })
-    → IfOk result (λ say. say ≡ remote_line (final_line request said) ∷ [])
+    → IfOk result (λ say. say ≡ map remote_line (final_lines request said))
     → IfOk result (Answers calls old new due request)
 answers_asked {R} {E} calls r r' p s stage old new due asked request said (Ok say) before is_due gained after says = record {
   call = Some (record { asked = asked; said = said });

@@ -3,20 +3,22 @@ use Rattle.std.specs.Prelude.{ℕ, not, Bool, true, List, [], ◌∷◌, ◌++�
 use Rattle.std.specs.List.{list_all}
 use Rattle.annex_model.specs.Lines.{has_newline}
 use Rattle.kit_serve.specs.declared.kit.call.Said.{Said}
-use Rattle.kit_serve.specs.declared.kit.call.Said.TheVariants.{Yes, No, Failure}
+use Rattle.kit_serve.specs.declared.kit.call.Said.TheVariants.{Yes, No, Failure, Set}
 use Rattle.kit_serve.specs.declared.kit.call.Asked.{Asked}
 use Rattle.kit_serve.specs.declared.kit.call.Asked.TheVariants.{Prepare, Initialize}
 use Rattle.kit_serve.specs.declared.kit.call.Call.{Call}
+use Rattle.kit_serve.specs.Kit.Descriptions.{is_config}
 
 -- no line ends in any of these
 abbrev pub are_lines : List (List ℕ) → Bool
 are_lines texts = list_all (λ text. not (has_newline text)) texts
 
--- no line ends in the text of a failure
+-- no line ends in the text of a failure, nor in a setting, whose name is a word
 abbrev pub is_line_said : Said → Bool
 is_line_said Yes = true
 is_line_said No = true
 is_line_said (Failure text) = not (has_newline text)
+is_line_said (Set pairs) = list_all is_config pairs
 
 -- what a list of calls tells of it: getting ready at INITREMOTE counts as a prepare
 abbrev pub plain : Asked → Asked

@@ -1,7 +1,7 @@
 -- What a remote says of itself, and the lines of it.
 use Rattle.std.specs.Prelude.{ℕ, not, ◌&&◌, Bool, true, false, List, [], ◌∷◌, ◌++◌, map, Option, Some, None}
 use Rattle.annex_model.specs.Lines.{has_newline}
-use Rattle.annex_model.specs.Messages.{RemoteMessage, UnsupportedRequest, Config, Configend, Cost, Availability as AvailabilityLine, Infofield, Infovalue, Infoend, WhereisSuccess, WhereisFailure}
+use Rattle.annex_model.specs.Messages.{RemoteMessage, UnsupportedRequest, Config, Configend, Setconfig, Cost, Availability as AvailabilityLine, Infofield, Infovalue, Infoend, WhereisSuccess, WhereisFailure}
 use Rattle.annex_model.specs.Messages.{HostMessage, Listconfigs, Getcost, Getavailability, Getinfo, Whereis, is_word, remote_line}
 use Rattle.kit_serve.specs.declared.kit.describe.Pair.{Pair}
 use Rattle.kit_serve.specs.declared.kit.describe.Availability.{Availability}
@@ -46,6 +46,10 @@ is_where (At text) = not (has_newline text)
 -- one line for a setting, two for a fact
 abbrev pub config_message : Pair → List RemoteMessage
 config_message p = Config p.name p.text ∷ []
+
+-- and one for a setting that is set
+abbrev pub set_message : Pair → List RemoteMessage
+set_message p = Setconfig p.name p.text ∷ []
 
 abbrev pub info_messages : Pair → List RemoteMessage
 info_messages p = Infofield p.name ∷ Infovalue p.text ∷ []

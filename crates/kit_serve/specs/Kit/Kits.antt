@@ -7,10 +7,11 @@ use Rattle.annex_model.specs.Messages.{RemoteMessage, Extensions, UnsupportedReq
 use Rattle.annex_model.specs.Messages.{HostMessage, AskExtensions, Prepare, Initremote, Transfer, Checkpresent, Remove, Listconfigs, Getcost, Getavailability, Getinfo, Whereis, Exportsupported, Export, Transferexport, Checkpresentexport, Removeexport, Renameexport, Value, Creds, HostError}
 use Rattle.annex_model.specs.Messages.{Param, Key, Word, Rest, host_row, remote_line}
 use Rattle.kit_serve.specs.declared.kit.call.Said.{Said}
-use Rattle.kit_serve.specs.declared.kit.call.Said.TheVariants.{Yes, No, Failure}
+use Rattle.kit_serve.specs.declared.kit.call.Said.TheVariants.{Yes, No, Failure, Set}
 use Rattle.kit_serve.specs.declared.kit.call.Asked.{Asked}
 use Rattle.kit_serve.specs.declared.kit.call.Asked.TheVariants.{Prepare as AskPrepare, Store as AskStore, Retrieve as AskRetrieve, Check as AskCheck, Remove as AskRemove}
 use Rattle.kit_serve.specs.declared.kit.call.Call.{Call}
+use Rattle.kit_serve.specs.Kit.Descriptions.{all_messages, set_message}
 
 -- a message of the host, and the call that was made of the remote for it
 pub record Heard : Type 0 where
@@ -103,6 +104,7 @@ is_over settings ms = some_behind (ends_kit settings) [] ms
 
 abbrev pub is_yes : Said → Bool
 is_yes Yes = true
+is_yes (Set pairs) = true
 is_yes said = false
 
 abbrev pub said_yes : Option Call → Bool
@@ -122,25 +124,39 @@ is_prepared h = some_behind prepares [] h
 -- the line that answers the request, by what the remote said
 abbrev pub final_line : Option HostMessage → Said → RemoteMessage
 final_line (Some Prepare) Yes = PrepareSuccess
+final_line (Some Prepare) (Set pairs) = PrepareSuccess
 final_line (Some Prepare) No = PrepareFailure []
 final_line (Some Prepare) (Failure text) = PrepareFailure text
 final_line (Some Initremote) Yes = InitremoteSuccess
+final_line (Some Initremote) (Set pairs) = InitremoteSuccess
 final_line (Some Initremote) No = InitremoteFailure []
 final_line (Some Initremote) (Failure text) = InitremoteFailure text
 final_line (Some (Transfer store key file)) Yes = TransferSuccess store key
+final_line (Some (Transfer store key file)) (Set pairs) = TransferSuccess store key
 final_line (Some (Transfer store key file)) No = TransferFailure store key []
 final_line (Some (Transfer store key file)) (Failure text) = TransferFailure store key text
 final_line (Some (Checkpresent key)) Yes = CheckpresentSuccess key
+final_line (Some (Checkpresent key)) (Set pairs) = CheckpresentSuccess key
 final_line (Some (Checkpresent key)) No = CheckpresentFailure key
 final_line (Some (Checkpresent key)) (Failure text) = CheckpresentUnknown key text
 final_line (Some (Remove key)) Yes = RemoveSuccess key
+final_line (Some (Remove key)) (Set pairs) = RemoveSuccess key
 final_line (Some (Remove key)) No = RemoveFailure key []
 final_line (Some (Remove key)) (Failure text) = RemoveFailure key text
 final_line request said = UnsupportedRequest
 
+-- the settings that the word sets, at INITREMOTE alone
+abbrev pub set_lines : Option HostMessage → Said → List RemoteMessage
+set_lines (Some Initremote) (Set pairs) = all_messages set_message pairs
+set_lines request said = []
+
+-- all lines for the word: the settings that it sets, and the answer
+abbrev pub final_lines : Option HostMessage → Said → List RemoteMessage
+final_lines request said = set_lines request said ++ final_line request said ∷ []
+
 -- ---- what a message makes due
 
--- nothing; a line; or a call of the remote, whose word gives the line
+-- nothing; a line; or a call of the remote, whose word gives the lines
 pub data Due : Type 0 where
   Silence : Due
   Line : (line : RemoteMessage) → Due
@@ -214,7 +230,7 @@ abbrev pub said_by : Due → Option HostMessage → Option Call → List RemoteM
 said_by Silence request call = []
 said_by (Line line) request call = line ∷ []
 said_by (Asks asked) request None = []
-said_by (Asks asked) request (Some call) = final_line request call.said ∷ []
+said_by (Asks asked) request (Some call) = final_lines request call.said
 
 -- the call asks for exactly what is due
 abbrev pub IsAskedBy : Due → Option Call → Type 0

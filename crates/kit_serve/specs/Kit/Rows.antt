@@ -2,7 +2,7 @@
 use Rattle.std.specs.Prelude.{ℕ, List, [], ◌∷◌, Some, None, codes, true}
 use Rattle.annex_model.specs.Messages.{HostMessage, AskExtensions, Prepare, Initremote, Transfer, Checkpresent, Listconfigs, Getcost, Getavailability, Getinfo, Whereis, Exportsupported, Export, Transferexport, Checkpresentexport, Removeexport, Renameexport, Value, HostError}
 use Rattle.kit_serve.specs.declared.kit.call.Said.{Said}
-use Rattle.kit_serve.specs.declared.kit.call.Said.TheVariants.{Yes, No, Failure}
+use Rattle.kit_serve.specs.declared.kit.call.Said.TheVariants.{Yes, No, Failure, Set}
 use Rattle.kit_serve.specs.declared.kit.call.Asked.{Asked}
 use Rattle.kit_serve.specs.declared.kit.call.Asked.TheVariants.{Prepare as AskPrepare, Check as AskCheck}
 use Rattle.kit_serve.specs.declared.kit.describe.Pair.{Pair}
@@ -69,6 +69,16 @@ name_session = heard Prepare ∷ heard (Export (codes "a")) ∷ []
 -- INITREMOTE doesn't prepare
 abbrev pub init_session : List Heard
 init_session = heard Initremote ∷ heard_with (Value (codes "d")) (AskPrepare values) Yes ∷ heard (Checkpresent key) ∷ []
+
+-- the remote sets the setting at INITREMOTE; at PREPARE it doesn't, and is prepared all the same
+abbrev pub sets : Said
+sets = Set (record { name = codes "directory"; text = codes "/d" } ∷ [])
+
+abbrev pub set_session : List Heard
+set_session =
+    heard Initremote ∷ heard_with (Value (codes "d")) (AskPrepare values) sets
+    ∷ heard Prepare ∷ heard_with (Value (codes "d")) (AskPrepare values) sets
+    ∷ heard_with (Checkpresent key) (AskCheck key) No ∷ []
 
 -- once prepared, it stays so, also where a later PREPARE fails
 abbrev pub again_session : List Heard

@@ -5,7 +5,7 @@ ghost use Rattle.annex_model.specs.Lines.{has_newline};
 ghost use Rattle.annex_model.specs.Messages.{remote_line, Configend, Infoend, UnsupportedRequest, IsAskable, IsSayable};
 ghost use Rattle.wire_msg.specs.Shown.{host_shown, remote_shown};
 ghost use Rattle.kit_serve.specs.Kit.Calls.{are_lines};
-ghost use Rattle.kit_serve.specs.Kit.Descriptions.{all_messages, aside_lines, availability_message, config_message, cost_message, info_messages, is_config, is_pair, is_where, list_messages, where_message};
+ghost use Rattle.kit_serve.specs.Kit.Descriptions.{all_messages, aside_lines, availability_message, config_message, cost_message, info_messages, is_config, is_pair, is_where, list_messages, set_message, where_message};
 
 use crate::kit::describe::{Availability, Describe, Pair, Where};
 use crate::kit::finals::one_line;
@@ -35,6 +35,20 @@ fn config_lines(alloc: Global, pairs: &[Pair]) -> Result<Vec<Bytes>, NoMemory>
     let mut say = Vec::new(alloc);
     for pair in pairs {
         let message = RemoteMsg::Config(pair.name.view(), pair.text.view());
+        push(alloc, &mut say, &message)?;
+    }
+    Ok(say)
+}
+
+// The settings that are set.
+pub(super) fn set_lines(alloc: Global, pairs: &[Pair]) -> Result<Vec<Bytes>, NoMemory>
+    requires { IsTrue (list_all is_config pairs.now) }
+    ensures line { IfOk result (λ say. say.items ≡ map remote_line (all_messages set_message pairs.now)) }
+    ensures lines { IfOk result (λ say. IsTrue (are_lines say.items)) }
+{
+    let mut say = Vec::new(alloc);
+    for pair in pairs {
+        let message = RemoteMsg::Setconfig(pair.name.view(), pair.text.view());
         push(alloc, &mut say, &message)?;
     }
     Ok(say)

@@ -3,7 +3,7 @@ ghost use Rattle.std.specs.Prelude.{◌≡◌, ◌==◌, position, IfOk, IsTrue}
 ghost use Rattle.std.specs.List.{before_first};
 ghost use Rattle.kit_serve.specs.Kit.Calls.{is_line_said};
 
-use crate::kit::lists::Values;
+use crate::kit::lists::{Pairs, Values};
 use ann_key::{Bytes, Key, NoMemory, Text};
 use std::alloc::Global;
 
@@ -16,6 +16,9 @@ pub enum Said {
     No,
     /// It couldn't be done, or found out, for this reason. The text holds no line end.
     Failure(Bytes),
+    /// It is done. Of `initialize` it also has the host set these settings, by SETCONFIG, and keep them in the place of those that the
+    /// user gave. A name holds no space, and neither it nor its value holds a line end.
+    Set(Pairs),
 }
 
 // Where the first line ends.
@@ -56,6 +59,7 @@ impl Said {
                 let copy = Bytes::copy(alloc, text.view())?;
                 Ok(Said::Failure(copy))
             }
+            Said::Set(pairs) => Ok(Said::Set(pairs.copy(alloc)?)),
         }
     }
 }

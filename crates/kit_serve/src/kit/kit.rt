@@ -1,4 +1,4 @@
-ghost use Rattle.std.specs.Prelude.{◌≡◌, ◌&&◌, ◌||◌, ◌<◌, ◌^◌, ◌+◌, ◌++◌, ◌∷◌, [], not, codes, List, Option, Some, None, false, length, slice_get, IsTrue, true, ℕ, IfOk, IsOkAnd, OnOk, OnErr};
+ghost use Rattle.std.specs.Prelude.{◌≡◌, ◌&&◌, ◌||◌, ◌<◌, ◌^◌, ◌+◌, ◌++◌, ◌∷◌, [], not, codes, List, Option, Some, None, false, length, map, slice_get, IsTrue, true, ℕ, IfOk, IsOkAnd, OnOk, OnErr};
 ghost use Rattle.annex_model.specs.Lines.{has_newline};
 ghost use Rattle.annex_model.specs.Messages.{Transfer, Checkpresent, Remove, Error, is_sent_key, IsAskable, IsSayable, remote_line};
 ghost use Rattle.ann_key.specs.KeyRefs.{text_of};
@@ -9,7 +9,7 @@ ghost use Rattle.kit_serve.specs.declared.kit.call.Said.TheVariants.{Failure};
 ghost use Rattle.kit_serve.specs.declared.kit.call.Asked.TheVariants.{Prepare as AskPrepare};
 ghost use Rattle.kit_serve.specs.declared.kit.kit.Stage.TheVariants.{Readying};
 ghost use Rattle.kit_serve.specs.Kit.Calls.{called, are_lines, is_line_said};
-ghost use Rattle.kit_serve.specs.Kit.Kits.{has_line_fields, readying, work_due, final_line, is_prepare, is_yes, transfer_asked, Asks};
+ghost use Rattle.kit_serve.specs.Kit.Kits.{has_line_fields, readying, work_due, final_line, final_lines, is_prepare, is_yes, transfer_asked, Asks};
 ghost use Rattle.kit_serve.specs.Kit.Stages.{IsSound, Answers, AnswersAt, Tries, TriesAt, WorksOn, Follows, Steps, Stops};
 ghost use Rattle.kit_serve.specs.Kit.Stages.{prepare_of, ready_stage, stage_after, stage_after_request, stage_after_value, is_free, is_last};
 
@@ -139,21 +139,22 @@ impl<R: Remote> Kit<R> {
         drop(mem::replace(&mut self.stage, stage));
     }
 
-    // Says the line that the remote's word makes of the request, and lets the word go, so that no caller has to. A yes to
+    // Says the lines that the remote's word makes of the request, and lets the word go, so that no caller has to. A yes to
     // PREPARE leaves the kit prepared.
     fn finish(&mut self, request: HostMsg<'_>, said: Said) -> Result<Lines, NoMemory>
         requires askable { IsAskable (host_shown request) }
         requires lines { IsTrue (has_line_fields (host_shown request)) }
         requires text { IsTrue (is_line_said said) }
-        ensures ok { IfOk result (λ say. say ≡ remote_line (final_line (Some (host_shown request.entry)) said) ∷ []) }
+        ensures ok { IfOk result (λ say. say ≡ map remote_line (final_lines (Some (host_shown request.entry)) said)) }
         ensures after { OnOk result (self.new ≡ record self.old { prepared = self.old.prepared || (is_prepare (Some (host_shown request.entry)) && is_yes said); stage = Stage.Waiting }) }
         ensures err { OnErr result (self.new ≡ self.old) }
         ensures lines { IfOk result (λ say. IsTrue (are_lines say)) }
     {
-        let line = finals::one_line(self.alloc, &finals::final_message(request, &said));
-        let prepares = matches!(request, HostMsg::Prepare) && matches!(said, Said::Yes);
+        let lines = finals::final_lines(self.alloc, request, &said);
+        let prepares = matches!(request, HostMsg::Prepare)
+            && matches!(said, Said::Yes | Said::Set(_));
         drop(said);
-        let say = line?;
+        let say = lines?;
         if prepares {
             self.prepared = true;
         }

@@ -3,7 +3,7 @@ ghost use Rattle.std.specs.Prelude.{◌≡◌, [], ◌∷◌, ◌++◌, codes, d
 ghost use Rattle.kit_serve.specs.Kit.Kits.{IsServed, lines_said, is_over, messages};
 ghost use Rattle.kit_serve.specs.Kit.Described.{described_lines, AreAnswered};
 ghost use Rattle.kit_serve.specs.Kit.Rows.{settings, asks_directory, check_session, export_session, name_session, invented_session, early_session, hasty_session};
-ghost use Rattle.kit_serve.specs.Kit.Rows.{init_session, again_session, transfer_session, value_session, request_session, error_session, bare_session};
+ghost use Rattle.kit_serve.specs.Kit.Rows.{init_session, set_session, again_session, transfer_session, value_session, request_session, error_session, bare_session};
 ghost use Rattle.kit_serve.specs.Kit.Rows.{description, described_session, untold_session, unknown_session, garbled_session, late_session, kept_session, awaiting_session, intruding_session, astray_session};
 ghost use Rattle.kit_serve.specs.Kit.Descriptions.{untold};
 
@@ -11,6 +11,7 @@ ghost use Rattle.kit_serve.specs.Kit.Descriptions.{untold};
 pub fn worked_lines()
     ensures check { lines_said settings check_session ≡ codes "EXTENSIONS " ∷ asks_directory ∷ codes "PREPARE-SUCCESS" ∷ codes "CHECKPRESENT-FAILURE WORM--a" ∷ [] }
     ensures init { lines_said settings init_session ≡ asks_directory ∷ codes "INITREMOTE-SUCCESS" ∷ codes "CHECKPRESENT-UNKNOWN WORM--a not prepared" ∷ [] }
+    ensures set { lines_said settings set_session ≡ asks_directory ∷ codes "SETCONFIG directory /d" ∷ codes "INITREMOTE-SUCCESS" ∷ asks_directory ∷ codes "PREPARE-SUCCESS" ∷ codes "CHECKPRESENT-FAILURE WORM--a" ∷ [] }
     ensures again { lines_said settings again_session ≡ asks_directory ∷ codes "PREPARE-SUCCESS" ∷ asks_directory ∷ codes "PREPARE-FAILURE no directory" ∷ codes "CHECKPRESENT-SUCCESS WORM--a" ∷ [] }
     ensures transfer { lines_said settings transfer_session ≡ codes "EXTENSIONS " ∷ codes "TRANSFER-FAILURE STORE WORM--a not prepared" ∷ [] }
     ensures value { lines_said settings value_session ≡ codes "ERROR unexpected message" ∷ [] }
@@ -28,6 +29,7 @@ pub fn worked_calls()
     ensures early { IsServed settings early_session → ⊥ }
     ensures hasty { IsServed settings hasty_session → ⊥ }
     ensures init { IsServed settings init_session }
+    ensures set { IsServed settings set_session }
     ensures again { IsServed settings again_session }
     ensures transfer { IsServed settings transfer_session }
     ensures value { IsServed settings value_session }

@@ -2,6 +2,7 @@
 ghost use Rattle.std.specs.Prelude.{◌≡◌, ◌↔◌, ◌++◌, ◌∷◌, [], length, slice_get, IsTrue, IfOk, OnOk, OnErr};
 ghost use Rattle.std.specs.Option.{option_copied};
 
+use crate::kit::describe::Pair;
 use ann_key::{Bytes, NoMemory};
 use std::alloc::Global;
 use std::marker::Model;
@@ -108,5 +109,49 @@ impl Lines {
         ensures { result.now ≡ self.now }
     {
         self.items.as_slice()
+    }
+}
+
+/// Names with a text each.
+#[derive(Drop)]
+pub struct Pairs {
+    items: Vec<Pair>,
+}
+
+impl Model for Pairs {
+    ghost use Rattle.std.specs.Prelude.{List};
+    ghost use Rattle.kit_serve.specs.declared.kit.describe.Pair.{Pair};
+
+    ghost Value = { List Pair };
+
+    ghost view = { λ p. p.items.items };
+}
+
+impl Pairs {
+    /// The pairs of the vector. It takes no memory.
+    pub fn new(list: Vec<Pair>) -> Pairs
+        ensures { result ≡ list.items }
+    {
+        Pairs { items: list }
+    }
+
+    /// The pairs, lent. It takes no memory.
+    pub fn view(&self) -> &[Pair]
+        ensures { result.now ≡ self.now }
+    {
+        self.items.as_slice()
+    }
+
+    /// Equal pairs.
+    pub fn copy(&self, alloc: Global) -> Result<Pairs, NoMemory>
+        ensures { IfOk result (λ p. p ≡ self.now) }
+    {
+        let mut items = Vec::new(alloc);
+        for pair in self.items.as_slice() {
+            let name = Bytes::copy(alloc, pair.name.view())?;
+            let text = Bytes::copy(alloc, pair.text.view())?;
+            items.push(Pair { name, text })?;
+        }
+        Ok(Pairs { items })
     }
 }

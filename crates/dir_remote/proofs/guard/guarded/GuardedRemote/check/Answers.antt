@@ -4,7 +4,7 @@ use Rattle.std.specs.Option.{option_copied}
 use Rattle.std.proofs.lemmas.Result.{err_from_is_err_and}
 use Rattle.ann_key.specs.KeyRefs.{text_of}
 use Rattle.kit_serve.specs.declared.kit.call.Said.{Said}
-use Rattle.kit_serve.specs.declared.kit.call.Said.TheVariants.{Yes, No, Failure}
+use Rattle.kit_serve.specs.declared.kit.call.Said.TheVariants.{Yes, No, Failure, Set}
 use Rattle.dir_remote.specs.Desks.{CheckAnswers}
 use Rattle.dir_remote.specs.Guard.Gates.{Admits, looks_of}
 use Rattle.dir_remote.specs.Guard.Guards.{IsLook, Stands}
@@ -45,3 +45,11 @@ returns-in-No-clause-checked g c =
     let C : Option (List ℕ) → Type 0 = λ d. AddsSome (g.P.Place.steps c.enter.new.place) (g.P.Place.steps c.confirm.new.self.place) (λ steps. Stands (looks_of d) steps (Ok No) c.confirm.result) in
     rw (c.confirm.ensures.same.desk, ← c.self.view_is)
     (guards_again _ _ _ _ _ (g.P.Place.steps c.enter.new.place) (Ok No) c.confirm.result a (subst I c.in-No.is c.in_ok-check.ensures.checked) (subst C c.in_ok-check.ensures.directory c.confirm.ensures.confirmed))
+
+pub returns-in-Set-clause-checked : goal.returns-in-Set-clause-checked
+returns-in-Set-clause-checked g c =
+    let T : Option Said → Type 0 = λ o. Admits (IsLook (option_copied c.directory.result)) (g.P.Place.steps c.self.inside.place) (g.P.Place.steps c.enter.new.place) (Ok o) in
+    let U : Option (List ℕ) → Type 0 = λ d. Admits (IsLook d) (g.P.Place.steps c.self.inside.place) (g.P.Place.steps c.enter.new.place) (Ok None) in
+    let a = subst U c.directory.ensures.directory (subst T c.in_default.is c.in_ok-stopped.ensures.passed) in
+    let I : Said → Type 0 = λ s. CheckAnswers (g.D.Desk.told c.self.inside.remote.desk) (g.D.Desk.told c.check.new.self.desk) c.self.inside.remote.directory (text_of c.args.key) (Ok s) in
+    rw (← c.self.view_is) (guards_done _ _ _ _ _ (Ok (Set c.in-Set.pairs)) a (subst I c.in-Set.is c.in_ok-check.ensures.checked) refl)

@@ -2,7 +2,7 @@ use Rattle.std.proofs.Common.{[], refl, ap, subst}
 use Rattle.std.specs.Prelude.{Ok, Err}
 use Rattle.std.proofs.lemmas.Result.{err_from_is_err_and}
 use Rattle.kit_serve.specs.declared.kit.call.Said.{Said}
-use Rattle.kit_serve.specs.declared.kit.call.Said.TheVariants.{Failure}
+use Rattle.kit_serve.specs.declared.kit.call.Said.TheVariants.{Failure, Set}
 use Rattle.dir_remote.specs.Answers.{Prepares, first_of}
 use Rattle.dir_remote.proofs.GuardLemmas.Adding.{adds_none}
 use Rattle.dir_remote.proofs.guard.guarded.GuardedRemote.prepare.Goals as goal
@@ -36,6 +36,23 @@ returns-in-Failure-clause-readied g c =
         mark = h.mark;
         said = Ok (Failure c.in-Failure.text);
         prepares = subst P c.in-Failure.is h.prepared;
+        ready = λ e. absurd cc;
+        unready = λ n. (refl, refl);
+      },
+    )
+
+pub returns-in-Set-clause-readied : goal.returns-in-Set-clause-readied
+returns-in-Set-clause-readied g c =
+    let h = c.in_ok-prepare.ensures in
+    let P : Said → Type 0 = λ s. Prepares (first_of c.args.values.now) c.self.inside.remote.directory c.prepare.new.self.directory (Ok s) in
+    rw (← c.self.view_is) (
+      [],
+      adds_none (g.P.Place.steps c.self.inside.place),
+      record {
+        desk = ap g.D.Desk.told h.desk;
+        mark = h.mark;
+        said = Ok (Set c.in-Set.pairs);
+        prepares = subst P c.in-Set.is h.prepared;
         ready = λ e. absurd cc;
         unready = λ n. (refl, refl);
       },

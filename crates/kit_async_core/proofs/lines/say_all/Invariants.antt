@@ -1,7 +1,7 @@
 use Rattle.std.proofs.Common.{◌≡◌, ◌+◌, ◌++◌, length, map}
 use Rattle.std.specs.Vec.Iter.{into_iter_items}
 use Rattle.kit_async_model.specs.declared.entry.Entry.TheVariants.{Say}
-use Rattle.kit_async_core.proofs.hear.say_all.Given as goal
+use Rattle.kit_async_core.proofs.lines.say_all.Given as goal
 
 -- those so far, and those that are left
 abbrev pub invariant-loop-line : goal.invariant-loop-line

@@ -1,5 +1,5 @@
 use Rattle.std.proofs.Common.{◌≡◌, take}
-use Rattle.kit_async_core.proofs.hear.copies.Given as goal
+use Rattle.kit_async_core.proofs.lines.copies.Given as goal
 
 abbrev pub invariant-loop-line : goal.invariant-loop-line
 invariant-loop-line l = l.copies.items ≡ take l.line-index l.lines
