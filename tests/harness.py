@@ -148,15 +148,18 @@ def start(words, env=None, cwd=None, stdin=subprocess.PIPE, stdout=subprocess.PI
     return subprocess.Popen(words, env=environment(env), cwd=cwd, stdin=stdin, stdout=stdout, stderr=stderr)
 
 
-# The statuses at which `special` says more on a second line, for people.
+# The statuses at which `special` says more on a second line, for people, and how a notice begins.
 HINTED = (2, 3, 4, 6, 7)
+NOTICE = "special: note: "
 
 
 def without_hint(status, err):
-    """Standard error without that line, which comes last. test_hints.py looks at its words."""
+    """Standard error without what `special` says for people: that line, and notices, which come last. test_hints.py looks at their words."""
     lines = err.splitlines(keepends=True)
+    while lines and lines[-1].startswith(NOTICE):
+        lines.pop()
     said = [line.startswith("special: ") for line in lines[-2:]]
-    return "".join(lines[:-1]) if status in HINTED and said == [True, True] else err
+    return "".join(lines[:-1] if status in HINTED and said == [True, True] else lines)
 
 
 def finish(process, input=b""):
