@@ -154,10 +154,8 @@ NOTICE = "special: note: "
 
 
 def without_hint(status, err):
-    """Standard error without what `special` says for people: that line, and notices, which come last. test_hints.py looks at their words."""
-    lines = err.splitlines(keepends=True)
-    while lines and lines[-1].startswith(NOTICE):
-        lines.pop()
+    """Standard error without what `special` says for people: that line, which comes last, and notices. test_hints.py looks at their words."""
+    lines = [line for line in err.splitlines(keepends=True) if not line.startswith(NOTICE)]
     said = [line.startswith("special: ") for line in lines[-2:]]
     return "".join(lines[:-1] if status in HINTED and said == [True, True] else lines)
 

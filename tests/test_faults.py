@@ -238,20 +238,20 @@ def case_a_folder_is_no_file_to_store(room):
     expect(room.special(*RUN, input="store WORM--a folder\n"), Done(1, "1 filefault\n", ""))
 
 
-def case_chunks_whose_folder_is_a_file_are_not_stored(room):
+def case_chunks_whose_folder_becomes_a_file_are_not_stored(room):
     furnish(room)
     room.write("f", "0123456789")
-    room.write("file")
-    words = ["run", "--program", "./remote.sh", "--uuid", UUID, "--jobs", "1", "--work", "file", "--chunk", "4"]
-    env = {"DURING": "exit"}
-    expect(room.special(*words, input="store WORM-s10--ten f\n"), Done(0, "1 stored\n", ""), "each chunk is there")
+    words = ["run", "--program", "./remote.sh", "--uuid", UUID, "--jobs", "1", "--work", "w", "--chunk", "4"]
+    env = {"DURING": "rm -rf w; : > w"}
+    expect(room.special(*words, input="store WORM-s10--ten f\n", env=env), Done(0, "1 stored\n", ""), "each chunk is there")
+    os.remove(room.path("w"))
     room.script("remote.sh", REMOTE.replace("CHECKPRESENT-SUCCESS", "CHECKPRESENT-FAILURE"))
-    expect(room.special(*words, input="store WORM-s10--ten f\n"), Done(1, "1 filefault\n", ""), "none is there")
+    expect(room.special(*words, input="store WORM-s10--ten f\n", env=env), Done(1, "1 filefault\n", ""), "none is there")
 
 
 def case_a_drop_needs_no_file(room):
     room.script("remote.sh", REMOTE.replace("INITREMOTE)", "REMOVE*) echo \"REMOVE-SUCCESS ${line#* }\" ;;\n    INITREMOTE)"))
-    words = ["run", "--program", "./remote.sh", "--uuid", UUID, "--work", "/nowhere"]
+    words = ["run", "--program", "./remote.sh", "--uuid", UUID, "--work", "empty"]
     expect(room.special(*words, input="drop WORM--a\n"), Done(0, "1 dropped\n", ""))
 
 

@@ -193,7 +193,7 @@ def case_a_work_folder_that_is_a_file(room):
     room.script("child.sh", GREETING + "while read -r line; do " + printed("CHECKPRESENT-FAILURE WORM-s3-S2-C1--c") + "done\n")
     done = room.special("run", "--program", "./child.sh", "--uuid", UUID, "--work", "work", "--chunk", "2",
                         input="store WORM-s3--c file\n")
-    expect(done, (1, "1 filefault\n", ""))
+    expect(done, (6, "", "special: file failed\n"))
 
 
 @limits(20, waits=True)

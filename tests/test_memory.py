@@ -12,6 +12,9 @@ from harness import SPECIAL, TOP, UUID, expect, limits, preloaded, require, run,
 
 TASKS = "check WORM-s1--a\ncheck WORM-s1--b\n"
 
+# The words are read twice, first for the folder that `--work` names: so many allocations at most, without which it isn't made.
+FOR_THE_FOLDER = 60
+
 
 def tells_of_memory(done):
     """The run says that it is out of memory: at its end, or in an answer. A start that fails may have failed for memory."""
@@ -48,11 +51,12 @@ def a_run_that_is_refused_an_allocation_says_so_unless_others_do_its_tasks(room,
                     done, may_go_well = came
                     refused += 1
                     well += done.status == 0
-                    require(tells_of_memory(done) or (done.status == 0 and may_go_well), f"allocation {number} was refused\ngot: {done}")
+                    require(tells_of_memory(done) or (done.status == 0 and (may_go_well or number <= FOR_THE_FOLDER)), f"allocation {number} was refused\ngot: {done}")
             if not came:
                 break
     require(refused > 100, f"only {refused} allocations were refused")
-    require(well < refused // 8, f"{well} of {refused} runs went well")
+    # What is said for people, after the answers, changes no status.
+    require(well < refused // 6, f"{well} of {refused} runs went well")
 
 
 # Tells in a file whether its output was still read when its input had ended.
