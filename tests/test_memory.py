@@ -13,7 +13,7 @@ from harness import SPECIAL, TOP, UUID, expect, limits, preloaded, require, run,
 TASKS = "check WORM-s1--a\ncheck WORM-s1--b\n"
 
 # The words are read twice, first for the folder that `--work` names: so many allocations at most, without which it isn't made.
-FOR_THE_FOLDER = 60
+FOR_THE_FOLDER = 120
 
 
 def tells_of_memory(done):
@@ -50,13 +50,12 @@ def a_run_that_is_refused_an_allocation_says_so_unless_others_do_its_tasks(room,
                 if came:
                     done, may_go_well = came
                     refused += 1
-                    well += done.status == 0
+                    well += done.status == 0 and number > FOR_THE_FOLDER
                     require(tells_of_memory(done) or (done.status == 0 and (may_go_well or number <= FOR_THE_FOLDER)), f"allocation {number} was refused\ngot: {done}")
             if not came:
                 break
     require(refused > 100, f"only {refused} allocations were refused")
-    # What is said for people, after the answers, changes no status.
-    require(well < refused // 6, f"{well} of {refused} runs went well")
+    require(well < refused // 8, f"{well} of {refused} runs went well")
 
 
 # Tells in a file whether its output was still read when its input had ended.
