@@ -26,12 +26,14 @@ def has(name):
     return FAULT == name
 
 
-def say(line):
+def say(line, more=None):
+    """Says a line, and perhaps another at once."""
     with WRITING:
         tag = getattr(HERE, "tag", "") if STATE["tagged"] else ""
         if has("untagged line") and line.startswith("CHECKPRESENT-FAILURE"):
             tag = ""
-        os.write(1, f"{tag}{line}\n".encode("utf-8", "surrogateescape"))
+        lines = "".join(f"{tag}{said}\n" for said in (line, more) if said is not None)
+        os.write(1, lines.encode("utf-8", "surrogateescape"))
 
 
 def hear():
@@ -223,12 +225,12 @@ def check(key):
         say(f"CHECKPRESENT-UNKNOWN {key} the folder is gone")
     elif os.path.isdir(STATE["directory"]) and not os.access(STATE["directory"], os.X_OK) and not has("absent in an unreadable folder"):
         say(f"CHECKPRESENT-UNKNOWN {key} the folder can't be read")
-    elif is_there(key):
-        say(f"CHECKPRESENT-SUCCESS {'WORM--other' if has('another key') else key}")
     else:
-        say(f"CHECKPRESENT-FAILURE {key}")
-    if has("DEBUG after the answer"):
-        say("DEBUG checked")
+        after = "DEBUG checked" if has("DEBUG after the answer") else None
+        if is_there(key):
+            say(f"CHECKPRESENT-SUCCESS {'WORM--other' if has('another key') else key}", after)
+        else:
+            say(f"CHECKPRESENT-FAILURE {key}", after)
 
 
 def removal(key):
