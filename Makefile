@@ -1,4 +1,4 @@
-#     make try           builds two programs without proof, in two minutes, and stores and gets a file with them
+#     make try           builds two programs without proof, in three minutes, and stores and gets a file with them
 #     make unproved      builds all programs without proof, into out-unproved/
 #     make install [PREFIX=/usr/local] [DESTDIR=]       installs programs, manual pages and completions
 #     make uninstall [PREFIX=/usr/local] [DESTDIR=]

@@ -26,7 +26,7 @@ _special() {
   local current=${COMP_WORDS[COMP_CWORD]} previous=${COMP_WORDS[COMP_CWORD - 1]}
   COMPREPLY=()
   if ((COMP_CWORD == 1)); then
-    _special_offer -W "check info init run audit rehearse --help --version" -- "$current"
+    _special_offer -W "check info init run audit recover rehearse --help --version" -- "$current"
     return
   fi
   case ${COMP_WORDS[1]}:$COMP_CWORD in
@@ -36,6 +36,9 @@ _special() {
       else _special_programs "$current"; fi ;;
     init:4) _special_offer -f -- "$current" ;;
     audit:2 | rehearse:2) _special_offer -W "--help" -- "$current" ;;
+    recover:2 | recover:3)
+      if [[ $current == -* ]]; then _special_offer -W "--help" -- "$current"
+      else _special_offer -f -- "$current"; fi ;;
     rehearse:4) _special_offer -W "world" -- "$current" ;;
   esac
 }

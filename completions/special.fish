@@ -16,11 +16,12 @@ complete -c special -n __fish_use_subcommand -a info -d 'ask a remote about itse
 complete -c special -n __fish_use_subcommand -a init -d 'set a remote up'
 complete -c special -n __fish_use_subcommand -a run -d 'store, get, check and drop by the lines of the input'
 complete -c special -n __fish_use_subcommand -a audit -d 'check the text of a run'
+complete -c special -n __fish_use_subcommand -a recover -d 'print the answers of a run that was cut off'
 complete -c special -n __fish_use_subcommand -a rehearse -d 'do made-up tasks over remotes in memory'
 complete -c special -l help -d 'print the help'
 complete -c special -n __fish_use_subcommand -l version -d 'print the version'
 complete -c special -n __special_needs_program -a '(__fish_complete_command)'
-complete -c special -n '__fish_seen_subcommand_from init' -F
+complete -c special -n '__fish_seen_subcommand_from init recover' -F
 complete -c special -n __special_needs_world -a world -d 'in a closed world, one move after the other'
 
 set -l run '__fish_seen_subcommand_from run'

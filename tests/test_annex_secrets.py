@@ -63,8 +63,8 @@ def key_id(home, name):
 
 @limits(300)
 @table([
-    ("of the cipher", "hybrid", "gpg does not decrypt the cipher of kept: wrong passphrase"),
-    ("of contents", "sharedpubkey", "gpg does not decrypt what kept has: wrong passphrase"),
+    ("of the cipher", "hybrid", "gpg can't decrypt the cipher of kept: wrong passphrase"),
+    ("of contents", "sharedpubkey", "gpg can't decrypt what kept has: wrong passphrase"),
 ])
 @with_gpg
 def a_wrong_passphrase_is_told_and_nothing_is_written(room, home, encryption, sentence):
@@ -80,14 +80,14 @@ def a_wrong_passphrase_is_told_and_nothing_is_written(room, home, encryption, se
     expect(annex.restored(), TEN, "what is restored")
 
 
-LOST = "gpg does not decrypt the cipher of kept, which is encrypted to {}: decryption failed: No secret key"
+LOST = "gpg can't decrypt the cipher of kept, which is encrypted to {}: decryption failed: No secret key"
 
 
 @limits(300)
 @table([
     ("of a hybrid cipher", "hybrid", LOST),
     ("of a cipher for names", "pubkey", LOST),
-    ("of contents alone", "sharedpubkey", "gpg decrypts nothing of what kept has: decryption failed: No secret key"),
+    ("of contents alone", "sharedpubkey", "gpg can't decrypt anything that kept has: decryption failed: No secret key"),
 ])
 @with_gpg
 def a_lost_secret_key_is_told_and_nothing_is_written(room, home, encryption, sentence):
@@ -114,7 +114,7 @@ def case_the_passphrase_of_another_cipher_is_told_and_nothing_is_dropped_for_it(
     before = contents_below(room.path("contents"))
     cipher = base64.b64decode(setting(annex, "cipher"))
     other = f"cipher={base64.b64encode(cipher[:256] + cipher[256:][::-1].strip()).decode()}"
-    said = "annex-special: gpg decrypts nothing of what kept has: decryption failed: Bad session key\n"
+    said = "annex-special: gpg can't decrypt anything that kept has: decryption failed: Bad session key\n"
     for words in (["verify", "--repair-from", "here"], ["restore", room.path("out")]):
         done = annex.kept(*words, "--set", other)
         expect((done.status, done.err), (2, said), words[0])

@@ -35,6 +35,7 @@ WORDS = [
     ("an init without a UUID", ["init", "p", "u", "k"], "u is no UUID, such as 6f9619ff-8b86-d011-b42d-00cf4fc964ff: try special init --help"),
     ("a setting without =", ["init", "p", UUID, "k", "a=1", "b"], "b is no setting: write NAME=VALUE, such as directory=/home/me/contents"),
     ("an audit with words", ["audit", "x"], "audit takes no words, since it reads its input: try special audit --help"),
+    ("a recovery without words", ["recover"], "recover takes JOURNAL [KEEP]: try special recover --help"),
     ("a rehearsal of none", ["rehearse", "1", "0"],
      "rehearse takes SEED TASKS [world], SEED from 0 to 4294967295, TASKS from 1 to 65536: try special rehearse --help"),
 ]
@@ -98,6 +99,18 @@ def case_a_kept_file_that_another_run_uses_is_named(room):
         fcntl.flock(lock, fcntl.LOCK_EX)
         room.write("kept", "")
         expect(lines_of(room, [*RUN, "--keep", "kept"]), (6, ["special: file failed", "special: kept can't be read, or another run uses it"]))
+
+
+def case_the_files_of_a_recovery_are_named(room):
+    expect(lines_of(room, ["recover", "none"]), (6, ["special: file failed", "special: none can't be read"]))
+    wanted = ["special: file failed", "special: none can't be read, or kept has changed since that run began"]
+    expect(lines_of(room, ["recover", "none", "kept"]), (6, wanted))
+    room.write("remote", FETCHES)
+    os.chmod(room.path("remote"), 0o755)
+    called(room, ["run", "--program", "./remote", "--uuid", UUID, "--journal", "journal"], b"check WORM--a\n")
+    room.write("kept", "annex-keep 1\nconfig a 1\n")
+    wanted = ["special: keep changed", "special: kept was left as it is: it has changed since the run of journal began, or would be too large"]
+    expect(called(room, ["recover", "journal", "kept"]), (6, b"1 present\n", wanted))
 
 
 def case_a_kept_file_that_holds_something_else_is_named(room):

@@ -212,7 +212,7 @@ def each_status_is_in_the_help_and_the_manual(room, status):
 
 
 def case_the_help_fits_a_terminal_of_120_columns(room):
-    for words in (["--help"], *([command, "--help"] for command in ("check", "info", "init", "run", "audit", "rehearse"))):
+    for words in (["--help"], *([command, "--help"] for command in ("check", "info", "init", "run", "audit", "recover", "rehearse"))):
         longest = max(len(line) for line in room.special(*words).out.splitlines())
         require(longest <= 120, f"{words}: a line has {longest} columns")
 

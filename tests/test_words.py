@@ -147,6 +147,8 @@ def expect_command(room, words, wanted):
         expect(done, Done(3, "", f"special: line 1: {reason}\n"))
     elif word == "audit":
         expect(done, Done(3, "", "special: line 0: cut\n"))
+    elif word == "recover":
+        expect(done, Done(6, "", "special: file failed\n"))
     else:
         page = (scenes.ROWS / "pages" / f"{wanted.split()[1].lower()}.txt").read_text()
         expect(done, Done(0, page, ""))

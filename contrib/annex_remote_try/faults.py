@@ -237,7 +237,7 @@ def disk_full(bench):
     require_whole(bench, normal, another, content, "after a store on a full disk, and another store", True)
 
 
-@test("kill-get", "killed at ten moments of a get, it completes the next get into the same file",
+@test("kill-get", "killed at ten points during a get, it completes the next get into the same file",
       (*SHARED, "get-partial"))
 def kill_get(bench):
     session = bench.ready()
@@ -261,7 +261,7 @@ def kill_get(bench):
             raise odd(again, f"TRANSFER RETRIEVE {key} {path}", TESTREMOTE)
 
 
-@test("kill-store", "killed at ten moments of a store, it says present only if the content is whole", SHARED)
+@test("kill-store", "killed at ten points during a store, it says present only if the content is whole", SHARED)
 def kill_store(bench):
     session, absent = bench.ready(), None
     content, _, path, took = content_for_kills(bench, session)

@@ -101,8 +101,8 @@ def decrypt_cipher(name, encryption, gpg):
     if opening.outcome == Outcome.OPENED:
         return b"".join(pieces), opening.ids
     if opening.outcome == Outcome.UNASKED:
-        raise Problem(f"gpg does not decrypt the cipher of {name}: {opening.said}")
+        raise Problem(f"gpg can't decrypt the cipher of {name}: {opening.said}")
     if opening.outcome == Outcome.BROKEN:
         raise Problem(f"the cipher of {name} in git-annex's log is damaged: {opening.said}")
     keys = ", ".join(encryption.recipients)
-    raise Problem(f"gpg does not decrypt the cipher of {name}, which is encrypted to {keys}: {opening.said}")
+    raise Problem(f"gpg can't decrypt the cipher of {name}, which is encrypted to {keys}: {opening.said}")

@@ -97,7 +97,7 @@ class EncryptedPlace(Place):
         answers = []
         for item, opening, wrong in (task.result() for task in tasks):
             if opening.outcome == Outcome.UNASKED:
-                raise Problem(f"gpg does not decrypt what {self.name} has: {opening.said}")
+                raise Problem(f"gpg can't decrypt what {self.name} has: {opening.said}")
             if opening.outcome == Outcome.CLOSED:
                 closed.append((item, opening))
                 self.count_closed(opening)
@@ -112,7 +112,7 @@ class EncryptedPlace(Place):
         """Ends a command that would fetch all for nothing."""
         self.closed += 1
         if self.closed == TRIES and not self.proved and not self.gpg.has_secret_key(self.cipher.recipients):
-            raise Problem(f"gpg decrypts nothing of what {self.name} has: {opening.said}")
+            raise Problem(f"gpg can't decrypt anything that {self.name} has: {opening.said}")
 
     def answer_closed(self, item, opening):
         """What is closed to a key that opened others is damaged. Else that key may be the wrong one, or not be here."""

@@ -1,6 +1,10 @@
+pub mod CutAnywhere
+pub mod Cutting
 pub mod Ending
 pub mod Fitting
 pub mod Limiting
 pub mod Pieces
+pub mod Recovering
 pub mod Refusing
+pub mod Restoring
 pub mod Taking

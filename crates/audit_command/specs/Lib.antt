@@ -1,7 +1,9 @@
 pub mod Inputs
 pub mod Intakes
 pub mod Reads
+pub mod Recoveries
 pub mod Rows
+pub mod SoFar
 pub mod Standing
 pub mod Steps
 pub use Rattle.ann_outside.specs.Causes

@@ -22,6 +22,7 @@ pub(crate) struct Intake {
 
 impl Intake {
     ghost use Rattle.audit_command.specs.Intakes.{Took};
+    ghost use Rattle.audit_command.specs.SoFar.{ComesSoFar};
     ghost use Rattle.audit_command.specs.Standing.{Stands};
 
     /// No byte yet.
@@ -87,5 +88,13 @@ impl Intake {
         }
         self.lines.end_input()?;
         self.lines.finish()
+    }
+
+    /// The same of an input that may be cut off: its end isn't asked for, and a last line that lacks its end doesn't count. None where it
+    /// ends before its line `begin`.
+    pub(crate) fn so_far(self) -> Result<Option<(Opening, Journal)>, AuditError>
+        ensures { (limits : AnyLimits) (bytes : List ℕ) → Took limits bytes self → ComesSoFar limits bytes result }
+    {
+        self.lines.so_far()
     }
 }

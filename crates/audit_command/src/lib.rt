@@ -1,4 +1,4 @@
-//! The audit of an input: its lines are read as the text of a run, and its journal is checked.
+//! The text of a run, line by line: an audit of its journal, and what is recovered of it.
 #![tactic(auto)]
 
 mod error;
@@ -7,6 +7,7 @@ pub mod laws;
 mod limits;
 mod lines;
 mod reading;
+pub mod recover;
 
 pub use error::AuditError;
 pub use limits::Limits;

@@ -3,6 +3,7 @@ ghost use Rattle.std.specs.Prelude.{ℕ, ◌≡◌, ◌+◌, List, [], ◌∷◌
 ghost use Rattle.cli_words.specs.TaskInput.InputLines.{with_rest};
 ghost use Rattle.journal_reader.specs.Readings.{start};
 ghost use Rattle.journal_reader.specs.Runs.{Reads};
+ghost use Rattle.audit_command.specs.SoFar.{LinesCome};
 ghost use Rattle.audit_command.specs.Steps.{Ends, IsRefusedBehind};
 ghost use Rattle.audit_command.specs.declared.error.AuditError.TheVariants.{Entry};
 
@@ -119,6 +120,17 @@ impl Lines {
             None => run_of(self.reader),
         }
     }
+
+    /// The opening and the journal so far, if the line `begin` is among the lines, or the line that was refused.
+    pub(crate) fn so_far(self) -> Result<Option<(Opening, Journal)>, AuditError>
+        ensures comes { (lines : List (List ℕ)) (rest : List ℕ) → Stands lines rest self → LinesCome lines result }
+        ensures bad { (n : ℕ) → self.bad ≡ Some n → result ≡ Err (Entry n) }
+    {
+        match self.bad {
+            Some(line) => Err(AuditError::Entry { line }),
+            None => run_so_far(self.reader),
+        }
+    }
 }
 
 // The opening and the journal that the reader was told.
@@ -129,6 +141,18 @@ fn run_of(reader: Reader) -> Result<(Opening, Journal), AuditError>
         Ok(run) => Ok(run),
         Err(JournalError::BadLine { line }) => Err(AuditError::Entry { line }),
         Err(JournalError::Cut { line }) => Err(AuditError::Cut { line }),
+        Err(JournalError::NoMemory) => Err(AuditError::NoMemory),
+    }
+}
+
+// The opening and the journal that the reader was told so far.
+fn run_so_far(reader: Reader) -> Result<Option<(Opening, Journal)>, AuditError>
+    ensures { (lines : List (List ℕ)) → Reads start lines reader → LinesCome lines result }
+{
+    match reader.so_far() {
+        Ok(run) => Ok(run),
+        Err(JournalError::BadLine { line }) => Err(AuditError::Entry { line }),
+        Err(JournalError::Cut { .. }) => unreachable!(),
         Err(JournalError::NoMemory) => Err(AuditError::NoMemory),
     }
 }

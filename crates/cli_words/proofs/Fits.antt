@@ -16,7 +16,7 @@ use Rattle.cli_words.specs.Grammar.{is_without, run_grammar, value_at}
 use Rattle.cli_words.specs.Identities.{nobody, IsFit}
 use Rattle.cli_words.specs.Settings.{is_setting, setting_at, settings_in, spells_setting}
 use Rattle.cli_words.specs.Values.{has_end, is_text, is_word_of_command, number_in, padded_number_in, uuid_in}
-use Rattle.cli_words.specs.Words.{are_texts, check_of, command_of, info_of, init_of, init_with, is_help, of_command, page_alone, page_of, most_chunk, most_rehearsed, most_seed, rehearse_of, rehearse_with, run_from, run_of, run_with, walk_with}
+use Rattle.cli_words.specs.Words.{are_texts, check_of, command_of, info_of, init_of, init_with, is_help, of_command, page_alone, page_of, most_chunk, most_rehearsed, most_seed, recover_of, rehearse_of, rehearse_with, run_from, run_of, run_with, walk_with}
 use Rattle.cli_words.specs.declared.command.Command.{Command}
 use Rattle.cli_words.specs.declared.command.Command.TheVariants.{Run, Audit, Show}
 use Rattle.cli_words.specs.declared.command.Page.{Page}
@@ -156,6 +156,12 @@ run_fits words = go (fault_of run_grammar words) (matches_of run_grammar words)
     go [] rows = from_fits rows
     go (k ∷ ks) rows = tt
 
+recover_fits : (words : List (List ℕ)) → Fits (recover_of words)
+recover_fits [] = tt
+recover_fits (journal ∷ []) = record { settings = refl; identity = nobody_fits }
+recover_fits (journal ∷ keep ∷ []) = record { settings = refl; identity = nobody_fits }
+recover_fits (journal ∷ keep ∷ more ∷ words) = tt
+
 rehearse_fits : (words : List (List ℕ)) → Fits (rehearse_of words)
 rehearse_fits [] = tt
 rehearse_fits (seed ∷ []) = tt
@@ -187,5 +193,6 @@ command_fits (word ∷ next ∷ words) =
     (either_fits (bytes_eq word (codes "info")) (info_of rest) _ (info_fits rest)
     (either_fits (bytes_eq word (codes "init")) (init_of rest) _ (init_fits rest)
     (either_fits (bytes_eq word (codes "run")) (option_map Run (run_of (word ∷ rest))) _ (run_fits (word ∷ rest))
-    (either_fits (bytes_eq word (codes "rehearse")) (rehearse_of rest) None (rehearse_fits rest) tt)))))
+    (either_fits (bytes_eq word (codes "recover")) (recover_of rest) _ (recover_fits rest)
+    (either_fits (bytes_eq word (codes "rehearse")) (rehearse_of rest) None (rehearse_fits rest) tt))))))
     tt)

@@ -12,7 +12,7 @@ use Rattle.cli_words.specs.Grammar.{is_without, run_grammar, value_at}
 use Rattle.cli_words.specs.Ranges.{HasRanges}
 use Rattle.cli_words.specs.Values.{has_end, is_text, is_word_of_command, number_in, padded_number_in, uuid_in, IsNumberIn}
 use Rattle.cli_words.specs.Settings.{settings_in}
-use Rattle.cli_words.specs.Words.{are_texts, check_of, command_of, info_of, init_of, init_with, is_help, of_command, page_alone, page_of, most_chunk, most_rehearsed, most_seed, rehearse_of, rehearse_with, run_from, run_of, run_with, walk_with}
+use Rattle.cli_words.specs.Words.{are_texts, check_of, command_of, info_of, init_of, init_with, is_help, of_command, page_alone, page_of, most_chunk, most_rehearsed, most_seed, recover_of, rehearse_of, rehearse_with, run_from, run_of, run_with, walk_with}
 use Rattle.cli_words.specs.declared.command.Command.{Command}
 use Rattle.cli_words.specs.declared.command.Command.TheVariants.{Run, Audit, Show}
 use Rattle.cli_words.specs.declared.command.Page.{Page}
@@ -149,6 +149,12 @@ padded_in least most text = go (padded_number_in least most text) refl
     go None e = tt
     go (Some n) e = padded_read least most text n e
 
+recover_ranged : (words : List (List ℕ)) → Ranged (recover_of words)
+recover_ranged [] = tt
+recover_ranged (journal ∷ []) = tt
+recover_ranged (journal ∷ keep ∷ []) = tt
+recover_ranged (journal ∷ keep ∷ more ∷ words) = tt
+
 rehearse_ranged : (words : List (List ℕ)) → Ranged (rehearse_of words)
 rehearse_ranged [] = tt
 rehearse_ranged (seed ∷ []) = tt
@@ -179,5 +185,6 @@ command_ranged (word ∷ next ∷ words) =
     (either_ranged (bytes_eq word (codes "info")) (info_of rest) _ (info_ranged rest)
     (either_ranged (bytes_eq word (codes "init")) (init_of rest) _ (init_ranged rest)
     (either_ranged (bytes_eq word (codes "run")) (option_map Run (run_of (word ∷ rest))) _ (run_ranged (word ∷ rest))
-    (either_ranged (bytes_eq word (codes "rehearse")) (rehearse_of rest) None (rehearse_ranged rest) tt)))))
+    (either_ranged (bytes_eq word (codes "recover")) (recover_of rest) _ (recover_ranged rest)
+    (either_ranged (bytes_eq word (codes "rehearse")) (rehearse_of rest) None (rehearse_ranged rest) tt))))))
     tt)

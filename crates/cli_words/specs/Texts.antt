@@ -18,6 +18,9 @@ file_line = codes "special: file failed" ++ 10 ∷ []
 abbrev pub keep_large_line : List ℕ
 keep_large_line = codes "special: keep large" ++ 10 ∷ []
 
+abbrev pub keep_changed_line : List ℕ
+keep_changed_line = codes "special: keep changed" ++ 10 ∷ []
+
 -- the kept file's line of that number is none
 abbrev pub bad_kept_line : ℕ → List ℕ
 bad_kept_line line = codes "special: keep line " ++ (decimal line ++ 10 ∷ [])

@@ -10,9 +10,9 @@ use Rattle.cli_words.specs.Values.{is_text, is_word_of_command, number_in, padde
 use Rattle.cli_words.specs.Settings.{settings_in}
 use Rattle.cli_words.specs.Grammar.{is_without, run_grammar, value_at}
 use Rattle.cli_words.specs.declared.command.Command.{Command}
-use Rattle.cli_words.specs.declared.command.Command.TheVariants.{Check, Info, Init, Run, Audit, Rehearse, Walk, Show}
+use Rattle.cli_words.specs.declared.command.Command.TheVariants.{Check, Info, Init, Run, Audit, Recover, Rehearse, Walk, Show}
 use Rattle.cli_words.specs.declared.command.Page.{Page}
-use Rattle.cli_words.specs.declared.command.Page.TheVariants.{Overview, Check as CheckPage, Info as InfoPage, Init as InitPage, Run as RunPage, Audit as AuditPage, Rehearse as RehearsePage, Version}
+use Rattle.cli_words.specs.declared.command.Page.TheVariants.{Overview, Check as CheckPage, Info as InfoPage, Init as InitPage, Run as RunPage, Audit as AuditPage, Recover as RecoverPage, Rehearse as RehearsePage, Version}
 use Rattle.cli_words.specs.declared.command.RunWords.{RunWords}
 use Rattle.cli_words.specs.declared.settings.Setting.{Setting}
 
@@ -31,6 +31,7 @@ page_of word =
     else if bytes_eq word (codes "init") then Some InitPage
     else if bytes_eq word (codes "run") then Some RunPage
     else if bytes_eq word (codes "audit") then Some AuditPage
+    else if bytes_eq word (codes "recover") then Some RecoverPage
     else if bytes_eq word (codes "rehearse") then Some RehearsePage
     else None
 
@@ -98,6 +99,12 @@ run_from rows =
 unfoldable pub run_of : List (List ℕ) → Option RunWords
 run_of words = if is_without (fault_of run_grammar words) then run_from (matches_of run_grammar words) else None
 
+-- the file of a run's text, and perhaps a kept file
+abbrev pub recover_of : List (List ℕ) → Option Command
+recover_of (journal ∷ []) = Some (Recover journal None)
+recover_of (journal ∷ keep ∷ []) = Some (Recover journal (Some keep))
+recover_of words = None
+
 -- the greatest seed of a rehearsal, and how many tasks it has at most
 abbrev pub most_seed : ℕ
 most_seed = 4294967295
@@ -128,6 +135,7 @@ of_command word rest =
     else if bytes_eq word (codes "info") then info_of rest
     else if bytes_eq word (codes "init") then init_of rest
     else if bytes_eq word (codes "run") then option_map Run (run_of (word ∷ rest))
+    else if bytes_eq word (codes "recover") then recover_of rest
     else if bytes_eq word (codes "rehearse") then rehearse_of rest
     else None
 

@@ -14,6 +14,8 @@ pub enum Command {
     Run(RunWords),
     /// Checks the text of a run, which is the input.
     Audit,
+    /// Says what a run came to whose text may be cut off, and keeps it in the kept file where one is named.
+    Recover { journal: Text, keep: Option<Text> },
     /// Does so many tasks, which the seed gives, over remotes in memory, and checks the journal.
     Rehearse { seed: u32, tasks: u32 },
     /// Does the same tasks in a closed world, one move at a time, and checks the journal.
@@ -32,6 +34,7 @@ pub enum Page {
     Init,
     Run,
     Audit,
+    Recover,
     Rehearse,
     Version,
 }

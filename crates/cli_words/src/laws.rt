@@ -5,8 +5,8 @@ ghost use Rattle.cli_words.specs.Rows.{braced_uuid, init_words, least_run, plain
 ghost use Rattle.cli_words.specs.Settings.{set_all, settings_in};
 ghost use Rattle.cli_words.specs.Values.{number_in, uuid_in, IsNumberIn};
 ghost use Rattle.cli_words.specs.Words.{command_of};
-ghost use Rattle.cli_words.specs.declared.command.Command.TheVariants.{Audit, Check, Info, Init, Rehearse, Run, Show, Walk};
-ghost use Rattle.cli_words.specs.declared.command.Page.TheVariants.{Overview, Version, Check as CheckPage, Run as RunPage, Audit as AuditPage, Rehearse as RehearsePage};
+ghost use Rattle.cli_words.specs.declared.command.Command.TheVariants.{Audit, Check, Info, Init, Recover, Rehearse, Run, Show, Walk};
+ghost use Rattle.cli_words.specs.declared.command.Page.TheVariants.{Overview, Version, Check as CheckPage, Run as RunPage, Audit as AuditPage, Recover as RecoverPage, Rehearse as RehearsePage};
 
 /// The words of `check`, `info` and `audit`.
 pub fn worked_words()
@@ -23,6 +23,19 @@ pub fn worked_words()
     ensures audit { command_of (codes "audit" ∷ []) ≡ Some Audit }
     ensures audit_of { command_of (codes "audit" ∷ codes "f" ∷ []) ≡ None }
     ensures other { command_of (codes "chek" ∷ codes "p" ∷ codes "k" ∷ []) ≡ None }
+{}
+
+/// The words of `recover`.
+pub fn worked_recoveries()
+    ensures journal { command_of (codes "recover" ∷ codes "j" ∷ []) ≡ Some (Recover (codes "j") None) }
+    ensures keep { command_of (codes "recover" ∷ codes "j" ∷ codes "k" ∷ []) ≡ Some (Recover (codes "j") (Some (codes "k"))) }
+    ensures three { command_of (codes "recover" ∷ codes "j" ∷ codes "k" ∷ codes "l" ∷ []) ≡ None }
+    ensures empty { command_of (codes "recover" ∷ [] ∷ []) ≡ None }
+    ensures empty_keep { command_of (codes "recover" ∷ codes "j" ∷ [] ∷ []) ≡ None }
+    ensures two_lines { command_of (codes "recover" ∷ codes "j" ∷ (codes "a" ++ 10 ∷ codes "b") ∷ []) ≡ None }
+    ensures alone { command_of (codes "recover" ∷ []) ≡ None }
+    ensures help { command_of (codes "recover" ∷ codes "--help" ∷ []) ≡ Some (Show RecoverPage) }
+    ensures second { command_of (codes "recover" ∷ codes "j" ∷ codes "--help" ∷ []) ≡ None }
 {}
 
 /// The words of `rehearse`.

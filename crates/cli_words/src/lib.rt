@@ -22,5 +22,6 @@ pub use reading::command_of;
 pub use refusals::{Reason, refusal};
 pub use settings::{Setting, Settings};
 pub use texts::{
-    bad_kept_line, file_line, input_line, keep_large_line, memory_line, refused_line, usage_line,
+    bad_kept_line, file_line, input_line, keep_changed_line, keep_large_line, memory_line,
+    refused_line, usage_line,
 };

@@ -4,7 +4,7 @@ ghost use Rattle.cli_words.specs.Identities.{IsFit};
 ghost use Rattle.cli_words.specs.Ranges.{HasRanges};
 ghost use Rattle.cli_words.specs.Values.{padded_number_in, texts_of};
 ghost use Rattle.cli_words.specs.Words.{all_behind, alone, command_of, is_help, of_command, most_rehearsed, most_seed, page_alone, page_of};
-ghost use Rattle.cli_words.specs.Words.{check_of, info_of, init_of, rehearse_of, rehearse_with, run_of, walk_with};
+ghost use Rattle.cli_words.specs.Words.{check_of, info_of, init_of, recover_of, rehearse_of, rehearse_with, run_of, walk_with};
 ghost use Rattle.cli_words.specs.declared.command.Command.TheVariants.{Run, Show};
 
 use crate::command::{Command, InitWords, Page};
@@ -75,6 +75,7 @@ fn page_of(word: &str) -> Option<Page>
         "init" => Some(Page::Init),
         "run" => Some(Page::Run),
         "audit" => Some(Page::Audit),
+        "recover" => Some(Page::Recover),
         "rehearse" => Some(Page::Rehearse),
         _ => None,
     }
@@ -110,6 +111,8 @@ fn behind(alloc: Global, words: &[String]) -> Result<Option<Command>, NoMemory>
         init_of(alloc, rest)
     } else if word == "run" {
         run_command(alloc, words)
+    } else if word == "recover" {
+        recover_of(alloc, rest)
     } else if word == "rehearse" {
         Ok(rehearse_of(rest))
     } else {
@@ -171,6 +174,22 @@ fn run_command(alloc: Global, words: &[String]) -> Result<Option<Command>, NoMem
     match run_of(alloc, words)? {
         Some(run) => Ok(Some(Command::Run(run))),
         None => Ok(None),
+    }
+}
+
+fn recover_of(alloc: Global, words: &[String]) -> Result<Option<Command>, NoMemory>
+    ensures { IfOk result (λ command. command ≡ recover_of (texts_of words.now)) }
+{
+    match words {
+        [journal] => Ok(Some(Command::Recover {
+            journal: Text::copy(alloc, journal.as_str())?,
+            keep: None,
+        })),
+        [journal, keep] => Ok(Some(Command::Recover {
+            journal: Text::copy(alloc, journal.as_str())?,
+            keep: Some(Text::copy(alloc, keep.as_str())?),
+        })),
+        _ => Ok(None),
     }
 }
 

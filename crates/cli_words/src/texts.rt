@@ -1,6 +1,6 @@
 // The lines that say why a call ended.
 ghost use Rattle.std.specs.Prelude.{◌≡◌, IfOk};
-ghost use Rattle.cli_words.specs.Texts.{bad_kept_line, file_line, input_line, keep_large_line, memory_line, refused_line, usage_line};
+ghost use Rattle.cli_words.specs.Texts.{bad_kept_line, file_line, input_line, keep_changed_line, keep_large_line, memory_line, refused_line, usage_line};
 
 use crate::refusals::Reason;
 use ann_key::{Bytes, NoMemory};
@@ -39,6 +39,13 @@ pub fn keep_large_line() -> &'static [u8]
     ensures { result.now ≡ keep_large_line }
 {
     b"special: keep large\n"
+}
+
+/// The line for a kept file that holds neither what a run began with nor what came of it.
+pub fn keep_changed_line() -> &'static [u8]
+    ensures { result.now ≡ keep_changed_line }
+{
+    b"special: keep changed\n"
 }
 
 /// The line for a bad line of a kept file, counted from 1.

@@ -1,3 +1,3 @@
 pub mod LawsLemmas
 pub mod WorkerLemmas
-pub mod SharedLemmas
+pub mod BesideLemmas

@@ -1,3 +1,3 @@
 pub mod Laws
 pub mod Worker
-pub mod Shared
+pub mod Beside

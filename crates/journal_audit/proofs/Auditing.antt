@@ -10,7 +10,7 @@ use Rattle.journal_model.specs.Legality.{Legal as IsLegal, FirstWrong, Unfinishe
 use Rattle.journal_model.proofs.Growing.{StandsFrom-split}
 use Rattle.journal_audit.specs.declared.found.Audit.{Audit}
 use Rattle.journal_audit.specs.declared.found.Audit.TheVariants.{Legal, Wrong}
-use Rattle.journal_audit.specs.Audits.{IsAudit}
+use Rattle.journal_audit.specs.Audits.{IsAudit, IsMisplaced}
 use Rattle.journal_audit.specs.Replays.{IsReplayed, IsNext, Owes}
 
 -- ---- a list about one of its places
@@ -91,10 +91,10 @@ next_here o p items before made at e next said stands same less replayed tells i
 
 -- the entry may not stand
 pub wrong_here : (o : Opening) (journal items made : List Entry) (at kind : ℕ) (e : Entry) (next : Option Entry) → items ≡ journal → at < length items → e ≡ get_or items at e
-    → StandsFrom o [] [] (take at items) → IsNext o (take at items) e next made false → kind ≡ kind_of e.what → IsAudit o journal (Wrong at kind)
+    → StandsFrom o [] [] (take at items) → IsNext o (take at items) e next made false → kind ≡ kind_of e.what → IsMisplaced o journal (record { entry = at; kind = kind })
 wrong_here o journal items made at kind e next same less is stands wrong of_kind =
     let there : slice_get items at ≡ Some e = slice_get_read items (length items) at e refl less is in
-    subst (λ (j : List Entry). IsAudit o j (Wrong at kind)) same (inl (e, record { there = there; before = stands; wrong = wrong }, of_kind))
+    subst (λ (j : List Entry). IsMisplaced o j (record { entry = at; kind = kind })) same (e, record { there = there; before = stands; wrong = wrong }, of_kind)
 
 -- it may stand, and is made too
 pub replayed_more : (o : Opening) (items made : List Entry) (at : ℕ) (e : Entry) (next : Option Entry) → at < length items → e ≡ get_or items at e

@@ -7,3 +7,10 @@ pub enum Audit {
     /// each of which may stand, and others are due after them, where the kind is 0.
     Wrong { entry: u64, kind: u8 },
 }
+
+/// The place of the first entry that may not stand, and the number of its kind.
+#[derive(Clone, Copy, PartialEq, Eq, Debug)]
+pub struct Misplaced {
+    pub entry: u64,
+    pub kind: u8,
+}

@@ -9,5 +9,5 @@ pub mod laws;
 mod replay;
 mod requests;
 
-pub use found::Audit;
-pub use replay::audit;
+pub use found::{Audit, Misplaced};
+pub use replay::{Replayed, audit, make_again};

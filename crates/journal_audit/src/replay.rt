@@ -4,10 +4,10 @@ ghost use Rattle.journal_model.specs.Beginnings.{MayBegin};
 ghost use Rattle.journal_model.specs.declared.entry.Entry.{Entry};
 ghost use Rattle.journal_model.specs.declared.entry.What.TheVariants.{Lead};
 ghost use Rattle.journal_scan.specs.Shown.{entry_shown, what_shown};
-ghost use Rattle.journal_audit.specs.Audits.{IsAudit};
+ghost use Rattle.journal_audit.specs.Audits.{IsAudit, IsMisplaced, ReplaysTo};
 ghost use Rattle.journal_audit.specs.Replays.{IsReplayed, NameWasTold, NameWasUntold, StandsAt, WasTold, group_by, is_name};
 
-use crate::found::Audit;
+use crate::found::{Audit, Misplaced};
 use crate::{equal, events, kind, requests};
 use ann_key::{NoMemory, Text};
 use host_core::{Core, Event};
@@ -159,48 +159,31 @@ fn found_at_end(opening: &Opening, core: &Core, journal: &Journal) -> Audit
     }
 }
 
-/// Makes the journal again, entry by entry, by a core that has made nothing. What is found of the first entry that may not stand, if
-/// there is one.
+/// Makes the journal again, entry by entry, by a core that has made nothing. The first entry that may not stand, if there is one.
 fn first_wrong(
     alloc: Global,
     opening: &Opening,
     core: &mut Core,
     journal: &Journal,
-) -> Result<Option<Audit>, NoMemory>
+) -> Result<Option<Misplaced>, NoMemory>
     requires opening { core.old.opening ≡ opening.now }
     requires fresh { core.old.journal ≡ [] }
-    ensures wrong { IfOk result (λ found. IfSome found (IsAudit opening.now journal.now.entries)) }
+    ensures wrong { IfOk result (λ found. IfSome found (IsMisplaced opening.now journal.now.entries)) }
     ensures whole { result ≡ Ok None → IsReplayed opening.now journal.now.entries None core.new.journal }
+    ensures opening { OnOk result (core.new.opening ≡ opening.now) }
 {
     for at in 0..journal.len() {
         let Some(entry) = journal.entry(at) else {
             unreachable!()
         };
         if !may_stand(alloc, core, at, entry, journal.entry(at + 1))? {
-            return Ok(Some(Audit::Wrong {
+            return Ok(Some(Misplaced {
                 entry: at,
                 kind: kind::kind_of(entry.what),
             }));
         }
     }
     Ok(None)
-}
-
-/// What is found by a core that has made nothing. It makes the journal again.
-fn found_by(
-    alloc: Global,
-    opening: &Opening,
-    core: &mut Core,
-    journal: &Journal,
-) -> Result<Audit, NoMemory>
-    requires opening { core.old.opening ≡ opening.now }
-    requires fresh { core.old.journal ≡ [] }
-    ensures { IfOk result (IsAudit opening.now journal.now.entries) }
-{
-    match first_wrong(alloc, opening, core, journal)? {
-        Some(found) => Ok(found),
-        None => Ok(found_at_end(opening, core, journal)),
-    }
 }
 
 /// A core that has made nothing.
@@ -212,12 +195,34 @@ fn fresh_core(alloc: Global, opening: &Opening) -> Result<Core, NoMemory>
     Core::new(alloc, opening)
 }
 
-/// What is found of the journal of a run that began so. It does the run again: a core is told each entry, and has to append the
-/// same. It takes memory for a copy of the opening and of the journal.
+/// What comes of making a journal again.
+#[derive(Drop)]
+pub enum Replayed {
+    /// The core that has made it, and what is due after its last entry.
+    Whole(Core),
+    Wrong(Misplaced),
+}
+
+/// Makes the journal of a run that began so again: a core is told each entry, and has to append the same. It takes memory for a copy
+/// of the opening and of the journal.
+pub fn make_again(alloc: Global, opening: &Opening, journal: &Journal) -> Result<Replayed, NoMemory>
+    requires begins { MayBegin opening.now }
+    ensures replayed { IfOk result (ReplaysTo opening.now journal.now.entries) }
+{
+    let mut core = fresh_core(alloc, opening)?;
+    match first_wrong(alloc, opening, &mut core, journal)? {
+        Some(wrong) => Ok(Replayed::Wrong(wrong)),
+        None => Ok(Replayed::Whole(core)),
+    }
+}
+
+/// What is found of the journal of a run that began so, once it is made again.
 pub fn audit(alloc: Global, opening: &Opening, journal: &Journal) -> Result<Audit, NoMemory>
     requires begins { MayBegin opening.now }
     ensures audit { IfOk result (IsAudit opening.now journal.now.entries) }
 {
-    let mut core = fresh_core(alloc, opening)?;
-    found_by(alloc, opening, &mut core, journal)
+    match make_again(alloc, opening, journal)? {
+        Replayed::Whole(core) => Ok(found_at_end(opening, &core, journal)),
+        Replayed::Wrong(Misplaced { entry, kind }) => Ok(Audit::Wrong { entry, kind }),
+    }
 }

@@ -105,3 +105,16 @@ abbrev pub IsEndAs : Place → ℕ → JournalError → Type 0
 IsEndAs (Refused number) taken error = error ≡ BadLine number
 IsEndAs Over taken error = error ≡ NoMemory
 IsEndAs place taken error = error ≡ Cut taken
+
+-- the line `begin` was taken
+abbrev pub is_begun : Place → Bool
+is_begun Entries = true
+is_begun Over = true
+is_begun place = false
+
+-- what an error of `so_far` says
+abbrev pub IsRefusalAs : Place → JournalError → Type 0
+IsRefusalAs (Refused number) error = error ≡ BadLine number
+IsRefusalAs Entries error = error ≡ NoMemory
+IsRefusalAs Over error = error ≡ NoMemory
+IsRefusalAs place error = ⊥

@@ -20,9 +20,9 @@ use task_text::Tasks;
 use task_text::chunk_log::NoteBook;
 
 impl Reader {
-    ghost use Rattle.std.specs.Prelude.{OnOk, IfErr};
+    ghost use Rattle.std.specs.Prelude.{OnOk, IfErr, IfSome, is_some};
     ghost use Rattle.task_text.specs.ChunkLog.NoteBooks.{in_order};
-    ghost use Rattle.journal_reader.specs.Readings.{IsEndAs};
+    ghost use Rattle.journal_reader.specs.Readings.{IsEndAs, IsRefusalAs, is_begun};
     ghost use Rattle.journal_reader.specs.Runs.{IsOpeningOf};
 
     /// The opening and the journal that the lines tell, where the last one was the end.
@@ -40,6 +40,24 @@ impl Reader {
             }
             Place::Refused { line } => Err(JournalError::BadLine { line }),
             _ => Err(JournalError::Cut { line: self.taken }),
+        }
+    }
+
+    /// The opening and the journal that the lines tell so far, where they go to the line `begin` or on.
+    pub fn so_far(self) -> Result<Option<(Opening, Journal)>, JournalError>
+        ensures begun { IfOk result (λ run. is_some run ≡ is_begun self.place) }
+        ensures opening { IfOk result (λ run. IfSome run (λ r. IsOpeningOf r.0 self.told)) }
+        ensures order { IfOk result (λ run. IfSome run (λ r. IsTrue (in_order r.0.notes))) }
+        ensures journal { IfOk result (λ run. IfSome run (λ r. r.1.entries ≡ self.told.entries)) }
+        ensures fault { IfErr result (λ error. IsRefusalAs self.place error) }
+    {
+        match self.place {
+            Place::Entries | Place::Over => {
+                let run = self.into_run()?;
+                Ok(Some(run))
+            }
+            Place::Refused { line } => Err(JournalError::BadLine { line }),
+            _ => Ok(None),
         }
     }
 

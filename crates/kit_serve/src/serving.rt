@@ -171,7 +171,8 @@ fn serve_by<R: Remote, D: Describer<R> + Drop, S: Source, W: Sink>(
 ) -> Served<R>
     requires fresh { (settings : List (List ℕ)) → Follows settings voice [] }
     requires open { ((S.told source.old).is_open ≡ true) × ((W.told sink.old).is_open ≡ true) }
-    ensures serves { Serves D.description (R.settings voice.remote) (told_of (S.told source.old) (W.told sink.old) (R.calls voice.remote)) (told_of (S.told source.new) (W.told sink.new) (R.calls result.remote)) result.status }
+    ensures serves { Serves D.description (R.settings voice.remote) (told_of (S.told source.old) (W.told sink.old) (R.calls voice.remote))
+        (told_of (S.told source.new) (W.told sink.new) (R.calls result.remote)) result.status }
     ensures end { result.status ≡ 0 → IfSome (S.told source.new).left (λ bytes. bytes ≡ []) }
     ensures source { Leaves (source_half (S.told source.old)) (source_half (S.told source.new)) (result.status ≡ 4) }
     ensures sink { Leaves (sink_half (W.told sink.old)) (sink_half (W.told sink.new)) (result.status ≡ 5) }
@@ -198,7 +199,8 @@ pub fn serve<R: Remote, S: Source, W: Sink>(
 ) -> Served<R>
     requires source { (S.told source.old).is_open ≡ true }
     requires sink { (W.told sink.old).is_open ≡ true }
-    ensures serves { Serves (λ (_ : R). untold) (R.settings remote) (told_of (S.told source.old) (W.told sink.old) (R.calls remote)) (told_of (S.told source.new) (W.told sink.new) (R.calls result.remote)) result.status }
+    ensures serves { Serves (λ (_ : R). untold) (R.settings remote) (told_of (S.told source.old) (W.told sink.old) (R.calls remote))
+        (told_of (S.told source.new) (W.told sink.new) (R.calls result.remote)) result.status }
     ensures end { result.status ≡ 0 → IfSome (S.told source.new).left (λ bytes. bytes ≡ []) }
     ensures source { Leaves (source_half (S.told source.old)) (source_half (S.told source.new)) (result.status ≡ 4) }
     ensures sink { Leaves (sink_half (W.told sink.old)) (sink_half (W.told sink.new)) (result.status ≡ 5) }
@@ -218,7 +220,8 @@ pub fn serve_described<R: Remote + Describe, S: Source, W: Sink>(
 ) -> Served<R>
     requires source { (S.told source.old).is_open ≡ true }
     requires sink { (W.told sink.old).is_open ≡ true }
-    ensures serves { Serves R.description (R.settings remote) (told_of (S.told source.old) (W.told sink.old) (R.calls remote)) (told_of (S.told source.new) (W.told sink.new) (R.calls result.remote)) result.status }
+    ensures serves { Serves R.description (R.settings remote) (told_of (S.told source.old) (W.told sink.old) (R.calls remote))
+        (told_of (S.told source.new) (W.told sink.new) (R.calls result.remote)) result.status }
     ensures end { result.status ≡ 0 → IfSome (S.told source.new).left (λ bytes. bytes ≡ []) }
     ensures source { Leaves (source_half (S.told source.old)) (source_half (S.told source.new)) (result.status ≡ 4) }
     ensures sink { Leaves (sink_half (W.told sink.old)) (sink_half (W.told sink.new)) (result.status ≡ 5) }

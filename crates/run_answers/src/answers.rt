@@ -29,8 +29,8 @@ fn take_up(places: &mut [Option<Answer>], entry: EntryRef<'_>)
     places[task - 1] = Some(answer);
 }
 
-// The first answer of each of so many tasks.
-fn first_answers(
+/// The first answer of each of so many tasks, where it has one, in the order of the tasks.
+pub fn answers_in(
     alloc: Global,
     journal: &Journal,
     tasks: usize,
@@ -68,7 +68,7 @@ pub fn answers_of(alloc: Global, core: &Core) -> Result<Vec<Answer>, NoMemory>
     ensures { IfOk result (λ answers. AreAnswers core.now.opening core.now.journal answers.items) }
 {
     let tasks = core.opening().tasks.view().len();
-    let places = first_answers(alloc, core.journal(), tasks)?;
+    let places = answers_in(alloc, core.journal(), tasks)?;
     all_of(alloc, places.as_slice())
 }
 
@@ -77,7 +77,7 @@ pub fn answers_by_task(alloc: Global, core: &Core) -> Result<Vec<Option<Answer>>
     ensures { IfOk result (λ answers. answers.items ≡ map (answer_of core.now.journal) (numbers_of core.now.opening)) }
 {
     let tasks = core.opening().tasks.view().len();
-    first_answers(alloc, core.journal(), tasks)
+    answers_in(alloc, core.journal(), tasks)
 }
 
 // Adds the answer of a place, where it has one.

@@ -3,4 +3,4 @@
 
 mod answers;
 
-pub use answers::{answers_by_task, answers_given, answers_of};
+pub use answers::{answers_by_task, answers_given, answers_in, answers_of};

@@ -18,8 +18,8 @@ use Rattle.crew_work.proofs.LawsLemmas.Halls.{drop_start}
 use Rattle.task_model.specs.declared.setup.Setup.{Setup}
 use Rattle.crew_work.specs.Laws.JournalRuns.{HasJournalRun}
 use Rattle.crew_work.specs.Worker.Works.{TaskDone}
-use Rattle.crew_work.specs.Shared.Runs.{calls_of}
-use Rattle.crew_work.proofs.SharedLemmas.Ending.{lone_ends}
+use Rattle.crew_work.specs.Beside.Runs.{calls_of}
+use Rattle.crew_work.proofs.BesideLemmas.Ending.{lone_ends}
 use Rattle.crew_rounds.specs.Tagged.Crewing.{DesksDid}
 use Rattle.crew_rounds.proofs.TaggedLemmas.Crewing.{Agree, Own, agree_here, agree_later, desk_did}
 use Rattle.crew_rounds.specs.Tagged.Tagged.{AreFresh}

@@ -15,9 +15,9 @@ use Rattle.crew_work.proofs.LawsLemmas.Halls.{Saw, drop_start}
 use Rattle.task_model.specs.declared.setup.Setup.{Setup}
 use Rattle.crew_work.specs.Worker.Works.{AllRan, TaskDone, Worked}
 use Rattle.crew_work.proofs.WorkerLemmas.Working.{runs_last}
-use Rattle.crew_work.specs.Shared.Runs.{calls_of}
+use Rattle.crew_work.specs.Beside.Runs.{calls_of}
 use Rattle.crew_work.specs.Laws.JournalRuns.{HasJournalRun}
-use Rattle.crew_work.proofs.SharedLemmas.Ending.{worker_ends}
+use Rattle.crew_work.proofs.BesideLemmas.Ending.{worker_ends}
 use Rattle.crew_rounds.specs.Tagged.Crewing.{AllManned, AllRun, DeskDid, DesksDid, Manned, WorkerTells, calls_from}
 use Rattle.std.proofs.lemmas.Bool.{ne_eqb as differ}
 use Rattle.ann_key.proofs.Numbers.{same_number as same}

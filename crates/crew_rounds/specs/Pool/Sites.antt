@@ -1,6 +1,6 @@
 -- Where the workers of a round are placed.
 use Rattle.std.specs.Prelude.{◌≡◌}
-use Rattle.crew_work.specs.declared.shared.passes.Site.{Site}
+use Rattle.crew_work.specs.declared.beside.passes.Site.{Site}
 use Rattle.crew_rounds.specs.declared.tagged.worker.Worker.{Worker}
 
 -- the worker has what the site has

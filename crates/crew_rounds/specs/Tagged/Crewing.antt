@@ -11,7 +11,7 @@ use Rattle.crew_work.specs.Laws.Rounds.{CorePass, since}
 use Rattle.crew_work.specs.Laws.Tasks.{IsThroughAfterAgain, turns_by}
 use Rattle.task_model.specs.declared.setup.Setup.{Setup}
 use Rattle.crew_work.specs.Worker.Works.{CausedInTurn, TaskDone, Worked, all_calls, turns_of}
-use Rattle.crew_work.specs.Shared.Runs.{calls_of}
+use Rattle.crew_work.specs.Beside.Runs.{calls_of}
 
 -- a worker's pass, and what its desk tells
 pub record WorkerTells : Type 0 where

@@ -1,6 +1,6 @@
 -- Where the workers of a round are placed.
 use Rattle.std.specs.Prelude.{◌≡◌}
-use Rattle.crew_work.specs.declared.shared.way.Shared.{Shared}
+use Rattle.crew_work.specs.declared.beside.way.Shared.{Shared}
 use Rattle.crew_rounds.specs.declared.tagged.dealt.Site.{Site}
 use Rattle.crew_rounds.specs.declared.tagged.worker.Worker.{Worker}
 

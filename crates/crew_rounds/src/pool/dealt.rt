@@ -7,7 +7,7 @@ ghost use Rattle.threads.specs.Roles.Dealing.{Deals, DealsAll, IsRoomFor};
 use crate::tagged::Worker;
 use ann_outside::{Desk, Sink, Source};
 use child_link::Lone;
-use crew_work::shared::Site;
+use crew_work::beside::Site;
 use host_core::Core;
 use std::sync::Wait;
 use threads::Pass;

@@ -15,7 +15,7 @@ use crate::pool::dealt::{LoneWorker, deal, take_back};
 use crate::tagged::Outcome;
 use ann_outside::{Desk, Sink, Source};
 use child_link::Lone;
-use crew_work::shared::Site;
+use crew_work::beside::Site;
 use host_core::Core;
 use std::alloc::Global;
 use std::marker::{Send, Sync};

@@ -12,7 +12,7 @@ use crate::pool::played::{Kit, play};
 use crate::tagged::{Outcome, Starter};
 use ann_outside::{Desk, Sink, Source};
 use child_link::Lone;
-use crew_work::shared::Site;
+use crew_work::beside::Site;
 use host_core::Core;
 use std::alloc::Global;
 use std::marker::{Send, Sync};

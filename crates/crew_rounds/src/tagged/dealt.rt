@@ -6,7 +6,7 @@ ghost use Rattle.threads.specs.Roles.Dealing.{Deals, DealsAll, IsRoomFor};
 
 use crate::tagged::Worker;
 use ann_outside::Desk;
-use crew_work::shared::Shared;
+use crew_work::beside::Shared;
 use host_core::Core;
 use std::alloc::Global;
 use std::sync::Wait;

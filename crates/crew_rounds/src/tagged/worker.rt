@@ -1,6 +1,6 @@
 // A worker in a thread.
 use ann_outside::Desk;
-use crew_work::shared::{Site, run_worker};
+use crew_work::beside::{Site, run_worker};
 use crew_work::worker::Way;
 use host_core::Core;
 use std::alloc::Global;

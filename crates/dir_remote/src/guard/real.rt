@@ -21,11 +21,20 @@ This folder is kept by annex-remote-dir, a special remote of git-annex. This fil
 is there, and isn't an empty folder where a disk is to be mounted. Leave it here.
 ";
 
+// An entry that was met in a folder.
+#[derive(Drop)]
+struct Entry {
+    folder: Text,
+    path: Text,
+}
+
 /// The folders of this machine.
 #[derive(Drop)]
 pub struct OsPlace<R> {
     rt: R,
     syncs: bool,
+    // of the folder that was found full last
+    entry: Option<Entry>,
 }
 
 impl<R: Files<File = File> + AllocGlobal + Clock + Env + Clone + Drop> OsPlace<R> {
@@ -33,7 +42,11 @@ impl<R: Files<File = File> + AllocGlobal + Clock + Env + Clone + Drop> OsPlace<R
     pub fn new(rt: R, syncs: bool) -> OsPlace<R>
         ensures { ⟦<OsPlace<R> as Place>⟧.steps result ≡ None }
     {
-        OsPlace { rt, syncs }
+        OsPlace {
+            rt,
+            syncs,
+            entry: None,
+        }
     }
 }
 
@@ -67,28 +80,60 @@ fn sync_parent(rt: &impl Files, path: &str) -> io::Result<()> {
     }
 }
 
-fn is_empty_folder<R: Files + AllocGlobal + Clone + Drop>(
+// The entry of the folder that is read first; none where it is empty.
+fn first_entry<R: Files + AllocGlobal + Clone + Drop>(
     rt: &R,
     folder: &str,
-) -> io::Result<bool> {
+) -> io::Result<Option<Entry>> {
     for entry in fs::read_dir(rt, folder)? {
-        let _ = entry?;
-        return Ok(false);
+        let entry = entry?;
+        let name = entry.file_name();
+        let path = format!(in rt.alloc(); "{folder}/{name}")?;
+        let folder = String::from_str(rt.alloc(), folder)?;
+        return Ok(Some(Entry {
+            folder: Text::from_string(folder),
+            path: Text::from_string(path),
+        }));
     }
-    Ok(true)
+    Ok(None)
 }
 
-// A folder, or a link to one, that isn't empty.
-fn full<R: Files + AllocGlobal + Clone + Drop>(rt: &R, path: &str) -> Result<Seen, NoMemory> {
-    match fs::metadata(rt, path) {
+// Looks at the folder itself, and into it.
+fn look_into<R: Files + AllocGlobal + Clone + Drop>(
+    rt: &R,
+    met: &mut Option<Entry>,
+    folder: &str,
+) -> Result<Seen, NoMemory> {
+    match fs::metadata(rt, folder) {
         Ok(metadata) if !metadata.is_dir() => return Ok(Seen::Blocked),
         Ok(_) => {}
         Err(error) => return seen_by(error),
     }
-    match is_empty_folder(rt, path) {
-        Ok(true) => Ok(Seen::Empty),
-        Ok(false) => Ok(Seen::Fits),
+    match first_entry(rt, folder) {
+        Ok(Some(entry)) => {
+            *met = Some(entry);
+            Ok(Seen::Fits)
+        }
+        Ok(None) => Ok(Seen::Empty),
         Err(error) => seen_by(error),
+    }
+}
+
+// A folder, or a link to one, that isn't empty: so it is as long as an entry that was met in it is there.
+fn full<R: Files + AllocGlobal + Clone + Drop>(
+    rt: &R,
+    met: &mut Option<Entry>,
+    folder: &str,
+) -> Result<Seen, NoMemory> {
+    match met {
+        Some(entry) if entry.folder.view() == folder => {
+            match fs::symlink_metadata(rt, entry.path.view()) {
+                Ok(_) => Ok(Seen::Fits),
+                Err(error) if lacks_memory(&error) => Err(NoMemory),
+                Err(_) => look_into(rt, met, folder),
+            }
+        }
+        _ => look_into(rt, met, folder),
     }
 }
 
@@ -218,7 +263,7 @@ impl<R: Files<File = File> + AllocGlobal + Clock + Env + Clone + Drop> Place for
 
     fn stand(&mut self, want: Want, path: &str) -> Result<Seen, NoMemory> {
         match want {
-            Want::Full => full(&self.rt, path),
+            Want::Full => full(&self.rt, &mut self.entry, path),
             Want::Way => way(&self.rt, path),
             Want::Made => made(&self.rt, path, self.syncs, false),
             Want::Whole => whole(&self.rt, path, self.syncs),

@@ -11,8 +11,10 @@ ghost use Rattle.kit_serve.specs.Kit.Descriptions.{untold};
 pub fn worked_lines()
     ensures check { lines_said settings check_session ≡ codes "EXTENSIONS " ∷ asks_directory ∷ codes "PREPARE-SUCCESS" ∷ codes "CHECKPRESENT-FAILURE WORM--a" ∷ [] }
     ensures init { lines_said settings init_session ≡ asks_directory ∷ codes "INITREMOTE-SUCCESS" ∷ codes "CHECKPRESENT-UNKNOWN WORM--a not prepared" ∷ [] }
-    ensures set { lines_said settings set_session ≡ asks_directory ∷ codes "SETCONFIG directory /d" ∷ codes "INITREMOTE-SUCCESS" ∷ asks_directory ∷ codes "PREPARE-SUCCESS" ∷ codes "CHECKPRESENT-FAILURE WORM--a" ∷ [] }
-    ensures again { lines_said settings again_session ≡ asks_directory ∷ codes "PREPARE-SUCCESS" ∷ asks_directory ∷ codes "PREPARE-FAILURE no directory" ∷ codes "CHECKPRESENT-SUCCESS WORM--a" ∷ [] }
+    ensures set { lines_said settings set_session ≡
+        asks_directory ∷ codes "SETCONFIG directory /d" ∷ codes "INITREMOTE-SUCCESS" ∷ asks_directory ∷ codes "PREPARE-SUCCESS" ∷ codes "CHECKPRESENT-FAILURE WORM--a" ∷ [] }
+    ensures again { lines_said settings again_session ≡
+        asks_directory ∷ codes "PREPARE-SUCCESS" ∷ asks_directory ∷ codes "PREPARE-FAILURE no directory" ∷ codes "CHECKPRESENT-SUCCESS WORM--a" ∷ [] }
     ensures transfer { lines_said settings transfer_session ≡ codes "EXTENSIONS " ∷ codes "TRANSFER-FAILURE STORE WORM--a not prepared" ∷ [] }
     ensures value { lines_said settings value_session ≡ codes "ERROR unexpected message" ∷ [] }
     ensures request { lines_said settings request_session ≡ asks_directory ∷ codes "ERROR unexpected message" ∷ [] }

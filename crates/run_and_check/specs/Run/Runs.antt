@@ -9,9 +9,9 @@ use Rattle.ann_outside.specs.Desks.{Made, no_counts}
 use Rattle.ann_outside.specs.Files.{Files, WhereTold, OthersStay}
 use Rattle.ann_outside.specs.Played.{ArePlayed}
 use Rattle.ann_outside.specs.TextFile.Names.{CallsName}
-use Rattle.ann_outside.specs.TextFile.Writes.{new_name, IsReplacedBy}
+use Rattle.ann_outside.specs.TextFile.Writes.{IsReplacedBy}
 use Rattle.task_text.specs.declared.task.Task.{Task}
-use Rattle.kept_file.specs.Text.KeptFiles.{bad_line, kept_text}
+use Rattle.kept_file.specs.Text.KeptFiles.{bad_line}
 use Rattle.kept_file.specs.declared.desk.TheConstants.{MOST_BYTES}
 use Rattle.kept_file.specs.declared.desk.writing.KeptWritten.{KeptWritten}
 use Rattle.kept_file.specs.declared.desk.writing.KeptWritten.TheVariants as W
@@ -26,8 +26,6 @@ use Rattle.journal_model.specs.declared.entry.Entry.{Entry}
 use Rattle.journal_model.specs.declared.opening.Opening.{Opening}
 use Rattle.journal_model.specs.Due.{replies_at}
 use Rattle.journal_model.specs.Projection.{JobFits}
-use Rattle.host_core.specs.Books.{notes_after}
-use Rattle.host_core.specs.Settings.{registers_after}
 use Rattle.host_core.specs.Steps.{are_all_claimed}
 use Rattle.child_link.specs.Wires.{WireValue}
 use Rattle.child_life.specs.End.Programs.{Leaves}
@@ -35,6 +33,7 @@ use Rattle.child_life.specs.End.Outsides.{OutsideValue}
 use Rattle.run_children.specs.JobsKeep.{JobsKeep}
 use Rattle.run_children.specs.JobsWell.{JobsSucceed}
 use Rattle.run_children.specs.JobRuns.{RanJobs}
+pub use Rattle.audit_command.specs.Recoveries.{IsKeptFile, IsNewOf, kept_after}
 pub use Rattle.run_answers.specs.Answers.{answer_for, answer_of, AreAnswers}
 use Rattle.run_and_check.specs.Run.Inputs.{InputFlow, IsUnread, IsTaken, IsTextFor, IsRunOpening, run_setup}
 use Rattle.run_and_check.specs.declared.run.made.RunEnd.{RunEnd}
@@ -83,16 +82,6 @@ pub record IsRunOf (words : RunWords) (clock : Option ℕ) (told : Option Files)
 
 -- ---- the kept file
 
--- the name of the file in which a kept file is made
-abbrev pub IsNewOf : Option (List ℕ) → List ℕ → Type 0
-IsNewOf None other = ⊥
-IsNewOf (Some name) other = other ≡ new_name name
-
--- the kept file, or the one in which it is made
-abbrev pub IsKeptFile : Option (List ℕ) → List ℕ → Type 0
-IsKeptFile None other = ⊥
-IsKeptFile (Some name) other = (other ≡ name) ⊎ (other ≡ new_name name)
-
 -- a file of a run at desk 0: one of those, or the journal file
 abbrev pub IsRunFile : RunWords → List ℕ → Type 0
 IsRunFile words other = IsKeptFile words.keep other ⊎ (words.journal ≡ Some other)
@@ -104,10 +93,6 @@ RunFilesStay words told table = WhereTold told table.files (OthersStay (IsNewOf 
 -- the desk counted a fault, or a missing file where it tells no files
 abbrev pub HasFailed : Option Files → DeskTold → Type 0
 HasFailed told table = Rose 0 table.counts.faults ⊎ ((told ≡ None) × Rose 0 table.counts.missing)
-
--- what is kept after the run: the config that it began with, the other registers after the journal, and the notes after it
-abbrev pub kept_after : Opening → List Entry → List ℕ
-kept_after o journal = kept_text o.registers (registers_after o journal) (notes_after o journal)
 
 -- it was written in the place of the kept file, or that is as before
 abbrev pub IsKeptIn : RunWords → List ℕ → Option Files → DeskTold → Opening → List Entry → KeptWritten → Type 0

@@ -1,5 +1,0 @@
-use Rattle.crew_work.proofs.SharedLemmas.Ending.{lones_end, workers_end}
-use Rattle.crew_work.proofs.shared.laws.workers_end.Goals as goal
-
-pub returns : goal.returns
-returns c = record { shared = workers_end; lone = lones_end }

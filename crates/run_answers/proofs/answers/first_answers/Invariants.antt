@@ -1,6 +1,0 @@
-use Rattle.std.proofs.Common.{take}
-use Rattle.run_answers.specs.Answering.{HoldsAnswers}
-use Rattle.run_answers.proofs.answers.first_answers.Given as goal
-
-abbrev pub invariant-loop-at : goal.invariant-loop-at
-invariant-loop-at l = HoldsAnswers l.tasks (take l.at l.journal.entries) l.places.items
