@@ -76,11 +76,15 @@ fn value_hint(alloc: Global, name: &str, value: &str) -> Result<Option<String>, 
     Ok(Some(text))
 }
 
-fn first_of(words: &[String]) -> &str {
+fn first_or_none(words: &[String]) -> Option<&str> {
     match words.first() {
-        Some(word) => word.as_str(),
-        None => "",
+        Some(word) => Some(word.as_str()),
+        None => None,
     }
+}
+
+fn first_of(words: &[String]) -> &str {
+    first_or_none(words).unwrap_or("")
 }
 
 // What is wrong with the words after `run`.
@@ -160,6 +164,7 @@ fn usage_hint(alloc: Global, words: &[String]) -> Result<String, AllocError> {
         "check" => "PROGRAM KEY",
         "info" => "PROGRAM [KEY]",
         "audit" => "no words, since it reads its input",
+        "recover" => "JOURNAL [KEEP]",
         "rehearse" => "SEED TASKS [world], SEED from 0 to 4294967295, TASKS from 1 to 65536",
         _ => return format!(in alloc; "there is no command {command}: try special --help"),
     };
@@ -186,15 +191,41 @@ fn keep_of(words: &[String]) -> Option<&str> {
     }
 }
 
+// Which file a recovery couldn't use, where no call on the kept file failed.
+fn recover_hint(
+    alloc: Global,
+    text: &str,
+    keep: Option<&str>,
+    is_read: bool,
+) -> Result<String, AllocError> {
+    match keep {
+        Some(keep) if is_read => format!(in alloc;
+            "{keep} was left as it is: it has changed since the run of {text} began, or would be too large"
+        ),
+        Some(keep) => format!(in alloc;
+            "{text} can't be read, or {keep} has changed since that run began"
+        ),
+        None => format!(in alloc; "{text} can't be read"),
+    }
+}
+
 // Which file a command couldn't use for itself. Where no call failed, it is what the kept file holds.
-fn file_hint(alloc: Global, words: &[String], faults: &[Fault]) -> Result<String, AllocError> {
-    match faults {
-        [] => match keep_of(words) {
+fn file_hint(
+    alloc: Global,
+    words: &[String],
+    faults: &[Fault],
+    is_read: bool,
+) -> Result<String, AllocError> {
+    match (words, faults) {
+        ([command, text, rest @ ..], []) if command.as_str() == "recover" => {
+            recover_hint(alloc, text.as_str(), first_or_none(rest), is_read)
+        }
+        (_, []) => match keep_of(words) {
             Some(keep) => format!(in alloc; "the kept file is {keep}: mend it, or name another"),
             None => String::from_str(alloc, "a file can't be read or written"),
         },
-        [fault] => fault_hint(alloc, fault),
-        [first, second, ..] => {
+        (_, [fault]) => fault_hint(alloc, fault),
+        (_, [first, second, ..]) => {
             let first = fault_hint(alloc, first)?;
             let second = fault_hint(alloc, second)?;
             format!(in alloc; "{first}; and {second}")
@@ -224,7 +255,7 @@ fn text_of(alloc: Global, words: &[String], ended: &Ended<'_>) -> Result<String,
         2 => usage_hint(alloc, words),
         3 => input_hint(alloc, words),
         4 => String::from_str(alloc, "standard input can't be read; nothing was started"),
-        6 => file_hint(alloc, words, ended.faults),
+        6 => file_hint(alloc, words, ended.faults, ended.journal.len() > 0),
         _ => String::from_str(
             alloc,
             "there wasn't enough memory: do fewer tasks in a run, or free some",

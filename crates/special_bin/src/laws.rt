@@ -4,4 +4,5 @@
 mod audit_laws;
 mod info_laws;
 mod laws;
+mod recovery_laws;
 mod rehearsal_laws;

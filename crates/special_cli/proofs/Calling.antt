@@ -1,10 +1,10 @@
 -- What is told of a call, from what came of its command and how that was told.
 use Rattle.ann_outside.specs.Told.{DeskTold}
-use Rattle.std.proofs.Common.{◌≡◌, ◌⊎◌, ◌∙◌, ◌==◌, ◌≤◌, ℕ, List, [], ◌∷◌, length, Bool, true, false, cond, Option, Some, None, Ok, Err, refl, sym, ap, subst, inl, inr, arith}
+use Rattle.std.proofs.Common.{◌≡◌, ◌⊎◌, ◌∙◌, ◌==◌, ◌≤◌, ℕ, List, [], ◌∷◌, ◌++◌, length, Bool, true, false, cond, Option, Some, None, Ok, Err, refl, sym, ap, subst, inl, inr, arith}
 use Rattle.std.specs.Prelude.{◌||◌, map, IfSome, IsSome, Result}
 use Rattle.std.specs.Io.KnownBytes.{Appends}
 use Rattle.std.specs.List.{list_all, list_any, range_with_len}
-use Rattle.std.proofs.lemmas.List.{append-nil}
+use Rattle.std.proofs.lemmas.List.{append-nil, append_assoc}
 use Rattle.ann_outside.specs.Causes.{AddsOne, Rose, Stays}
 use Rattle.ann_outside.specs.Desks.{Made}
 use Rattle.annex_model.specs.Lines.{text}
@@ -13,7 +13,7 @@ use Rattle.journal_model.specs.declared.entry.Entry.{Entry}
 use Rattle.journal_model.specs.Output.{answer_line}
 use Rattle.info_and_init.specs.Info.Infos.{info_lines, is_informed}
 use Rattle.special_cli.specs.declared.end.End.{End}
-use Rattle.special_cli.specs.declared.end.End.TheVariants.{Usage, Shown, Refused, Memory, Answered, Informed, BadKept, KeptTooLarge, FileFailed, InputFailed, SetUp, NotSetUp, Done, Audited, Rehearsed, Walked}
+use Rattle.special_cli.specs.declared.end.End.TheVariants.{Usage, Shown, Refused, Memory, Answered, Informed, BadKept, KeptTooLarge, FileFailed, InputFailed, SetUp, NotSetUp, Done, Audited, Rehearsed, Walked, Unbegun, Recovered}
 use Rattle.cli_words.specs.declared.refusals.Reason.{Reason}
 use Rattle.cli_words.specs.declared.command.Page.{Page}
 use Rattle.ann_outside.specs.Files.{Files}
@@ -30,6 +30,12 @@ use Rattle.audit_command.specs.declared.error.AuditError.TheVariants as A
 use Rattle.journal_audit.specs.declared.found.Audit.{Audit}
 use Rattle.journal_audit.specs.declared.found.Audit.TheVariants.{Legal, Wrong}
 use Rattle.special_cli.specs.Audits.{HasAudited, end_of_audit}
+use Rattle.audit_command.specs.Recoveries.{RecoverNames, HasRecovered as IsRecoveredSo}
+use Rattle.audit_command.specs.declared.recover.made.KeptEnd.{KeptEnd}
+use Rattle.audit_command.specs.declared.recover.made.KeptEnd.TheVariants.{Written, Changed, Fault}
+use Rattle.audit_command.specs.declared.recover.made.RecoverEnd.{RecoverEnd}
+use Rattle.audit_command.specs.declared.recover.made.RecoverEnd.TheVariants as V
+use Rattle.special_cli.specs.Recoveries.{HasRecovered, end_of_recovery, is_well_so_far, recovered_in, recovered_lines}
 use Rattle.special_cli.proofs.Audited.{other_words}
 use Rattle.info_and_init.specs.Init.Inits.{HasSetUp as IsMadeSo}
 use Rattle.info_and_init.specs.declared.init.made.InitEnd.{InitEnd}
@@ -61,9 +67,9 @@ use Rattle.rehearse_command.specs.declared.made.RehearsalEnd.{RehearsalEnd}
 use Rattle.rehearse_command.specs.declared.made.RehearsalEnd.TheVariants as M
 use Rattle.cli_words.specs.Ranges.{HasRanges}
 use Rattle.run_starts.proofs.OnceLemmas.Leaving.{leaves_as, leaves_nothing}
-use Rattle.special_cli.specs.Tells.{Flow, IsSilent, IsWritten, IsPrintedOr, IsSaidThen, IsUnkeptTold, IsToldOf, answer_lines, answers_status}
+use Rattle.special_cli.specs.Tells.{Flow, IsSilent, IsWritten, IsPrintedOr, IsRecoveredTold, IsSaidThen, IsSaidThenOr, IsToldOf, answer_lines, answers_status}
 use Rattle.cli_words.specs.declared.command.Command.{Command}
-use Rattle.cli_words.specs.declared.command.Command.TheVariants.{Check, Info, Init, Run, Audit as AuditWord, Rehearse, Walk, Show}
+use Rattle.cli_words.specs.declared.command.Command.TheVariants.{Check, Info, Init, Run, Audit as AuditWord, Recover, Rehearse, Walk, Show}
 use Rattle.ann_key.proofs.Booleans.{false_is_true as never}
 use Rattle.ann_key.proofs.Lists.{appends_nothing as appends}
 use Rattle.std.proofs.lemmas.Bool.{eqb-true as same_number}
@@ -88,6 +94,8 @@ wanted_of (NotSetUp answer) = 1 ∷ 7 ∷ []
 wanted_of (Audited found) = 0 ∷ 1 ∷ 7 ∷ []
 wanted_of (Rehearsed found) = 0 ∷ 1 ∷ 7 ∷ []
 wanted_of (Walked tasks equal found) = 0 ∷ 1 ∷ 7 ∷ []
+wanted_of Unbegun = 0 ∷ []
+wanted_of (Recovered answers kept) = 0 ∷ 1 ∷ 7 ∷ 6 ∷ []
 
 -- it is one of these, or 5 after a write that failed
 EndsWith : List ℕ → ℕ → Flow → Flow → Type 0
@@ -119,9 +127,17 @@ unfolding EndsWith
 on_both ws first second status out err h (inl (cut, silent)) = inl (cut.status_is, inl cut.rose)
 on_both ws first second status out err h (inr (appended, written)) = on_err ws 6 second status out err h written
 
-on_unkept : (journal : List Entry) (answers : List Answer) (cause : List ℕ) (status : ℕ) (out err : Flow) → IsUnkeptTold journal answers cause status out err → EndsWith (0 ∷ 1 ∷ 7 ∷ 6 ∷ []) status out err
-on_unkept journal answers cause status out err (inl both) = on_both (0 ∷ 1 ∷ 7 ∷ 6 ∷ []) _ cause status out err refl both
-on_unkept journal answers cause status out err (inr said) = on_err (0 ∷ 1 ∷ 7 ∷ 6 ∷ []) 7 _ status out err refl said.0
+on_unkept : (lines cause : List ℕ) (status : ℕ) (out err : Flow) → IsSaidThenOr 6 lines cause status out err → EndsWith (0 ∷ 1 ∷ 7 ∷ 6 ∷ []) status out err
+on_unkept lines cause status out err (inl both) = on_both (0 ∷ 1 ∷ 7 ∷ 6 ∷ []) lines cause status out err refl both
+on_unkept lines cause status out err (inr said) = on_err (0 ∷ 1 ∷ 7 ∷ 6 ∷ []) 7 _ status out err refl said.0
+
+recovered_with : (journal : List Entry) (answers : List (Option Answer)) (kept : KeptEnd) (status : ℕ) (out err : Flow) → IsRecoveredTold journal answers kept status out err
+    → EndsWith (0 ∷ 1 ∷ 7 ∷ 6 ∷ []) status out err
+recovered_with journal answers (Written W.Done) status out err told = on_either (6 ∷ []) (list_all is_well_so_far answers) (recovered_lines journal 1 answers) status out err told
+recovered_with journal answers (Written W.TooLarge) status out err told = on_unkept (recovered_lines journal 1 answers) _ status out err told
+recovered_with journal answers (Written W.Fault) status out err told = on_unkept (recovered_lines journal 1 answers) _ status out err told
+recovered_with journal answers Changed status out err told = on_unkept (recovered_lines journal 1 answers) _ status out err told
+recovered_with journal answers Fault status out err told = on_unkept (recovered_lines journal 1 answers) _ status out err told
 
 rehearsed_with : (answers : List Answer) (found : Audit) (status : ℕ) (out err : Flow) (b : Bool) → (count_of Other answers == 0) ≡ b
     → IsPrintedOr (cond (count_of Other answers == 0) (found_status found) 1) (rehearsal_text answers found) status out err → EndsWith (0 ∷ 1 ∷ 7 ∷ []) status out err
@@ -150,8 +166,8 @@ ends_with left status out err Answered told = on_either [] (list_all is_well lef
 ends_with left status out err (Informed key) told = on_either [] (is_informed left.journal 1 key) _ status out err told
 ends_with left status out err InputFailed told = on_err (4 ∷ []) 4 _ status out err refl told.0
 ends_with left status out err (Done W.Done) told = on_either (6 ∷ []) (list_all is_well left.answers) _ status out err told
-ends_with left status out err (Done W.TooLarge) told = on_unkept left.journal left.answers _ status out err told
-ends_with left status out err (Done W.Fault) told = on_unkept left.journal left.answers _ status out err told
+ends_with left status out err (Done W.TooLarge) told = on_unkept (answer_lines left.journal 1 left.answers) _ status out err told
+ends_with left status out err (Done W.Fault) told = on_unkept (answer_lines left.journal 1 left.answers) _ status out err told
 ends_with left status out err (BadKept line) (inl said) = on_err (6 ∷ 7 ∷ []) 6 _ status out err refl said.0
 ends_with left status out err (BadKept line) (inr said) = on_err (6 ∷ 7 ∷ []) 7 _ status out err refl said.0
 ends_with left status out err KeptTooLarge told = on_err (6 ∷ []) 6 _ status out err refl told.0
@@ -166,6 +182,8 @@ ends_with left status out err (Audited (Wrong entry kind)) told = on_either [] f
 ends_with left status out err (Rehearsed Legal) told = rehearsed_with left.answers Legal status out err (count_of Other left.answers == 0) refl told
 ends_with left status out err (Rehearsed (Wrong entry kind)) told = rehearsed_with left.answers (Wrong entry kind) status out err (count_of Other left.answers == 0) refl told
 ends_with left status out err (Walked tasks equal found) told = walked_with _ found status out err (is_walk_well tasks left.answers equal) told
+ends_with left status out err Unbegun told = on_out (0 ∷ []) 0 _ status out err refl told.0
+ends_with left status out err (Recovered answers kept) told = recovered_with left.journal answers.items kept status out err told
 
 -- another status isn't met
 apart : {A : Type 0} (ws : List ℕ) (status k : ℕ) (out err : Flow) → EndsWith ws status out err → (5 == k) ≡ false → list_any (λ w. w == k) ws ≡ false → status ≡ k → A
@@ -198,6 +216,8 @@ none_five (NotSetUp answer) = refl
 none_five (Audited found) = refl
 none_five (Rehearsed found) = refl
 none_five (Walked tasks equal found) = refl
+none_five Unbegun = refl
+none_five (Recovered answers kept) = refl
 
 or_seven : (ws : List ℕ) (status : ℕ) (out err : Flow) → EndsWith ws status out err → EndsWith (7 ∷ ws) status out err
 unfolding EndsWith
@@ -335,6 +355,18 @@ audit_wanted (Err (A.Cut line)) = refl
 audit_wanted (Err A.Failed) = refl
 audit_wanted (Err A.NoMemory) = refl
 
+-- ---- recover
+
+recovery_wanted : (end : RecoverEnd) → list_any (λ w. w == 2) (wanted_of (end_of_recovery end)) ≡ false
+unfolding wanted_of
+recovery_wanted V.FileFailed = refl
+recovery_wanted V.TextTooLarge = refl
+recovery_wanted (V.Refused line) = refl
+recovery_wanted V.Memory = refl
+recovery_wanted V.Unbegun = refl
+recovery_wanted (V.Wrong misplaced) = refl
+recovery_wanted (V.Answered answers kept) = refl
+
 -- ---- rehearse
 
 rehearsal_wanted : (end : RehearsalEnd) → NeitherIn (wanted_of (end_of_rehearsal end))
@@ -365,6 +397,23 @@ made_one old new m table tables zero a e = subst (λ (x : List DeskTold). HaveMa
     go None (Some ys) a = absurd a
     go (Some xs) None a = absurd a
     go (Some xs) (Some ys) a = (m ∷ [], a, ap (λ (n : ℕ). n ∷ []) zero)
+
+-- desk 0 was asked for, and then desk 1
+made_two : (old between new : Option (List Made)) (m n : Made) (first second : DeskTold) (tables : List DeskTold) → m.number ≡ 0 → n.number ≡ 1 → AddsOne old between m → AddsOne between new n
+    → tables ≡ first ∷ second ∷ [] → HaveMade old new tables
+made_two old between new m n first second tables zero one a b e = subst (λ (x : List DeskTold). HaveMade old new x) (sym e) (go old between new a b)
+  where
+    go : (old between new : Option (List Made)) → AddsOne old between m → AddsOne between new n → HaveMade old new (first ∷ second ∷ [])
+    go None None None a b = tt
+    go None None (Some zs) a b = absurd b
+    go None (Some ys) new a b = absurd a
+    go (Some xs) None new a b = absurd a
+    go (Some xs) (Some ys) None a b = absurd b
+    go (Some xs) (Some ys) (Some zs) a b = (
+      m ∷ n ∷ [],
+      b ∙ ap (λ (l : List Made). l ++ n ∷ []) a ∙ append_assoc xs (m ∷ []) (n ∷ []),
+      ap (λ (k : ℕ). k ∷ n.number ∷ []) zero ∙ ap (λ (k : ℕ). 0 ∷ k ∷ []) one,
+    )
 
 -- desk 0 was asked for, and then those of the workers
 made_more : (old new : Option (List Made)) (told : Option Files) (table : DeskTold) (workers : List DeskTold) (more : List Made) (tables : List DeskTold) → tables ≡ table ∷ workers
@@ -459,7 +508,7 @@ module _ (clock : Option ℕ) (before : OutsideValue) (input : InputFlow) (left 
     words = λ none. two_five_seven status out err (ends_as Usage h.end_is);
     refused = λ s. apart (7 ∷ 2 ∷ []) status 3 out err (ends_as Usage h.end_is) refl refl s;
     key = λ some. never some;
-    early = λ none other still. h.idle;
+    early = λ none other still more. h.idle;
     output = output;
     checked = tt;
     told = tt;
@@ -468,6 +517,7 @@ module _ (clock : Option ℕ) (before : OutsideValue) (input : InputFlow) (left 
     init = tt;
     run = tt;
     audit = λ same. other_words None refl same;
+    recovery = tt;
     rehearsal = tt;
     walk = tt;
     wires = tt;
@@ -483,7 +533,7 @@ module _ (clock : Option ℕ) (before : OutsideValue) (input : InputFlow) (left 
     words = λ none. some_none (Show page) none;
     refused = λ s. apart (7 ∷ 0 ∷ []) status 3 out err (ends_as (Shown page) h.end_is) refl refl s;
     key = λ some. never some;
-    early = λ none other still. h.idle;
+    early = λ none other still more. h.idle;
     output = output;
     checked = tt;
     told = tt;
@@ -492,6 +542,7 @@ module _ (clock : Option ℕ) (before : OutsideValue) (input : InputFlow) (left 
     init = tt;
     run = tt;
     audit = λ same. other_words (Some (Show page)) refl same;
+    recovery = tt;
     rehearsal = tt;
     walk = tt;
     wires = tt;
@@ -512,7 +563,7 @@ module _ (clock : Option ℕ) (before : OutsideValue) (input : InputFlow) (left 
             words = λ no. some_none (Check program key) no;
             refused = λ s. apart (wanted_of end) status 3 out err ends refl none.1 s;
             key = λ some. no_reason (reason_refused key) e some;
-            early = λ no other still. run_at_all (reason_refused key) program e no;
+            early = λ no other still more. run_at_all (reason_refused key) program e no;
             output = output;
             checked = if_fit _ (reason_refused key) (program, key) e h.checked;
             told = if_fit _ (reason_refused key) (program, key) e (check_told left status out err end h.ends told);
@@ -521,6 +572,7 @@ module _ (clock : Option ℕ) (before : OutsideValue) (input : InputFlow) (left 
             init = tt;
             run = tt;
             audit = λ same. other_words (Some (Check program key)) refl same;
+            recovery = tt;
             rehearsal = tt;
             walk = tt;
             wires = if_fit _ (reason_refused key) program e h.objects.wired;
@@ -535,7 +587,7 @@ module _ (clock : Option ℕ) (before : OutsideValue) (input : InputFlow) (left 
             words = λ no. some_none (Check program key) no;
             refused = λ s. inl (some_reason (reason_refused key) reason e);
             key = λ some. three_five_seven status out err refused_so;
-            early = λ none other still. h.idle;
+            early = λ none other still more. h.idle;
             output = output;
             checked = if_unfit _ (reason_refused key) (program, key) reason e;
             told = if_unfit _ (reason_refused key) (program, key) reason e;
@@ -544,6 +596,7 @@ module _ (clock : Option ℕ) (before : OutsideValue) (input : InputFlow) (left 
             init = tt;
             run = tt;
             audit = λ same. other_words (Some (Check program key)) refl same;
+            recovery = tt;
             rehearsal = tt;
             walk = tt;
             wires = if_unfit _ (reason_refused key) program reason e;
@@ -565,7 +618,7 @@ module _ (clock : Option ℕ) (before : OutsideValue) (input : InputFlow) (left 
             words = λ no. some_none (Info program key) no;
             refused = λ s. apart (wanted_of end) status 3 out err ends refl none.1 s;
             key = λ some. no_reason (refusal_if key) e some;
-            early = λ no other still. run_at_all (refusal_if key) program e no;
+            early = λ no other still more. run_at_all (refusal_if key) program e no;
             output = output;
             checked = tt;
             told = tt;
@@ -574,6 +627,7 @@ module _ (clock : Option ℕ) (before : OutsideValue) (input : InputFlow) (left 
             init = tt;
             run = tt;
             audit = λ same. other_words (Some (Info program key)) refl same;
+            recovery = tt;
             rehearsal = tt;
             walk = tt;
             wires = if_fit _ (refusal_if key) program e objects.wired;
@@ -588,7 +642,7 @@ module _ (clock : Option ℕ) (before : OutsideValue) (input : InputFlow) (left 
             words = λ no. some_none (Info program key) no;
             refused = λ s. inl (some_reason (refusal_if key) reason e);
             key = λ some. three_five_seven status out err refused_so;
-            early = λ none other still. h.idle;
+            early = λ none other still more. h.idle;
             output = output;
             checked = tt;
             told = tt;
@@ -597,6 +651,7 @@ module _ (clock : Option ℕ) (before : OutsideValue) (input : InputFlow) (left 
             init = tt;
             run = tt;
             audit = λ same. other_words (Some (Info program key)) refl same;
+            recovery = tt;
             rehearsal = tt;
             walk = tt;
             wires = if_unfit _ (refusal_if key) program reason e;
@@ -615,7 +670,7 @@ module _ (clock : Option ℕ) (before : OutsideValue) (input : InputFlow) (left 
         words = λ no. some_none (Init words) no;
         refused = λ s. apart (wanted_of end) status 3 out err ends refl none.1 s;
         key = λ some. never some;
-        early = λ no other still. some_none words.program no;
+        early = λ no other still more. some_none words.program no;
         output = output;
         checked = tt;
         told = tt;
@@ -624,6 +679,7 @@ module _ (clock : Option ℕ) (before : OutsideValue) (input : InputFlow) (left 
         init = (end, h, told);
         run = tt;
         audit = λ same. other_words (Some (Init words)) refl same;
+        recovery = tt;
         rehearsal = tt;
         walk = tt;
         wires = objects.wired;
@@ -648,7 +704,7 @@ module _ (clock : Option ℕ) (before : OutsideValue) (input : InputFlow) (left 
         words = λ no. some_none (Run words) no;
         refused = λ s. inr (inl refl);
         key = λ some. never some;
-        early = λ no other still. some_none words.program no;
+        early = λ no other still more. some_none words.program no;
         output = output;
         checked = tt;
         told = tt;
@@ -657,6 +713,7 @@ module _ (clock : Option ℕ) (before : OutsideValue) (input : InputFlow) (left 
         init = tt;
         run = (e, h, subst (λ (x : End). IsToldOf left status out err x) same told);
         audit = λ same. other_words (Some (Run words)) refl same;
+        recovery = tt;
         rehearsal = tt;
         walk = tt;
         wires = objects.wired;
@@ -677,9 +734,9 @@ module _ (clock : Option ℕ) (before : OutsideValue) (input : InputFlow) (left 
   called_audit h = record {
     usage = λ s. apart (wanted_of end) status 2 out err ends refl (subst (λ (x : End). list_any (λ w. w == 2) (wanted_of x) ≡ false) (sym h.end_is) (audit_wanted h.outcome)) s;
     words = λ no. some_none AuditWord no;
-    refused = λ s. inr (inr refl);
+    refused = λ s. inr (inr (inl refl));
     key = λ some. never some;
-    early = λ none other still. h.idle;
+    early = λ none other still more. h.idle;
     output = output;
     checked = tt;
     told = tt;
@@ -687,6 +744,7 @@ module _ (clock : Option ℕ) (before : OutsideValue) (input : InputFlow) (left 
     info_told = tt;
     init = tt;
     run = tt;
+    recovery = tt;
     rehearsal = tt;
     walk = tt;
     audit = λ same. (h.outcome, h.audit, h.idle, subst (λ (x : End). IsToldOf left status out err x) h.end_is told);
@@ -695,6 +753,37 @@ module _ (clock : Option ℕ) (before : OutsideValue) (input : InputFlow) (left 
     faults = tt;
     desks = idle_desks h.idle;
   }
+
+  called_recovery : (names : RecoverNames) → IsUnread input × HasRecovered names before whole → Called (Some (Recover names.journal names.keep))
+  called_recovery names (unread, h) = record {
+    usage = λ s. apart (wanted_of end) status 2 out err ends refl (subst (λ (x : End). list_any (λ w. w == 2) (wanted_of x) ≡ false) (sym h.end_is) (recovery_wanted h.end)) s;
+    words = λ no. some_none (Recover names.journal names.keep) no;
+    refused = λ s. inr (inr (inr refl));
+    key = λ some. never some;
+    early = λ none other still more. some_none names more;
+    output = output;
+    checked = tt;
+    told = tt;
+    informed = tt;
+    info_told = tt;
+    init = tt;
+    run = tt;
+    audit = λ same. other_words (Some (Recover names.journal names.keep)) refl same;
+    recovery = (end, h, unread, told);
+    rehearsal = tt;
+    walk = tt;
+    wires = tt;
+    starts = tt;
+    faults = tt;
+    desks = desks h.made;
+  }
+    where
+      desks : IsRecoveredSo names before.made left.outside.made (recovered_in left h.end) → HaveMade before.made left.outside.made left.tables
+      desks (inl idle) = made_still before.made left.outside.made left.tables idle.desks idle.tables
+      desks (inr (inl one)) = made_one before.made left.outside.made (record { number = 0; files = one.table.files }) one.table left.tables refl one.desks one.tables
+      desks (inr (inr both)) =
+          made_two before.made both.between left.outside.made (record { number = 0; files = both.d.told }) (record { number = 1; files = both.d.read }) both.d.keeper both.d.reader left.tables refl
+          refl both.first both.second both.tables
 
   called_rehearsal : (seed tasks : ℕ) → IsUnread input × HasRehearsed seed tasks before whole → Called (Some (Rehearse seed tasks))
   unfolding wanted_of NeitherIn
@@ -705,7 +794,7 @@ module _ (clock : Option ℕ) (before : OutsideValue) (input : InputFlow) (left 
         words = λ no. some_none (Rehearse seed tasks) no;
         refused = λ s. apart (wanted_of end) status 3 out err ends refl none.1 s;
         key = λ some. never some;
-        early = λ no other still. some_none {X = ℕ × ℕ} (seed, tasks) other;
+        early = λ no other still more. some_none {X = ℕ × ℕ} (seed, tasks) other;
         output = output;
         checked = tt;
         told = tt;
@@ -714,6 +803,7 @@ module _ (clock : Option ℕ) (before : OutsideValue) (input : InputFlow) (left 
         init = tt;
         run = tt;
         audit = λ same. other_words (Some (Rehearse seed tasks)) refl same;
+        recovery = tt;
         rehearsal = (h.end, h.made, h.untouched, unread, subst (λ (x : End). IsToldOf left status out err x) h.end_is told);
         walk = tt;
         wires = tt;
@@ -731,7 +821,7 @@ module _ (clock : Option ℕ) (before : OutsideValue) (input : InputFlow) (left 
         words = λ no. some_none (Walk seed tasks) no;
         refused = λ s. apart (wanted_of end) status 3 out err ends refl none.1 s;
         key = λ some. never some;
-        early = λ no other still. some_none {X = ℕ × ℕ} (seed, tasks) still;
+        early = λ no other still more. some_none {X = ℕ × ℕ} (seed, tasks) still;
         output = output;
         checked = tt;
         told = tt;
@@ -740,6 +830,7 @@ module _ (clock : Option ℕ) (before : OutsideValue) (input : InputFlow) (left 
         init = tt;
         run = tt;
         audit = λ same. other_words (Some (Walk seed tasks)) refl same;
+        recovery = tt;
         rehearsal = tt;
         walk = (h.end, h.ends, h.untouched, unread, subst (λ (x : End). IsToldOf left status out err x) h.end_is told);
         wires = tt;
@@ -756,6 +847,7 @@ module _ (clock : Option ℕ) (before : OutsideValue) (input : InputFlow) (left 
   called_left (Some (Init words)) h = called_init words h
   called_left (Some (Run words)) h = called_run words h
   called_left (Some AuditWord) h = called_audit h
+  called_left (Some (Recover journal keep)) h = called_recovery (record { journal = journal; keep = keep }) h
   called_left (Some (Rehearse seed tasks)) h = called_rehearsal seed tasks h
   called_left (Some (Walk seed tasks)) h = called_walk seed tasks h
 
@@ -793,5 +885,6 @@ few clock before input (Some (Info program key)) ran ranges h = go (refusal_if k
 few clock before input (Some (Init words)) ran ranges h = none_few ran.left h.none
 few clock before input (Some (Run words)) ran ranges (end, h, same) = few_done words clock before input ran.left.outside (made_in ran.left end) h
 few clock before input (Some AuditWord) ran ranges h = none_few ran.left h.idle.answers
+few clock before input (Some (Recover journal keep)) ran ranges h = none_few ran.left h.1.answers
 few clock before input (Some (Rehearse seed tasks)) ran ranges h = few_rehearsed seed tasks ran.left.journal ran.left.answers h.1.end ranges.2 h.1.made
 few clock before input (Some (Walk seed tasks)) ran ranges h = few_walked seed tasks ran.left.journal ran.left.answers h.1.end ranges.2 h.1.ends

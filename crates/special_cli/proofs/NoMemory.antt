@@ -17,11 +17,14 @@ use Rattle.special_cli.specs.Left.{RanValue, IsIdle}
 use Rattle.cli_words.specs.Refusals.{reason_refused, refusal_if}
 use Rattle.special_cli.proofs.Rehearsed.{nothing_rehearsed}
 use Rattle.special_cli.specs.Walks.{WalksTasks}
+use Rattle.audit_command.specs.Recoveries.{RecoverNames}
+use Rattle.audit_command.specs.declared.recover.made.RecoverEnd.TheVariants as V
+use Rattle.special_cli.specs.Recoveries.{HasRecovered}
 use Rattle.rehearse_command.specs.declared.walk.made.WalkEnd.TheVariants as K
 use Rattle.info_and_init.proofs.InfoLemmas.Informing.{nothing_informed}
 use Rattle.run_starts.proofs.OnceLemmas.Leaving.{leaves_nothing}
 use Rattle.cli_words.specs.declared.command.Command.{Command}
-use Rattle.cli_words.specs.declared.command.Command.TheVariants.{Check, Info, Init, Run, Audit as AuditWord, Rehearse, Walk, Show}
+use Rattle.cli_words.specs.declared.command.Command.TheVariants.{Check, Info, Init, Run, Audit as AuditWord, Recover, Rehearse, Walk, Show}
 
 nothing_checked : (clock : Option ℕ) (program key : List ℕ) (before : OutsideValue) (ran : RanValue) → ran.end ≡ Memory → IsIdle before ran.left → HasChecked clock program key before ran
 nothing_checked clock program key before ran e idle = record {
@@ -60,6 +63,16 @@ nothing_walked seed tasks before ran e idle = record {
   end_is = e;
 }
 
+nothing_recovered : (names : RecoverNames) (before : OutsideValue) (ran : RanValue) → ran.end ≡ Memory → IsIdle before ran.left → HasRecovered names before ran
+nothing_recovered names before ran e idle = record {
+  end = V.Memory;
+  made = inl (record { desks = ap (λ (o : OutsideValue). o.made) idle.outside; journal = idle.journal; tables = idle.tables; end = refl });
+  programs = ap (λ (o : OutsideValue). o.programs) idle.outside;
+  answers = idle.answers;
+  wires = idle.wires;
+  end_is = e;
+}
+
 pub runs_nothing : (clock : Option ℕ) (before : OutsideValue) (input : InputFlow) (command : Option Command) (ran : RanValue) → ran.end ≡ Memory → IsIdle before ran.left → IsUnread input
     → Runs clock before input command ran
 runs_nothing clock before input None ran e idle unread = record { end_is = inr e; idle = idle }
@@ -78,5 +91,6 @@ runs_nothing clock before input (Some (Init words)) ran e idle unread = nothing_
 runs_nothing clock before input (Some (Run words)) ran e idle unread =
     (R.Memory, inl (refl, record { outside = idle.outside; unread = unread; journal = idle.journal; answers = idle.answers; wires = idle.wires; tables = idle.tables }), e)
 runs_nothing clock before input (Some AuditWord) ran e idle unread = nothing_audited before input ran e idle unread
+runs_nothing clock before input (Some (Recover journal keep)) ran e idle unread = (unread, nothing_recovered (record { journal = journal; keep = keep }) before ran e idle)
 runs_nothing clock before input (Some (Rehearse seed tasks)) ran e idle unread = (unread, nothing_rehearsed seed tasks before ran e idle)
 runs_nothing clock before input (Some (Walk seed tasks)) ran e idle unread = (unread, nothing_walked seed tasks before ran e idle)

@@ -12,7 +12,7 @@ use Rattle.task_text.specs.ChunkLog.ChunkLines.{IsWrittenUuid}
 use Rattle.cli_words.proofs.Ranging.{run_uuid}
 use Rattle.cli_words.specs.Settings.{settings_in}
 use Rattle.cli_words.specs.Values.{is_word_of_command, padded_number_in, uuid_in}
-use Rattle.cli_words.specs.Words.{check_of, command_of, info_of, init_of, init_with, is_help, of_command, page_alone, page_of, most_rehearsed, most_seed, rehearse_of, rehearse_with, run_of, walk_with}
+use Rattle.cli_words.specs.Words.{check_of, command_of, info_of, init_of, init_with, is_help, of_command, page_alone, page_of, most_rehearsed, most_seed, recover_of, rehearse_of, rehearse_with, run_of, walk_with}
 use Rattle.cli_words.specs.declared.command.Command.{Command}
 use Rattle.cli_words.specs.declared.command.Command.TheVariants.{Run, Audit, Show}
 use Rattle.cli_words.specs.declared.command.Page.{Page}
@@ -133,6 +133,12 @@ run_written words = go (run_of words) (run_uuid words)
     go None h = tt
     go (Some run) (text, e) = subst (λ (o : Option (List ℕ)). IfSome o IsWrittenUuid) e (written text)
 
+recover_written : (words : List (List ℕ)) → HasWrittenUuid (recover_of words)
+recover_written [] = tt
+recover_written (journal ∷ []) = tt
+recover_written (journal ∷ keep ∷ []) = tt
+recover_written (journal ∷ keep ∷ more ∷ words) = tt
+
 rehearse_written : (words : List (List ℕ)) → HasWrittenUuid (rehearse_of words)
 rehearse_written [] = tt
 rehearse_written (seed ∷ []) = tt
@@ -163,7 +169,8 @@ command_written (word ∷ next ∷ words) =
     (either_written (bytes_eq word (codes "info")) (info_of rest) _ (info_written rest)
     (either_written (bytes_eq word (codes "init")) (init_of rest) _ (init_written rest)
     (either_written (bytes_eq word (codes "run")) (option_map Run (run_of (word ∷ rest))) _ (run_written (word ∷ rest))
-    (either_written (bytes_eq word (codes "rehearse")) (rehearse_of rest) None (rehearse_written rest) tt)))))
+    (either_written (bytes_eq word (codes "recover")) (recover_of rest) _ (recover_written rest)
+    (either_written (bytes_eq word (codes "rehearse")) (rehearse_of rest) None (rehearse_written rest) tt))))))
     tt)
 
 pub words_written : (words : List (List ℕ)) (command : Option Command) → command ≡ command_of words → HasWrittenUuid command

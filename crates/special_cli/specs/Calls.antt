@@ -21,6 +21,8 @@ use Rattle.special_cli.specs.Commands.{Runs}
 use Rattle.special_cli.specs.Setups.{HasSetUp}
 use Rattle.special_cli.specs.Doings.{end_of, made_in}
 use Rattle.special_cli.specs.Audits.{IsAuditOf, end_of_audit}
+use Rattle.special_cli.specs.Recoveries.{HasRecovered, recover_in}
+use Rattle.audit_command.specs.Recoveries.{RecoverNames}
 use Rattle.special_cli.specs.Rehearsals.{IsUntouched, end_of_rehearsal, rehearsal_in}
 use Rattle.special_cli.specs.Walks.{end_of_walk, walk_in}
 use Rattle.rehearse_command.specs.Walk.Walks.{EndsWalk}
@@ -48,6 +50,11 @@ IsRunCalled words clock before input status out err left =
 abbrev pub IsAuditCalled : OutsideValue → InputFlow → ℕ → Flow → Flow → Left → Type 0
 IsAuditCalled before input status out err left =
     (outcome : Result Audit AuditError) × IsAuditOf input outcome × IsIdle before left × IsToldOf left status out err (end_of_audit outcome)
+
+-- a text was recovered, the input is as before, and what came of it was told so
+abbrev pub IsRecoveryCalled : RecoverNames → OutsideValue → InputFlow → ℕ → Flow → Flow → Left → Type 0
+IsRecoveryCalled names before input status out err left =
+    (end : End) × HasRecovered names before (record { left = left; end = end }) × IsUnread input × IsToldOf left status out err end
 
 -- the tasks of a rehearsal were done over remotes of its own, nothing that was handed in was touched, and what came of them was told so
 abbrev pub IsRehearsalCalled : ℕ → ℕ → OutsideValue → InputFlow → ℕ → Flow → Flow → Left → Type 0
@@ -80,9 +87,9 @@ IsDone w wish status left = (end : End) × Runs w.clock w.before w.input wish (r
 pub record IsCalled (w : World) (wish : Option Command) (status : ℕ) (left : Left) : Type 0 where
   pub usage : status ≡ 2 → wish ≡ None
   pub words : wish ≡ None → (status ≡ 2) ⊎ (status ≡ 5) ⊎ (status ≡ 7)
-  pub refused : status ≡ 3 → IsSome (refused_in wish) ⊎ IsSome (tasks_in wish) ⊎ (wish ≡ Some AuditWord)
+  pub refused : status ≡ 3 → IsSome (refused_in wish) ⊎ IsSome (tasks_in wish) ⊎ (wish ≡ Some AuditWord) ⊎ IsSome (recover_in wish)
   pub key : IsSome (refused_in wish) → (status ≡ 3) ⊎ (status ≡ 5) ⊎ (status ≡ 7)
-  pub early : run_in wish ≡ None → rehearsal_in wish ≡ None → walk_in wish ≡ None → IsIdle w.before left
+  pub early : run_in wish ≡ None → rehearsal_in wish ≡ None → walk_in wish ≡ None → recover_in wish ≡ None → IsIdle w.before left
   pub output : status ≡ 5 → Rose w.out.faults w.out.faults' ⊎ Rose w.err.faults w.err.faults'
   pub checked : IfSome (check_in wish) (λ c. IsChecked w.clock c.1 left.journal)
   pub told : IfSome (check_in wish) (λ c. IsTold status (Rose w.err.faults w.err.faults') w.out.taken w.out.taken' left.journal left.answers)
@@ -91,6 +98,7 @@ pub record IsCalled (w : World) (wish : Option Command) (status : ℕ) (left : L
   pub init : IfSome (init_in wish) (λ words. IsInitCalled words w.before status w.out w.err left)
   pub run : IfSome (tasks_in wish) (λ words. IsRunCalled words w.clock w.before w.input status w.out w.err left)
   pub audit : wish ≡ Some AuditWord → IsAuditCalled w.before w.input status w.out w.err left
+  pub recovery : IfSome (recover_in wish) (λ names. IsRecoveryCalled names w.before w.input status w.out w.err left)
   pub rehearsal : IfSome (rehearsal_in wish) (λ r. IsRehearsalCalled r.0 r.1 w.before w.input status w.out w.err left)
   pub walk : IfSome (walk_in wish) (λ x. IsWalkCalled x.0 x.1 w.before w.input status w.out w.err left)
   pub wires : IfSome (run_in wish) (λ program. AreWires w.before.programs.starts left.journal 0 (came left.journal) left.wires)

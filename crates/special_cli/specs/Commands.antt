@@ -16,12 +16,13 @@ use Rattle.child_life.specs.End.Programs.{Leaves}
 use Rattle.special_cli.specs.Setups.{HasSetUp}
 use Rattle.special_cli.specs.Doings.{HasRun}
 use Rattle.special_cli.specs.Audits.{HasAudited}
+use Rattle.special_cli.specs.Recoveries.{HasRecovered}
 use Rattle.special_cli.specs.Rehearsals.{HasRehearsed}
 use Rattle.special_cli.specs.Walks.{WalksTasks}
 use Rattle.run_and_check.specs.Run.Inputs.{InputFlow, IsUnread}
 use Rattle.cli_words.specs.Refusals.{reason_refused, refusal_if}
 use Rattle.cli_words.specs.declared.command.Command.{Command}
-use Rattle.cli_words.specs.declared.command.Command.TheVariants.{Check, Info, Init, Run, Audit, Rehearse, Walk, Show}
+use Rattle.cli_words.specs.declared.command.Command.TheVariants.{Check, Info, Init, Run, Audit, Recover, Rehearse, Walk, Show}
 
 -- nothing came of it but what is to be told: this, or running out of memory
 pub record ComesToNothing (before : OutsideValue) (ran : RanValue) (end : End) : Type 0 where
@@ -78,5 +79,6 @@ Runs clock before input (Some (Info program key)) ran = UnlessRefused (refusal_i
 Runs clock before input (Some (Init words)) ran = HasSetUp words before ran
 Runs clock before input (Some (Run words)) ran = HasRun words clock before input ran
 Runs clock before input (Some Audit) ran = HasAudited before input ran
+Runs clock before input (Some (Recover journal keep)) ran = IsUnread input × HasRecovered (record { journal = journal; keep = keep }) before ran
 Runs clock before input (Some (Rehearse seed tasks)) ran = IsUnread input × HasRehearsed seed tasks before ran
 Runs clock before input (Some (Walk seed tasks)) ran = IsUnread input × WalksTasks seed tasks before ran

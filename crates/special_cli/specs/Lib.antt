@@ -5,6 +5,7 @@ pub mod Doings
 pub mod Endings
 pub mod Informs
 pub mod Left
+pub mod Recoveries
 pub mod Rehearsals
 pub mod Sayings
 pub mod Tells

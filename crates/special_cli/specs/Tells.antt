@@ -5,6 +5,8 @@ use Rattle.std.specs.Io.KnownBytes.{Appends}
 use Rattle.ann_outside.specs.Causes.{Rose}
 use Rattle.ann_outside.specs.Told.{SinkTold}
 use Rattle.annex_model.specs.Lines.{text}
+use Rattle.audit_command.specs.declared.recover.made.KeptEnd.{KeptEnd}
+use Rattle.audit_command.specs.declared.recover.made.KeptEnd.TheVariants.{Written, Changed, Fault}
 use Rattle.journal_model.specs.declared.answer.Answer.{Answer}
 use Rattle.journal_model.specs.declared.entry.Entry.{Entry}
 use Rattle.journal_model.specs.Output.{answer_line}
@@ -15,14 +17,15 @@ use Rattle.kept_file.specs.declared.desk.writing.KeptWritten.{KeptWritten}
 use Rattle.kept_file.specs.declared.desk.writing.KeptWritten.TheVariants as W
 use Rattle.special_cli.specs.Audits.{found_line, found_status}
 use Rattle.special_cli.specs.declared.end.End.{End}
-use Rattle.special_cli.specs.declared.end.End.TheVariants.{Usage, Shown, Refused, Memory, Answered, Informed, BadKept, KeptTooLarge, FileFailed, InputFailed, SetUp, NotSetUp, Done, Audited, Rehearsed, Walked}
+use Rattle.special_cli.specs.declared.end.End.TheVariants.{Usage, Shown, Refused, Memory, Answered, Informed, BadKept, KeptTooLarge, FileFailed, InputFailed, SetUp, NotSetUp, Done, Audited, Rehearsed, Walked, Unbegun, Recovered}
 use Rattle.special_cli.specs.Endings.{is_well}
 use Rattle.special_cli.specs.Informs.{info_status}
 use Rattle.special_cli.specs.Left.{Left}
+use Rattle.special_cli.specs.Recoveries.{recovered_lines, recovered_status}
 use Rattle.special_cli.specs.Rehearsals.{rehearsal_status, rehearsal_text}
 use Rattle.special_cli.specs.Walks.{walk_status, walk_text}
 use Rattle.cli_words.specs.Pages.{page_text}
-use Rattle.cli_words.specs.Texts.{usage_line, memory_line, refused_line, bad_kept_line, keep_large_line, file_line, input_line}
+use Rattle.cli_words.specs.Texts.{usage_line, memory_line, refused_line, bad_kept_line, keep_large_line, keep_changed_line, file_line, input_line}
 
 -- what a sink counted and took, before and after
 pub record Flow : Type 0 where
@@ -100,6 +103,16 @@ IsDoneTold journal answers W.Done status out err = IsPrintedOr (answers_status a
 IsDoneTold journal answers W.TooLarge status out err = IsUnkeptTold journal answers keep_large_line status out err
 IsDoneTold journal answers W.Fault status out err = IsUnkeptTold journal answers file_line status out err
 
+-- ---- a recovery
+
+-- the answers so far are printed, and then why what is known was not kept, where it wasn't
+abbrev pub IsRecoveredTold : List Entry → List (Option Answer) → KeptEnd → ℕ → Flow → Flow → Type 0
+IsRecoveredTold journal answers (Written W.Done) status out err = IsPrintedOr (recovered_status answers) (recovered_lines journal 1 answers) status out err
+IsRecoveredTold journal answers (Written W.TooLarge) status out err = IsSaidThenOr 6 (recovered_lines journal 1 answers) keep_large_line status out err
+IsRecoveredTold journal answers (Written W.Fault) status out err = IsSaidThenOr 6 (recovered_lines journal 1 answers) file_line status out err
+IsRecoveredTold journal answers Changed status out err = IsSaidThenOr 6 (recovered_lines journal 1 answers) keep_changed_line status out err
+IsRecoveredTold journal answers Fault status out err = IsSaidThenOr 6 (recovered_lines journal 1 answers) file_line status out err
+
 -- ---- a setup
 
 -- the remote is set up, and what is set was kept or not
@@ -127,6 +140,8 @@ IsEndTold journal answers status out err (NotSetUp answer) = IsPrintedOr 1 (setu
 IsEndTold journal answers status out err (Audited found) = IsPrintedOr (found_status found) (found_line found) status out err
 IsEndTold journal answers status out err (Rehearsed found) = IsPrintedOr (rehearsal_status answers found) (rehearsal_text answers found) status out err
 IsEndTold journal answers status out err (Walked tasks equal found) = IsPrintedOr (walk_status tasks answers equal found) (walk_text answers equal found) status out err
+IsEndTold journal answers status out err Unbegun = IsSaid 0 [] status out err
+IsEndTold journal answers status out err (Recovered so_far kept) = IsRecoveredTold journal so_far.items kept status out err
 
 -- the same of what a command left
 abbrev pub IsToldOf : Left → ℕ → Flow → Flow → End → Type 0

@@ -1,4 +1,5 @@
 use ann_key::Key;
+use audit_command::recover::KeptEnd;
 use cli_words::{Page, Reason};
 use journal_audit::Audit;
 use journal_model::Answer;
@@ -45,5 +46,12 @@ pub(crate) enum End {
         tasks: u32,
         equal: u64,
         found: Audit,
+    },
+    /// The text that was to be recovered ends before its line `begin`.
+    Unbegun,
+    /// The answers of the tasks of a text, as far as they were answered, and this came of the kept file.
+    Recovered {
+        answers: Vec<Option<Answer>>,
+        kept: KeptEnd,
     },
 }

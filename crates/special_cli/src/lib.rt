@@ -10,6 +10,7 @@ mod init;
 pub mod laws;
 mod outside;
 mod ran;
+mod recovery;
 mod rehearsal;
 mod run;
 mod saying;

@@ -1,5 +1,5 @@
 // The end of every command: the one place that knows which text goes where, with which status.
-ghost use Rattle.std.specs.Prelude.{◌≡◌, ◌≤◌, ◌++◌, ◌∷◌, [], codes, true, length, IfOk, option_map};
+ghost use Rattle.std.specs.Prelude.{◌≡◌, ◌≤◌, ◌++◌, ◌∷◌, [], codes, decimal, true, length, IfOk, option_map};
 ghost use Rattle.std.specs.List.{list_all};
 ghost use Rattle.ann_key.specs.KeyRefs.{text_of};
 ghost use Rattle.info_and_init.specs.Init.Setups.{setup_text};
@@ -7,9 +7,10 @@ ghost use Rattle.info_and_init.specs.declared.init.setup.Setup.TheVariants.{Stop
 ghost use Rattle.special_cli.specs.Audits.{found_line, found_status};
 ghost use Rattle.special_cli.specs.Endings.{is_well};
 ghost use Rattle.special_cli.specs.Informs.{info_status};
+ghost use Rattle.special_cli.specs.Recoveries.{HasFew, is_well_so_far, recovered_line, recovered_lines, recovered_status};
 ghost use Rattle.special_cli.specs.Sayings.{Says, SaysEnd};
 ghost use Rattle.special_cli.specs.declared.end.End.TheVariants.{Informed};
-ghost use Rattle.special_cli.specs.Tells.{flow, IsDoneTold, IsEndTold, IsSetUpTold, IsToldOf, answer_lines, answers_status};
+ghost use Rattle.special_cli.specs.Tells.{flow, IsDoneTold, IsEndTold, IsRecoveredTold, IsSetUpTold, IsToldOf, answer_lines, answers_status};
 
 use crate::closing::Closing;
 use crate::end::End;
@@ -19,7 +20,11 @@ use crate::saying::{Saying, Words};
 use crate::walking::walk_saying;
 use ann_key::{Bytes, Key, KeyRef, NoMemory};
 use ann_outside::{Desks, Programs, Sink};
-use cli_words::{bad_kept_line, file_line, input_line, keep_large_line, refused_line, usage_line};
+use audit_command::recover::KeptEnd;
+use cli_words::{
+    bad_kept_line, file_line, input_line, keep_changed_line, keep_large_line, refused_line,
+    usage_line,
+};
 use info_and_init::info::{is_informed, print_info};
 use journal_audit::Audit;
 use journal_look::Journal;
@@ -37,6 +42,7 @@ pub(crate) fn tell<P: Programs, K: Desks, O: Sink, E: Sink>(
 ) -> Closing<P, K>
     requires open { ((O.told out.old).is_open ≡ true) × ((E.told err.old).is_open ≡ true) }
     requires few { length ran.left.answers ≤ 65536 }
+    requires recovered { HasFew ran.end }
     ensures left { result.left ≡ ran.left }
     ensures told { IsToldOf ran.left result.status (flow (O.told out.old) (O.told out.new)) (flow (E.told err.old) (E.told err.new)) ran.end }
 {
@@ -55,6 +61,7 @@ fn say_end<O: Sink, E: Sink>(
 ) -> u8
     requires open { ((O.told out.old).is_open ≡ true) × ((E.told err.old).is_open ≡ true) }
     requires few { length answers.now ≤ 65536 }
+    requires recovered { HasFew end.now }
     ensures { IsEndTold journal.now.entries answers.now result (flow (O.told out.old) (O.told out.new)) (flow (E.told err.old) (E.told err.new)) end.now }
 {
     let saying = saying_of(alloc, end, journal, answers);
@@ -64,6 +71,7 @@ fn say_end<O: Sink, E: Sink>(
 // What is said of an end.
 fn saying_of(alloc: Global, end: &End, journal: &Journal, answers: &[Answer]) -> Saying
     requires few { length answers.now ≤ 65536 }
+    requires recovered { HasFew end.now }
     ensures { SaysEnd journal.now.entries answers.now end.now result }
 {
     match end {
@@ -87,6 +95,8 @@ fn saying_of(alloc: Global, end: &End, journal: &Journal, answers: &[Answer]) ->
             equal,
             found,
         } => walk_saying(alloc, *tasks, answers, *equal, *found),
+        End::Unbegun => Saying::OnOut(Words::Fixed(b""), 0),
+        End::Recovered { answers, kept } => recovered_saying(alloc, journal, answers, *kept),
     }
 }
 
@@ -134,6 +144,87 @@ fn is_well(answer: Answer) -> bool
     match answer {
         Answer::Stored | Answer::Got | Answer::Present | Answer::Dropped | Answer::Renamed => true,
         _ => false,
+    }
+}
+
+// The answers so far are printed, also where what is known was not kept.
+fn recovered_saying(
+    alloc: Global,
+    journal: &Journal,
+    answers: &[Option<Answer>],
+    kept: KeptEnd,
+) -> Saying
+    requires { length answers.now ≤ 65536 }
+    ensures { Says result (IsRecoveredTold journal.now.entries answers.now kept) }
+{
+    let lines = print_recovered(alloc, journal, answers);
+    match kept {
+        KeptEnd::Written(KeptWritten::Done) => Saying::on_out(lines, recovered_status(answers)),
+        KeptEnd::Written(KeptWritten::TooLarge) => Saying::on_both(lines, keep_large_line(), 6),
+        KeptEnd::Written(KeptWritten::Fault) | KeptEnd::Fault => {
+            Saying::on_both(lines, file_line(), 6)
+        }
+        KeptEnd::Changed => Saying::on_both(lines, keep_changed_line(), 6),
+    }
+}
+
+// The lines of the tasks, in order, of which some may have no answer.
+fn print_recovered(
+    alloc: Global,
+    journal: &Journal,
+    answers: &[Option<Answer>],
+) -> Result<Bytes, NoMemory>
+    requires { length answers.now ≤ 65536 }
+    ensures { IfOk result (λ b. b ≡ recovered_lines journal.now.entries 1 answers.now) }
+{
+    let mut text = Vec::new(alloc);
+    for (n, answer) in answers.iter().enumerate() {
+        let line = recovered_line(alloc, n as u32 + 1, answer, journal)?;
+        text.extend_from_slice(line.view())?;
+    }
+    Ok(Bytes::from_vec(text))
+}
+
+fn recovered_line(
+    alloc: Global,
+    task: u32,
+    answer: &Option<Answer>,
+    journal: &Journal,
+) -> Result<Bytes, NoMemory>
+    ensures { IfOk result (λ b. b ≡ recovered_line journal.now.entries task answer.now) }
+{
+    match answer {
+        Some(answer) => print_answer(alloc, task, answer, journal),
+        None => open_line(alloc, task),
+    }
+}
+
+// The line of a task without an answer.
+fn open_line(alloc: Global, task: u32) -> Result<Bytes, NoMemory>
+    ensures { IfOk result (λ b. b ≡ decimal task ++ (codes " open" ++ 10 ∷ [])) }
+{
+    let text = format!(in alloc; "{task} open\n")?;
+    Ok(Bytes::copy(alloc, text.as_bytes())?)
+}
+
+fn recovered_status(answers: &[Option<Answer>]) -> u8
+    ensures { result ≡ recovered_status answers.now }
+{
+    if are_well_so_far(answers) { 0 } else { 1 }
+}
+
+fn are_well_so_far(answers: &[Option<Answer>]) -> bool
+    ensures { result ≡ list_all is_well_so_far answers.now }
+{
+    answers.iter().all(|answer| is_well_so_far(*answer))
+}
+
+fn is_well_so_far(answer: Option<Answer>) -> bool
+    ensures { result ≡ is_well_so_far answer }
+{
+    match answer {
+        Some(answer) => is_well(answer),
+        None => false,
     }
 }
 

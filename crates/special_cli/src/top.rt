@@ -13,6 +13,7 @@ use crate::info::info;
 use crate::init::init;
 use crate::outside::Outside;
 use crate::ran::Ran;
+use crate::recovery::recover;
 use crate::rehearsal::rehearse_tasks;
 use crate::run::run;
 use crate::telling::tell;
@@ -28,10 +29,10 @@ use std::thread::Threads;
 /// Does all that the program does: reads the words after its name, starts what they ask for, prints what comes of it to
 /// `out` or why there is nothing to `err`, and leaves the status to end with.
 ///
-/// 0: all is well. 1: an answer isn't the one that was hoped for, not all was answered, or a journal isn't legal. 2: the words
-/// aren't in the grammar. 3: the key or a line of the input is refused, or the input is cut. 4: the input couldn't be read.
-/// 5: a write to `out` or `err` failed. 6: the kept file may not be as it is, or couldn't be read or written. 7: no memory was
-/// found.
+/// 0: all is well, or a text that was to be recovered had begun nothing. 1: an answer isn't the one that was hoped for, not all was
+/// answered, or a journal isn't legal. 2: the words aren't in the grammar. 3: the key, or a line of the input or of that text, is
+/// refused, or the input is cut. 4: the input couldn't be read. 5: a write to `out` or `err` failed. 6: the kept file may not be as
+/// it is, or it couldn't be read or written, nor that text be read. 7: no memory was found.
 pub fn special<
     P: Programs,
     K: Desks,
@@ -117,6 +118,7 @@ where
         Some(Command::Init(words)) => init(alloc, words, outside),
         Some(Command::Run(words)) => run(rt, alloc, words, outside, input, clock),
         Some(Command::Audit) => audit(alloc, outside, input),
+        Some(Command::Recover { journal, keep }) => recover(alloc, journal.view(), keep, outside),
         Some(Command::Rehearse { seed, tasks }) => {
             rehearse_tasks(rt, alloc, *seed, *tasks, outside)
         }

@@ -12,7 +12,7 @@ use Rattle.special_cli.specs.Left.{Left}
 use Rattle.special_cli.specs.Tells.{Flow, IsWritten, IsToldOf}
 use Rattle.cli_words.specs.TaskInput.Reads.{HasGiven}
 
-not_zero : {A : Type 0} (w : ℕ) (written : List ℕ) (f : Flow) → (w == 0) ≡ false → IsWritten w written 0 f → A
+pub not_zero : {A : Type 0} (w : ℕ) (written : List ℕ) (f : Flow) → (w == 0) ≡ false → IsWritten w written 0 f → A
 not_zero w written f other (inl whole) = absurd (let bad : true ≡ false = ap (λ (s : ℕ). s == 0) whole.status_is ∙ other in cc)
 not_zero w written f other (inr cut) = absurd (let bad : 0 ≡ 5 = cut.status_is in cc)
 
