@@ -176,7 +176,7 @@ def case_the_report_for_a_reader_has_each_failure_with_its_conversation(room):
     given, env = start(room, "another key", "--only", "check-stored,line-key")
     done = room.run(given, env=env)
     expect((done.status, done.err), (1, ""))
-    require("\nfailed   line-key (breaks the page): `CHECKPRESENT-SUCCESS WORM--other` to `CHECKPRESENT " in done.out, done.out)
+    require("\nfailed   line-key (breaks the protocol): `CHECKPRESENT-SUCCESS WORM--other` to `CHECKPRESENT " in done.out, done.out)
     require("\n    > CHECKPRESENT-SUCCESS WORM--other\n" in done.out, done.out)
     require("  page       The message is `CHECKPRESENT-SUCCESS Key`, and the key is that of the request.\n" in done.out, done.out)
 

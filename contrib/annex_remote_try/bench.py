@@ -9,7 +9,7 @@ from . import excerpts, grammar
 from .registers import Registers
 from .session import Session
 
-RANKS = PAGE, TESTREMOTE, ADVICE = "breaks the page", "git-annex's testremote would fail", "advice"
+RANKS = PAGE, TESTREMOTE, ADVICE = "breaks the protocol", "git-annex's testremote would fail", "advice"
 EXTENSIONS = "INFO GETGITREMOTENAME"
 FAILS = "git-annex reports that the command failed."
 WAITS = "git-annex has no time limit: it waits."

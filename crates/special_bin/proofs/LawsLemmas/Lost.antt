@@ -9,15 +9,13 @@ use Rattle.audit_command.specs.declared.recover.made.RecoverEnd.TheVariants.{Fil
 use Rattle.cli_words.specs.Texts.{file_line}
 use Rattle.special_cli.specs.Recoveries.{end_of_recovery, recovered_in}
 use Rattle.special_cli.specs.Tells.{IsToldOf}
-use Rattle.special_cli.specs.declared.end.End.{End}
-use Rattle.special_cli.specs.declared.end.End.TheVariants.{FileFailed as FileLost}
 use Rattle.special_bin.specs.Laws.Lost.{IsLost, empty_desk, having_made, lost_left, lost_names, nothing_read, took}
 use Rattle.special_bin.proofs.LawsLemmas.AtZero.{not_zero}
 
 -- it is told at status 6
 pub lost_told : IsLost 6 file_line
 lost_told = (
-  FileLost,
+  end_of_recovery FileFailed,
   record {
     end = FileFailed;
     made = inr (inr record {
@@ -67,4 +65,4 @@ lost_unbegun (end, h, unread, told) = go h.made
     go (inr (inl one)) = let bad : empty_desk 0 ∷ empty_desk 1 ∷ [] ≡ one.table ∷ [] = one.tables in cc
     go (inr (inr both)) =
         ends_at_zero both.d h.end (sym both.same ∙ ap (λ (t : DeskTold). t.files) (sym (second both.d.keeper both.d.reader both.tables))) both.ends
-        (subst (λ (x : End). IsToldOf lost_left 0 (took []) (took []) x) h.end_is told)
+        (subst (IsToldOf lost_left 0 (took []) (took [])) h.end_is told)
