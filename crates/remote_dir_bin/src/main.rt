@@ -15,6 +15,7 @@ use ann_os::{OsClock, OsDesk, OsDesks, OsErrors, OsInput, OsOutput};
 use ann_outside::{Clock, Desks};
 use dir_remote::guard::OsPlace;
 use kit_async::BoundedEnd;
+use std::io::BufWriter;
 use std::process::ExitCode;
 use std::rt::Env;
 use std::{env, process};
@@ -96,16 +97,17 @@ fn main(rt: HostRuntime) -> ExitCode {
         Some(Wish::Help) => print(&mut OsOutput::new(rt.stdout()), HELP, 0),
         Some(Wish::Version) => print(&mut OsOutput::new(rt.stdout()), VERSION, 0),
         Some(Wish::Refused) => print(&mut OsErrors::new(rt.stderr()), USAGE, 2),
-        Some(Wish::Serve) => match seats(&rt) {
-            Ok(seats) => {
+        // A line goes out with its end, in one write.
+        Some(Wish::Serve) => match (seats(&rt), BufWriter::new(rt.alloc(), rt.stdout())) {
+            (Ok(seats), Ok(lines)) => {
                 let input = OsInput::new(rt.stdin());
-                let output = OsOutput::new(rt.stdout());
+                let output = OsOutput::new(lines);
                 let end = serve(&rt, rt.alloc(), moment(&rt), seats, input, output);
                 let status = status(&end);
                 drop(end);
                 status
             }
-            Err(NoMemory) => 7,
+            _ => 7,
         },
     };
     ExitCode::from(status)

@@ -5,14 +5,11 @@
 
 mod mirrored;
 
-ghost use Rattle.std.specs.Prelude.{◌≡◌, true};
-
 use ann_os::remote_words::{Wish, print, read_wish};
 use ann_os::{OsErrors, OsInput, OsOutput};
-use ann_outside::Sink;
 use kit_serve::{Served, serve_described};
 use mirrored::Mirrored;
-use std::io::Stdout;
+use std::io::BufWriter;
 use std::process::ExitCode;
 
 const HELP: &[u8] = b"\
@@ -30,12 +27,15 @@ const VERSION: &[u8] = b"annex-remote-mirror 0.1.0\n";
 const USAGE: &[u8] = b"annex-remote-mirror: usage\n";
 
 // Serves the mirror until the host is done, and then stops the programs that it started. The status to end with.
-fn serve_mirror(rt: &HostRuntime, out: &mut OsOutput<Stdout>) -> u8
-    requires { (⟦<OsOutput<Stdout> as Sink>⟧.told out.old).is_open ≡ true }
-{
+fn serve_mirror(rt: &HostRuntime) -> u8 {
+    // A line goes out with its end, in one write.
+    let Ok(lines) = BufWriter::new(rt.alloc(), rt.stdout()) else {
+        return 7;
+    };
     let mut input = OsInput::new(rt.stdin());
+    let mut output = OsOutput::new(lines);
     let mirror = Mirrored::new(rt);
-    let Served { status, remote } = serve_described(rt.alloc(), mirror, &mut input, out);
+    let Served { status, remote } = serve_described(rt.alloc(), mirror, &mut input, &mut output);
     remote.finish();
     status
 }
@@ -47,7 +47,7 @@ fn main(rt: HostRuntime) -> ExitCode {
         Some(Wish::Help) => print(&mut out, HELP, 0),
         Some(Wish::Version) => print(&mut out, VERSION, 0),
         Some(Wish::Refused) => print(&mut OsErrors::new(rt.stderr()), USAGE, 2),
-        Some(Wish::Serve) => serve_mirror(&rt, &mut out),
+        Some(Wish::Serve) => serve_mirror(&rt),
     };
     ExitCode::from(status)
 }

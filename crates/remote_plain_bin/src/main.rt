@@ -13,6 +13,7 @@ use ann_outside::{Programs, Sink, Source, StartError, Started};
 use passing::{Shared, hear_remote, last_status, remote_status, start_hearing};
 use program::named_program;
 use std::alloc::{AllocError, AllocGlobal, Global};
+use std::io::BufWriter;
 use std::marker::Send;
 use std::process::{ExitCode, Processes, SystemProcess};
 use std::sync::Wait;
@@ -106,13 +107,17 @@ fn main(rt: HostRuntime) -> ExitCode {
         Some(Wish::Serve) => match named_program(&rt) {
             Err(AllocError) => 7,
             Ok(None) => print(&mut err, UNNAMED, 2),
-            Ok(Some(program)) => serve(
-                rt,
-                program.as_str(),
-                OsInput::new(rt.stdin()),
-                &mut out,
-                &mut err,
-            ),
+            // A line goes out with its end, in one write.
+            Ok(Some(program)) => match BufWriter::new(rt.alloc(), rt.stdout()) {
+                Ok(lines) => serve(
+                    rt,
+                    program.as_str(),
+                    OsInput::new(rt.stdin()),
+                    &mut OsOutput::new(lines),
+                    &mut err,
+                ),
+                Err(_) => 7,
+            },
         },
     };
     ExitCode::from(status)
