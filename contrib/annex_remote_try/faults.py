@@ -272,7 +272,7 @@ def kill_store(bench):
         session.pump(lambda: answer.outcome is not None, took * (moment + 0.5) / MOMENTS)
         session.kill()
         is_stored = answer.outcome == "success"
-        when = "after a kill right after it" if is_stored else f"after a kill {moment + 1}/{MOMENTS} of the way into a store"
+        when = "after a kill right after it" if is_stored else f"after a kill {100 * (moment + 1) // MOMENTS}% into a store"
         session = ready_after(bench, when)
         if require_whole(bench, session, key, content, when, is_stored) == "absent":
             absent = key
