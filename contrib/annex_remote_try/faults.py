@@ -250,7 +250,7 @@ def kill_get(bench):
         answer = session.begin(f"TRANSFER RETRIEVE {key} {path}")
         session.pump(lambda: answer.outcome is not None, took * (moment + 0.5) / MOMENTS)
         session.kill()
-        when = f"after a kill {moment + 1}/{MOMENTS} into a get"
+        when = f"after a kill {100 * (moment + 1) // MOMENTS}% into a get"
         session = ready_after(bench, when)
         require_whole(bench, session, key, content, when, True)
         again, found = bench.get(session, key, path)
