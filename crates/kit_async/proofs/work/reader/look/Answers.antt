@@ -1,9 +1,16 @@
-use Rattle.kit_async.proofs.WorkLemmas.Groups.{numbered, stands_on}
-use Rattle.kit_async.proofs.WorkLemmas.Readers.{looked, quiet_stop, untold}
+use Rattle.std.proofs.Common.{inl, refl}
+use Rattle.kit_async.proofs.WorkLemmas.Readers.{looked, untold}
 use Rattle.kit_async.proofs.work.reader.look.Goals as goal
 
-pub enter-requires : goal.enter-requires
-enter-requires g c = numbered c.args.hall.now 1 c.args.pass.now c.requires
+pub returns-in-Some-Broken-clause-heard : goal.returns-in-Some-Broken-clause-heard
+returns-in-Some-Broken-clause-heard g c = λ held. looked c.args.hall.now c.args.pass.now c.enter.new.pass _ held c.requires c.enter.ensures.stands c.in-Some-Broken.ensures.some
 
-pub stop_for-requires : goal.stop_for-requires
-stop_for-requires g c = numbered c.args.hall.now 1 c.enter.new.pass (stands_on c.args.hall.now 1 c.args.pass.now c.enter.new.pass c.requires c.enter.ensures.stands)
+pub returns-in-Some : goal.returns-in-Some
+returns-in-Some g c = record {
+  heard = λ held. looked c.args.hall.now c.args.pass.now c.enter.new.pass _ held c.requires c.enter.ensures.stands c.in-Some.ensures.some;
+  quiet = inl refl;
+}
+
+pub returns-clause-heard : goal.returns-clause-heard
+returns-clause-heard g c = λ held.
+    untold c.args.hall.now c.args.pass.now c.enter.new.pass c.stop_for.new.pass held c.requires c.in-None.ensures.none c.stop_for.ensures.stands c.stop_for.ensures.broken
