@@ -64,7 +64,7 @@ def a_run_that_is_refused_an_allocation_says_so_unless_others_do_its_tasks(room,
 # How many requests a host of `annex-remote-dir` has open at once, and how many allocations are refused, each in its turn. A kit that is
 # broken off ends within so many seconds.
 AT_ONCE = 16
-REFUSALS = 200
+REFUSALS = 400
 SOON = 2
 
 
