@@ -1,14 +1,17 @@
 """Runs of which one allocation is refused, each in its turn, and the order in which a child's pipes are closed.
 
-Both need a library that is preloaded, built by `cc`.
+All need a library that is preloaded, built by `cc`.
 """
 
+import contextlib
 import itertools
 import os
 import re
+import select
 from concurrent.futures import ThreadPoolExecutor
 
-from harness import SPECIAL, TOP, UUID, expect, limits, preloaded, require, run, table
+from harness import ANNEX_REMOTE_DIR, SPECIAL, TOP, UUID, as_bytes, expect, limits, preloaded, require, run, start, table
+from kits import signed
 
 TASKS = "check WORM-s1--a\ncheck WORM-s1--b\n"
 
@@ -56,6 +59,52 @@ def a_run_that_is_refused_an_allocation_says_so_unless_others_do_its_tasks(room,
                 break
     require(refused > 100, f"only {refused} allocations were refused")
     require(well < refused // 8, f"{well} of {refused} runs went well")
+
+
+# How many requests a host of `annex-remote-dir` has open at once, and how many allocations are refused, each in its turn. A kit that is
+# broken off ends within so many seconds.
+AT_ONCE = 16
+REFUSALS = 400
+SOON = 2
+
+
+def host_that_waits(kit, lines, answers):
+    """What becomes of a kit whose host says all this at once, and ends its input only where so many requests are answered: its status, and
+    how many were. One that is silent for too long is killed."""
+    with contextlib.suppress(BrokenPipeError):
+        kit.stdin.write(as_bytes(lines))
+        kit.stdin.flush()
+    said = b""
+    while True:
+        if not select.select([kit.stdout], [], [], SOON)[0]:
+            kit.kill()
+        piece = os.read(kit.stdout.fileno(), 65536)
+        if not piece:
+            return kit.wait(), said.count(b" TRANSFER-")
+        said += piece
+        if said.count(b" TRANSFER-") == answers:
+            kit.stdin.close()
+
+
+@limits(seconds=120)
+def case_a_kit_that_is_refused_an_allocation_ends_though_its_host_waits(room):
+    """Its threads end where one of them finds no memory, also the one that reads: the host neither writes nor ends its input."""
+    refusing = preloaded(room, "tools/refuse.c")
+    file = room.write("f", "x")
+
+    def outcome(number):
+        folder, refused = signed(room.mkdir(f"d{number}")), room.path(f"refused-{number}")
+        kit = start([ANNEX_REMOTE_DIR], {"LD_PRELOAD": refusing, "REFUSE_AT": number, "REFUSED": refused, "ANNEX_REMOTE_DIR_SYNC": "0"})
+        stores = "".join(f"J {tag} TRANSFER STORE WORM--{tag} {file}\n" for tag in range(2, 2 + AT_ONCE))
+        came = host_that_waits(kit, f"EXTENSIONS ASYNC\nJ 1 PREPARE\nJ 1 VALUE {folder}\n{stores}", AT_ONCE)
+        return came if os.path.exists(refused) else None
+
+    with ThreadPoolExecutor(4) as pool:
+        outcomes = list(pool.map(outcome, range(1, REFUSALS + 1)))
+    for number, came in enumerate(outcomes, 1):
+        require(came, f"only {number - 1} allocations were refused")
+        status, answered = came
+        require(status == 7 or (status, answered) == (0, AT_ONCE), f"allocation {number} was refused\nstatus: {status}\nanswers: {answered}")
 
 
 # Tells in a file whether its output was still read when its input had ended.

@@ -10,6 +10,7 @@ mod lent;
 mod played;
 mod roles;
 mod serving;
+mod timed;
 mod why;
 pub mod work;
 
@@ -17,6 +18,7 @@ pub use journal::{GoneJournal, KitJournal};
 pub use lent::KitEntry;
 pub use serving::{
     AsyncEnd, BoundedEnd, serve_async, serve_async_bounded, serve_async_described,
-    serve_async_described_bounded, serve_async_some,
+    serve_async_described_bounded, serve_async_described_timed, serve_async_some,
 };
+pub use timed::{Timed, Untimed};
 pub use why::Why;

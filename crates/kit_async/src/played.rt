@@ -14,6 +14,7 @@ ghost use Rattle.kit_async.specs.Turns.{ReaderCan, ReaderRuns, WorkerGoes, Write
 use crate::alone::serve_alone;
 use crate::dealt::{Site, deal, take_back};
 use crate::roles::{Reader, Worker, Writer};
+use crate::timed::Timed;
 use crate::work::Why;
 use ann_outside::{Sink, Source};
 use kit_async_core::KitCore;
@@ -152,7 +153,7 @@ fn serve_unless<'a, K: Remote, S: Source, W: Sink, R: Wait>(
 fn run_in_threads<
     'a,
     K: Remote + Send + Drop,
-    S: Source + Send + Drop,
+    S: Timed + Send + Drop,
     W: Sink + Send + Drop,
     R: Threads + Wait + Sync,
 >(
@@ -191,7 +192,7 @@ fn run_in_threads<
 fn run<
     'a,
     K: Remote + Send + Drop,
-    S: Source + Send + Drop,
+    S: Timed + Send + Drop,
     W: Sink + Send + Drop,
     R: Threads + Wait + Sync,
 >(
@@ -273,7 +274,7 @@ fn gather<'a, K: Remote + Drop, S: Source + Drop, W: Sink + Drop, R: Wait>(
 /// Runs the roles of a kit, in as many threads as `most` at most. Without memory for them nobody does anything.
 pub(crate) fn play<
     K: Remote + Send + Drop,
-    S: Source + Send + Drop,
+    S: Timed + Send + Drop,
     W: Sink + Send + Drop,
     R: Threads + Wait + Sync,
 >(site: &Site<'_, R>, most: usize, kit: Kit<K, S, W>) -> (Kit<K, S, W>, RoleEnds)

@@ -2,6 +2,7 @@
 ghost use Rattle.std.specs.Prelude.{◌≡◌, bytes_eq, codes, take};
 ghost use Rattle.kit_async.specs.Turns.{is_tagged, is_transfer};
 
+use crate::timed::Timed;
 use crate::work::{Turn, Why, listen, read_turn, speak, toil, work_turn, write_turn};
 use ann_outside::{Sink, Source};
 use kit_async_core::KitCore;
@@ -49,7 +50,7 @@ pub(crate) struct Reader<'a, S: Source, R: Wait> {
     pub(crate) why: Option<Why>,
 }
 
-impl<'a, S: Source, R: Wait> Role for Reader<'a, S, R> {
+impl<'a, S: Timed, R: Wait> Role for Reader<'a, S, R> {
     ghost use Rattle.kit_async.specs.Turns.{ReaderCan, ReaderRuns};
 
     ghost can_run = { ReaderCan S.told };

@@ -11,6 +11,7 @@ ghost use Rattle.kit_async.specs.Served.{HasCauses, Serves, described_setup, jou
 use crate::dealt::Site;
 use crate::journal::{GoneJournal, KitJournal};
 use crate::played::{Kit, RoleEnds, play};
+use crate::timed::{Timed, Untimed};
 use crate::why::Why;
 use crate::work::Why as RoleWhy;
 use ann_key::NoMemory;
@@ -96,6 +97,26 @@ fn gone<K: Drop, S, W>(stopped: Stopped<K, S, W>) -> BoundedEnd<K, S, W>
         source,
         sink,
         journal: GoneJournal::new(log, why),
+    }
+}
+
+// The source itself, where it was served as one that isn't asked whether a read would wait.
+fn untimed<K: Drop, S, W>(stopped: Stopped<K, Untimed<S>, W>) -> Stopped<K, S, W>
+    ensures { result ≡ record { remotes = stopped.remotes; source = stopped.source.source; sink = stopped.sink; log = stopped.log; why = stopped.why } }
+{
+    let Stopped {
+        remotes,
+        source: Untimed { source },
+        sink,
+        log,
+        why,
+    } = stopped;
+    Stopped {
+        remotes,
+        source,
+        sink,
+        log,
+        why,
     }
 }
 
@@ -227,7 +248,7 @@ fn end<K: Remote + Drop, S: Source, W: Sink>(
 // Serves the remotes by that setup, with no more threads than `most` tried.
 fn serve_over<
     K: Remote + Send + Drop,
-    S: Source + Send + Drop,
+    S: Timed + Send + Drop,
     W: Sink + Send + Drop,
     R: Threads + Wait + Sync,
 >(
@@ -289,7 +310,8 @@ pub fn serve_async_some<
     let Ok(setup) = setup(alloc, true, &remotes) else {
         return in_hand(unserved(alloc, true, remotes, source, sink));
     };
-    in_hand(serve_over(rt, alloc, most, setup, remotes, source, sink))
+    let source = Untimed { source };
+    in_hand(untimed(serve_over(rt, alloc, most, setup, remotes, source, sink)))
 }
 
 /// Serves the remotes, 1 to 64, to the host behind the source and the sink until one of them ends it, and hands all back.
@@ -337,7 +359,8 @@ pub fn serve_async_described<
     let Ok(setup) = described_setup(alloc, true, &remotes, facts) else {
         return in_hand(unserved(alloc, true, remotes, source, sink));
     };
-    in_hand(serve_over(rt, alloc, usize::MAX, setup, remotes, source, sink))
+    let source = Untimed { source };
+    in_hand(untimed(serve_over(rt, alloc, usize::MAX, setup, remotes, source, sink)))
 }
 
 /// The same as [`serve_async`], without the journal in hand.
@@ -360,13 +383,46 @@ pub fn serve_async_bounded<
     let Ok(setup) = setup(alloc, false, &remotes) else {
         return gone(unserved(alloc, false, remotes, source, sink));
     };
-    gone(serve_over(rt, alloc, usize::MAX, setup, remotes, source, sink))
+    let source = Untimed { source };
+    gone(untimed(serve_over(rt, alloc, usize::MAX, setup, remotes, source, sink)))
 }
 
 /// The same as [`serve_async_described`], without the journal in hand.
 pub fn serve_async_described_bounded<
     K: Remote + Describe + Send + Drop,
     S: Source + Send + Drop,
+    W: Sink + Send + Drop,
+    R: Threads + Wait + Sync,
+>(
+    rt: &R,
+    alloc: Global,
+    remotes: Vec<K>,
+    facts: Vec<Fact>,
+    source: S,
+    sink: W,
+) -> BoundedEnd<K, S, W>
+    requires remotes { (0 < vec_len remotes) × (vec_len remotes ≤ 64) }
+    requires open { ((S.told source).is_open ≡ true) × ((W.told sink).is_open ≡ true) }
+    ensures serves { Serves (described_setup false K.settings K.description facts.items remotes.items)
+        (tells_by (S.told source) (W.told sink) (map K.calls remotes.items))
+        (tells_by (S.told result.source) (W.told result.sink) (map K.calls result.remotes.items)) result.journal }
+    ensures status { result.status ≡ status_of result.journal.why }
+    ensures causes { HasCauses result.journal.why (S.told source) (S.told result.source) (W.told sink) (W.told result.sink) }
+    ensures open { ((S.told result.source).is_open ≡ true) × ((W.told result.sink).is_open ≡ true) }
+    ensures settings { map K.settings result.remotes.items ≡ map K.settings remotes.items }
+{
+    let Ok(setup) = described_setup(alloc, false, &remotes, facts) else {
+        return gone(unserved(alloc, false, remotes, source, sink));
+    };
+    let source = Untimed { source };
+    gone(untimed(serve_over(rt, alloc, usize::MAX, setup, remotes, source, sink)))
+}
+
+/// The same as [`serve_async_described_bounded`], over a source that says whether a read would wait. Where no memory is found, or a write
+/// fails, the kit ends soon also while the host writes nothing, since its threads wait for the host no longer than the source says.
+pub fn serve_async_described_timed<
+    K: Remote + Describe + Send + Drop,
+    S: Timed + Send + Drop,
     W: Sink + Send + Drop,
     R: Threads + Wait + Sync,
 >(

@@ -4,14 +4,16 @@
 
 mod following;
 mod laws;
+mod polled;
 mod serving;
 
 ghost use Rattle.std.specs.Prelude.{◌≡◌, vec_len, IfOk};
 
+use crate::polled::PolledInput;
 use crate::serving::{Moment, Seat, serve};
 use ann_key::NoMemory;
 use ann_os::remote_words::{Wish, print, read_wish};
-use ann_os::{OsClock, OsDesk, OsDesks, OsErrors, OsInput, OsOutput};
+use ann_os::{OsClock, OsDesk, OsDesks, OsErrors, OsOutput};
 use ann_outside::{Clock, Desks};
 use dir_remote::guard::OsPlace;
 use kit_async::BoundedEnd;
@@ -100,7 +102,7 @@ fn main(rt: HostRuntime) -> ExitCode {
         // A line goes out with its end, in one write.
         Some(Wish::Serve) => match (seats(&rt), BufWriter::new(rt.alloc(), rt.stdout())) {
             (Ok(seats), Ok(lines)) => {
-                let input = OsInput::new(rt.stdin());
+                let input = PolledInput::new(rt.stdin());
                 let output = OsOutput::new(lines);
                 let end = serve(&rt, rt.alloc(), moment(&rt), seats, input, output);
                 let status = status(&end);

@@ -8,10 +8,10 @@ ghost use Rattle.remote_dir_bin.specs.Serving.{facts, mark_of, remote_over, remo
 
 use crate::following::{Followed, follow};
 use ann_key::{Bytes, NoMemory, Text};
-use ann_outside::{Desk, Sink, Source};
+use ann_outside::{Desk, Sink};
 use dir_remote::guard::{Guarded, Place};
 use dir_remote::is_mark;
-use kit_async::{BoundedEnd, serve_async_described_bounded};
+use kit_async::{BoundedEnd, Timed, serve_async_described_timed};
 use kit_async_model::Fact;
 use kit_serve::kit::{Describe, Remote};
 use std::alloc::Global;
@@ -104,7 +104,7 @@ fn facts(alloc: Global) -> Result<Vec<Fact>, NoMemory>
 pub fn serve<
     P: Place + Send + Drop,
     D: Desk + Send + Drop,
-    S: Source + Send + Drop,
+    S: Timed + Send + Drop,
     W: Sink + Send + Drop,
     R: Threads + Wait + Sync,
 >(
@@ -128,7 +128,7 @@ pub fn serve<
 {
     let remotes = remotes(alloc, moment, seats)?;
     let facts = facts(alloc)?;
-    let end = serve_async_described_bounded(rt, alloc, remotes, facts, source, sink);
+    let end = serve_async_described_timed(rt, alloc, remotes, facts, source, sink);
     follow(end.remotes.as_slice());
     Ok(end)
 }

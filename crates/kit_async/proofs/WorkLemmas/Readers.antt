@@ -17,7 +17,7 @@ use Rattle.kit_serve.specs.declared.end.End.TheVariants.{Eof as EndEof, ReadFaul
 use Rattle.kit_serve.proofs.Talks.{leaves_as, leaves_both}
 use Rattle.kit_async_model.specs.declared.entry.Entry.{Entry}
 use Rattle.kit_async_model.specs.declared.event.Event.{Event}
-use Rattle.kit_async_model.specs.declared.event.Event.TheVariants.{Hear, Close as Deafen, Break}
+use Rattle.kit_async_model.specs.declared.event.Event.TheVariants.{Hear, Take as TakeUp, Close as Deafen, Break}
 use Rattle.kit_async_model.specs.declared.event.Reply.{Reply}
 use Rattle.kit_async_model.specs.declared.event.Reply.TheVariants.{Done, Last, Wait, Over, Odd, Unsaid, Broken, Work, Line}
 use Rattle.kit_async_model.specs.Lines.{heard_lines, hears}
@@ -82,6 +82,10 @@ broken h p q held s t e = silent h p q Break e.0 held s t e.1 refl
 
 pub closed : (h : KitHall) (p q : KitPass) (reply : Reply) (held : List ℕ) → Stands h 1 p → Stands h p.number q → Enters h p q Deafen reply → Hears h p q held held
 closed h p q reply held s t e = silent h p q Deafen reply held s t e refl
+
+-- it looked whether the kit is broken off, by an event that is another's
+pub looked : (h : KitHall) (p q : KitPass) (reply : Reply) (held : List ℕ) → Stands h 1 p → Stands h p.number q → Enters h p q TakeUp reply → Hears h p q held held
+looked h p q reply held s t e = silent h p q TakeUp reply held s t e refl
 
 -- the first line was told
 pub told : (h : KitHall) (p q : KitPass) (reply : Reply) (line held held' : List ℕ) (taken : Bool) → Stands h 1 p → Stands h p.number q → Enters h p q (Hear line) reply

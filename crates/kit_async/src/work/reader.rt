@@ -7,6 +7,7 @@ ghost use Rattle.kit_async.specs.Work.Passes.{Stands, why_of};
 ghost use Rattle.kit_async.specs.declared.work.turn.Turn.TheVariants.{Over};
 ghost use Rattle.kit_async.specs.Work.Reading.{Hears, IsFirst, IsQuiet, ReaderRan, ear_of, is_taken, why_ended};
 
+use crate::timed::Timed;
 use crate::work::turn::{Turn, enter, stop_for};
 use crate::work::why::Why;
 use ann_key::{Bytes, NoMemory};
@@ -173,8 +174,54 @@ pub fn read_turn<S: Source, R: Wait>(
     }
 }
 
-/// Takes turns until there is nothing more to hear, and tells why, where it ended by itself.
-pub fn listen<S: Source, R: Wait>(
+// Whether nothing is held that could be told, and nothing has come that could be read.
+fn would_wait<S: Timed>(source: &mut S, splitter: &Splitter) -> bool
+    requires { (S.told source.old).is_open ≡ true }
+    ensures { S.told source.new ≡ S.told source.old }
+{
+    matches!(splitter.first(), Next::More) && !source.has_come()
+}
+
+// Where nothing has come: whether anything would still be heard. A kit that is broken off hears nothing more, but a host that waits
+// for its answers neither writes nor ends its input, so a read would wait for ever.
+fn look<R: Wait>(rt: &R, hall: &Hall<KitCore>, pass: &mut Pass<KitCore>) -> Turn
+    requires { Stands hall.now 1 pass.old }
+    ensures heard { (held : List ℕ) → Hears hall.now pass.old pass.new held held }
+    ensures quiet { IsQuiet (why_of result) }
+{
+    // No remote has the reader's number: nothing is taken up, and the answer says only whether the kit is broken off.
+    match enter(rt, hall, pass, Event::Take) {
+        Some(Reply::Broken) => Turn::Over(None),
+        Some(_) => Turn::Went,
+        None => stop_for(rt, hall, pass, Why::Memory),
+    }
+}
+
+// The same as `read_turn`, but nothing is read where a read would wait.
+fn timed_turn<S: Timed, R: Wait>(
+    rt: &R,
+    alloc: Global,
+    hall: &Hall<KitCore>,
+    pass: &mut Pass<KitCore>,
+    source: &mut S,
+    splitter: &mut Splitter,
+) -> Turn
+    requires stands { Stands hall.now 1 pass.old }
+    requires open { (S.told source.old).is_open ≡ true }
+    requires limit { splitter.old.limit ≡ longest_line }
+    ensures ran { ReaderRan hall.now pass.old pass.new (ear_of (S.told source.old) splitter.old.bytes) (ear_of (S.told source.new) splitter.new.bytes) (why_of result) }
+    ensures limit { splitter.new.limit ≡ longest_line }
+{
+    if would_wait(source, splitter) {
+        look(rt, hall, pass)
+    } else {
+        read_turn(rt, alloc, hall, pass, source, splitter)
+    }
+}
+
+/// Takes turns until there is nothing more to hear, and tells why, where it ended by itself. It reads only where a read would not wait,
+/// as the source says, and else looks whether the kit is broken off.
+pub fn listen<S: Timed, R: Wait>(
     rt: &R,
     alloc: Global,
     hall: &Hall<KitCore>,
@@ -189,7 +236,7 @@ pub fn listen<S: Source, R: Wait>(
     ensures limit { splitter.new.limit ≡ longest_line }
 {
     for _ in rt.forever() {
-        match read_turn(rt, alloc, hall, pass, source, splitter) {
+        match timed_turn(rt, alloc, hall, pass, source, splitter) {
             Turn::Went => {}
             Turn::Rests => hall.rest(rt, pass),
             Turn::Over(why) => return why,

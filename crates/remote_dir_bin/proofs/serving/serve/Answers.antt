@@ -4,7 +4,7 @@ use Rattle.remote_dir_bin.specs.Following.{Follows}
 use Rattle.remote_dir_bin.proofs.serving.serve.Goals as goal
 
 pub returns-clause-serves : goal.returns-clause-serves
-returns-clause-serves g c = rw (← c.in_ok-remotes.ensures.remotes, ← c.in_ok-facts.ensures) c.serve_async_described_bounded-end.ensures.serves
+returns-clause-serves g c = rw (← c.in_ok-remotes.ensures.remotes, ← c.in_ok-facts.ensures) c.serve_async_described_timed-end.ensures.serves
 
 pub returns-clause-followed : goal.returns-clause-followed
 returns-clause-followed g c =

@@ -4,11 +4,11 @@ use Rattle.kit_async.proofs.work.reader.listen.Goals as goal
 pub loop-init : goal.loop-init
 loop-init g c = record { can = tt; finite = tt; limit = c.requires.limit; ran = ran_none _ _ _ c.requires.stands c.requires.open }
 
-pub read_turn-requires-clause-stands : goal.read_turn-requires-clause-stands
-read_turn-requires-clause-stands g c = c.loop.invariant.ran.stands
+pub timed_turn-requires-clause-stands : goal.timed_turn-requires-clause-stands
+timed_turn-requires-clause-stands g c = c.loop.invariant.ran.stands
 
-pub read_turn-requires-clause-open : goal.read_turn-requires-clause-open
-read_turn-requires-clause-open g c = c.loop.invariant.ran.source.opened
+pub timed_turn-requires-clause-open : goal.timed_turn-requires-clause-open
+timed_turn-requires-clause-open g c = c.loop.invariant.ran.source.opened
 
 pub rest-requires : goal.rest-requires
 rest-requires g c = c.in-Rests.ensures.ran.stands.pass
